@@ -1,0 +1,35 @@
+-- Every answer as document 01 has it: what the call gives, or the number of a refusal with the cell or position that it carries.
+use Prim.Native.Nat.{ℕ}
+use lib.Ieee.{Float}
+use Rattle.answers.specs.declared.Refusal.{Refusal}
+use Rattle.answers.specs.declared.Refusal.the-variants.{Side, ReducedSide, Length, Setting, Height, Receiver, List, Stream, Cells, Stopped, RunOff}
+use Rattle.answers.specs.declared.Answer.{Answer}
+use Rattle.answers.specs.declared.Value.{Value}
+
+-- What a call with results in A ends with: `gives` a result; `refused` by a number alone; `refusedAt` by a number that carries a place.
+pub data Outcome (A : Type 0) : Type 0 where
+  gives : A → Outcome A
+  refused : ℕ → Outcome A
+  refusedAt : ℕ → ℕ → Outcome A
+
+-- document 01, 'Refused for the input' (1 to 9) and 'Refused for the state' (21, 22)
+abbrev pub refusalOf : {A : Type 0} → Refusal → Outcome A
+refusalOf Side = refused 1
+refusalOf ReducedSide = refused 2
+refusalOf Length = refused 3
+refusalOf Setting = refused 4
+refusalOf (Height c) = refusedAt 5 c
+refusalOf (Receiver c) = refusedAt 6 c
+refusalOf (List p) = refusedAt 7 p
+refusalOf Stream = refused 8
+refusalOf Cells = refused 9
+refusalOf Stopped = refused 21
+refusalOf RunOff = refused 22
+
+abbrev pub answerOf : Answer → Outcome (Unit {0})
+answerOf Answer.Done = gives tt
+answerOf (Answer.Refused r) = refusalOf r
+
+abbrev pub valueOf : Value → Outcome Float
+valueOf (Value.Given x) = gives x
+valueOf (Value.Refused r) = refusalOf r

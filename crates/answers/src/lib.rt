@@ -1,0 +1,29 @@
+// What every public call answers: a value, or one of document 01's refusals. No function stands here; specs/Outcome.antt
+// gives each case the paper's number and the values that it carries.
+
+// A refusal. Those that name a place carry it: the first bad cell, or the first bad position of a list.
+pub enum Refusal {
+    Side,
+    ReducedSide,
+    Length,
+    Setting,
+    Height(usize),
+    Receiver(usize),
+    List(usize),
+    Stream,
+    Cells,
+    Stopped,
+    RunOff,
+}
+
+// The answer of a call that gives no value of its own.
+pub enum Answer {
+    Done,
+    Refused(Refusal),
+}
+
+// The answer of a call that gives one float.
+pub enum Value {
+    Given(f32),
+    Refused(Refusal),
+}
