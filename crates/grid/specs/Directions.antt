@@ -1,0 +1,43 @@
+-- Document 01, 'Directions': the eight neighbours are scanned NW, N, NE, W, E, SW, S, SE, as entries 1 to 8 of the source's tables have them.
+use Prim.Native.Nat.{ℕ, suc, _+_, _-_, _*_, _≤_, _<_}
+use mathlib.Core.Path.{_≡_}
+use mathlib.Core.Bool.{_&&_, cond}
+use mathlib.Core.List.{List, [], _∷_}
+use lib.IntN.{ℤ, pos, negsuc}
+use lib.ListN.{getD}
+use lib.Dec.{ltb}
+use Rattle.grid.specs.Sides.{columnOf, rowOf}
+
+abbrev pub dirX : List ℤ
+dirX = pos 0 ∷ negsuc 0 ∷ pos 0 ∷ pos 1 ∷ negsuc 0 ∷ pos 1 ∷ negsuc 0 ∷ pos 0 ∷ pos 1 ∷ []
+
+abbrev pub dirY : List ℤ
+dirY = pos 0 ∷ negsuc 0 ∷ negsuc 0 ∷ negsuc 0 ∷ pos 0 ∷ pos 0 ∷ pos 1 ∷ pos 1 ∷ pos 1 ∷ []
+
+-- x moved by d, or the side itself where that leaves 0 … side - 1
+abbrev pub shiftedOf : ℕ → ℤ → ℕ → ℕ
+shiftedOf x (pos k) side = cond (ltb (x + k) side) (x + k) side
+shiftedOf x (negsuc k) side = cond (ltb k x) (x - suc k) side
+
+-- the neighbour of column x, row y in direction d; outside the grid it is w × h, the number of no cell
+unfoldable pub neighbourOf : ℕ → ℕ → ℕ → ℕ → ℕ → ℕ
+neighbourOf w h x y d =
+    let nx = shiftedOf x (getD dirX d (pos 0)) w in
+    let ny = shiftedOf y (getD dirY d (pos 0)) h in
+    cond (ltb nx w && ltb ny h) (nx + ny * w) (w * h)
+
+abbrev pub neighbourAt : ℕ → ℕ → ℕ → ℕ → ℕ
+neighbourAt w h c d = neighbourOf w h (columnOf w c) (rowOf w c) d
+
+-- b is a neighbour of a: one of the directions 1 to 8 leads from a to b
+pub record Adjacent (w h a b : ℕ) : Type 0 where
+  pub direction : ℕ
+  pub first : 1 ≤ direction
+  pub last : direction ≤ 8
+  pub inside : b < w * h
+  pub leads : neighbourAt w h a direction ≡ b
+
+-- b is reached from a by steps to neighbours
+pub data Reaches (w h : ℕ) : ℕ → ℕ → Type 0 where
+  here : {a : ℕ} → Reaches w h a a
+  step : {a b c : ℕ} → Adjacent w h a b → Reaches w h b c → Reaches w h a c
