@@ -1,6 +1,7 @@
 -- Every answer as document 01 has it: what the call gives, or the number of a refusal with the cell or position that it carries.
 use Prim.Native.Nat.{ℕ}
-use lib.Ieee.{Float}
+use mathlib.Core.Bool.{Bool, not, _&&_}
+use lib.Ieee.{Float, le}
 use Rattle.answers.specs.declared.Refusal.{Refusal}
 use Rattle.answers.specs.declared.Refusal.the-variants.{Side, ReducedSide, Length, Setting, Height, Receiver, List, Stream, Cells, Stopped, RunOff}
 use Rattle.answers.specs.declared.Answer.{Answer}
@@ -33,3 +34,7 @@ answerOf (Answer.Refused r) = refusalOf r
 abbrev pub valueOf : Value → Outcome Float
 valueOf (Value.Given x) = gives x
 valueOf (Value.Refused r) = refusalOf r
+
+-- x lies outside lo to hi; a NaN lies in no range
+abbrev pub outsideOf : Float → Float → Float → Bool
+outsideOf x lo hi = not (le lo x && le x hi)

@@ -1,0 +1,3 @@
+-- Stop marks, the extent of a map, and its normalisation.
+pub mod Marks
+pub mod Extents

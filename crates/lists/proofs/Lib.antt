@@ -1,0 +1,3 @@
+-- Laws of the definitions in specs/Loops.antt.
+pub mod TurnLaws
+pub mod TableLaws

@@ -1,0 +1,2 @@
+-- What loops compute, said once for all of them.
+pub mod Loops

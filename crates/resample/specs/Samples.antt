@@ -1,0 +1,87 @@
+-- `bilinear` and `add_upsampled`.
+use Prim.Native.Nat.{ℕ, _+_, _-_, _*_, _/_, _%_}
+use mathlib.Core.Bool.{Bool, not, _&&_, _||_, cond}
+use mathlib.Core.List.{List}
+use lib.ListN.{length, getD}
+use lib.Dec.{eqb, ltb}
+use lib.Ieee.{Float, nan, binary32, ofBits, add, sub, mul, div, lt, le}
+use lib.Ieee.Scale.{finite}
+use Rattle.answers.specs.Outcome.{Outcome, gives, refused, refusedAt}
+use Rattle.floats.specs.Stand.{maxOf, fractOf, indexOf}
+use Rattle.lists.specs.Loops.{tabulate}
+use Rattle.grid.specs.Sides.{badSides}
+use Rattle.grid.specs.Heights.{firstNotFinite, allFinite}
+use Rattle.resample.specs.WorkSize.{float}
+use Rattle.resample.specs.Blocks.{badReduced}
+
+-- How a sample past the far edge is taken. `asSource`: the south-east sample is the north-west one as soon as either far edge is reached; the
+-- north-east one is it at the east edge, the south-west one at the south edge.
+pub data FarEdge : Type 0 where
+  asSource : FarEdge
+
+-- the cell of each of the four samples around column x, row y
+abbrev pub northEast : FarEdge → ℕ → ℕ → ℕ → ℕ → ℕ
+northEast asSource w h x y = cond (ltb x (w - 1)) (x + 1 + y * w) (x + y * w)
+
+abbrev pub southWest : FarEdge → ℕ → ℕ → ℕ → ℕ → ℕ
+southWest asSource w h x y = cond (ltb y (h - 1)) (x + (y + 1) * w) (x + y * w)
+
+abbrev pub southEast : FarEdge → ℕ → ℕ → ℕ → ℕ → ℕ
+southEast asSource w h x y = cond (ltb x (w - 1) && ltb y (h - 1)) (x + 1 + (y + 1) * w) (x + y * w)
+
+-- (1 - d) × a + d × b
+abbrev pub between : Float → Float → Float → Float
+between d a b = add binary32 (mul binary32 (sub binary32 (ofBits binary32 0x3f80_0000) d) a) (mul binary32 d b)
+
+-- the sample at column x, row y, both in cells
+unfoldable pub bilinearOf : FarEdge → List Float → ℕ → ℕ → Float → Float → Float
+bilinearOf kind v w h x y =
+    let ix = indexOf w x in
+    let iy = indexOf h y in
+    let nw = getD v (ix + iy * w) nan in
+    let ne = getD v (northEast kind w h ix iy) nan in
+    let sw = getD v (southWest kind w h ix iy) nan in
+    let se = getD v (southEast kind w h ix iy) nan in
+    between (fractOf y) (between (fractOf x) nw ne) (between (fractOf x) sw se)
+
+-- a sample coordinate: from 0 to below its side
+abbrev pub badCoordinate : Float → ℕ → Bool
+badCoordinate x side = not (le (ofBits binary32 0) x && lt x (float side))
+
+-- 1: a side; 3: the length; 4: a coordinate; 5: a value not finite; then 22: the sample not finite
+abbrev pub bilinearAnswer : List Float → Float → Float → ℕ → ℕ → Outcome Float
+bilinearAnswer v x y w h =
+    cond (badSides w h) (refused 1)
+    (cond (not (eqb (length v) (w * h))) (refused 3)
+    (cond (badCoordinate x w || badCoordinate y h) (refused 4)
+    (cond (allFinite v) (cond (finite (bilinearOf asSource v w h x y)) (gives (bilinearOf asSource v w h x y)) (refused 22)) (refusedAt 5 (firstNotFinite v)))))
+
+-- where the centre of column (or row) x of a side lies on the reduced one: max((x + 0.5) × (reduced / side) - 0.5, 0)
+abbrev pub centreOf : ℕ → ℕ → ℕ → Float
+centreOf side reduced x =
+    maxOf
+    (sub binary32 (mul binary32 (add binary32 (float x) (ofBits binary32 0x3f00_0000)) (div binary32 (float reduced) (float side))) (ofBits binary32 0x3f00_0000))
+    (ofBits binary32 0)
+
+-- the map with the reduced grid `delta`, upsampled on cell centres, added to it
+unfoldable pub addedOf : FarEdge → List Float → ℕ → ℕ → List Float → ℕ → ℕ → List Float
+unfolding bilinearOf tabulate
+addedOf kind map w h delta rw rh =
+    tabulate (w * h) (λ c. add binary32 (getD map c nan) (bilinearOf kind delta rw rh (centreOf w rw (c % w)) (centreOf h rh (c / w))))
+
+-- 1, 2, 3, 5 (the full grid first), else `then`
+abbrev pub addRefusal : {A : Type 0} → List Float → ℕ → ℕ → List Float → ℕ → ℕ → (ℕ → A) → (ℕ → ℕ → A) → A → A
+addRefusal map w h delta rw rh no at then =
+    cond (badSides w h) (no 1)
+    (cond (badReduced rw w || badReduced rh h) (no 2)
+    (cond (not (eqb (length map) (w * h)) || not (eqb (length delta) (rw * rh))) (no 3)
+    (cond (allFinite map) (cond (allFinite delta) then (at 5 (firstNotFinite delta))) (at 5 (firstNotFinite map)))))
+
+abbrev pub addAnswer : List Float → ℕ → ℕ → List Float → ℕ → ℕ → Outcome (Unit {0})
+addAnswer map w h delta rw rh =
+    addRefusal map w h delta rw rh refused refusedAt (cond (allFinite (addedOf asSource map w h delta rw rh)) (gives tt) (refused 22))
+
+-- what the map holds at the end: the sum, or on any refusal what it held
+abbrev pub addHeights : List Float → ℕ → ℕ → List Float → ℕ → ℕ → List Float
+addHeights map w h delta rw rh =
+    addRefusal map w h delta rw rh (λ n. map) (λ n c. map) (cond (allFinite (addedOf asSource map w h delta rw rh)) (addedOf asSource map w h delta rw rh) map)

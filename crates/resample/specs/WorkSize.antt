@@ -1,0 +1,33 @@
+-- The working grid of a map: the map's own sides where the longest fits, else both scaled by max_res / longest in binary32, never below 1.
+use Prim.Native.Nat.{ℕ, max}
+use mathlib.Core.Bool.{cond}
+use lib.IntN.{pos}
+use lib.Dec.{leb}
+use lib.Ieee.{Float, binary32, ofInt, mul, div, toUnsigned}
+use Rattle.answers.specs.Outcome.{Outcome, gives, refused, refusalOf}
+use Rattle.floats.specs.Stand.{roundOf}
+use Rattle.grid.specs.Sides.{badSides}
+use Rattle.grid.specs.declared.Sides.{Sides}
+use Rattle.resample.specs.declared.Work.{Work}
+
+-- a whole number as a float; every number below 2^24 is exact
+abbrev pub float : ℕ → Float
+float n = ofInt binary32 (pos n)
+
+-- one side: (side × coef).round(), at least 1
+unfoldable pub scaledSide : Float → ℕ → ℕ
+scaledSide coef side = max (toUnsigned 64 (roundOf (mul binary32 (float side) coef))) 1
+
+unfoldable pub workSize : ℕ → ℕ → ℕ → Sides
+unfolding scaledSide
+workSize w h res =
+    let coef = div binary32 (float res) (float (max w h)) in
+    cond (leb (max w h) res) (record { w = w; h = h }) (record { w = scaledSide coef w; h = scaledSide coef h })
+
+abbrev pub workOf : Work → Outcome Sides
+workOf (Work.Of g) = gives g
+workOf (Work.Refused r) = refusalOf r
+
+-- 1: a side outside 1 to 4,096
+abbrev pub workAnswer : ℕ → ℕ → ℕ → Outcome Sides
+workAnswer w h res = cond (badSides w h) (refused 1) (gives (workSize w h res))
