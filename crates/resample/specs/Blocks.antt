@@ -38,26 +38,31 @@ blockSum src w x n y (suc rows) = rowSum src (x + (y + rows) * w) n (blockSum sr
 -- the average of block (bx, by): its sum / the number of its cells
 unfoldable pub averageOf : List Float → ℕ → ℕ → ℕ → ℕ → ℕ → ℕ → Float
 unfolding blockSum
-averageOf src w h rw rh bx by =
-    div binary32 (blockSum src w (firstOf w rw bx) (countOf w rw bx) (firstOf h rh by) (countOf h rh by))
-    (float (countOf w rw bx * countOf h rh by))
+averageOf src w h dw dh bx by =
+    div binary32 (blockSum src w (firstOf w dw bx) (countOf w dw bx) (firstOf h dh by) (countOf h dh by))
+    (float (countOf w dw bx * countOf h dh by))
 
 unfoldable pub downsampled : List Float → ℕ → ℕ → ℕ → ℕ → List Float
 unfolding averageOf tabulate
-downsampled src w h rw rh = tabulate (rw * rh) (λ c. averageOf src w h rw rh (c % rw) (c / rw))
+downsampled src w h dw dh = tabulate (dw * dh) (λ c. averageOf src w h dw dh (c % dw) (c / dw))
 
 -- refusal 2: a reduced side that is 0 or greater than the full one
 abbrev pub badReduced : ℕ → ℕ → Bool
 badReduced reduced side = eqb reduced 0 || ltb side reduced
 
--- 1: a side; 2: a reduced side; 3: a length; 5: a height; then 22: an average not finite
-abbrev pub downsampleRefusal : ℕ → ℕ → ℕ → ℕ → List Float → ℕ → Outcome (Unit {0}) → Outcome (Unit {0})
-downsampleRefusal w h rw rh src len then =
-    cond (badSides w h) (refused 1)
-    (cond (badReduced rw w || badReduced rh h) (refused 2)
-    (cond (not (eqb (length src) (w * h)) || not (eqb len (rw * rh))) (refused 3)
-    (cond (allFinite src) then (refusedAt 5 (firstNotFinite src)))))
+-- 1: a side; 2: a reduced side; 3: a length; 5: a height; else `then`. `number` and `at` say what a refusal gives
+abbrev pub downsampleRefusal : {A : Type 0} → List Float → ℕ → ℕ → ℕ → ℕ → ℕ → (ℕ → A) → (ℕ → ℕ → A) → A → A
+downsampleRefusal src w h len dw dh number at then =
+    cond (badSides w h) (number 1)
+    (cond (badReduced dw w || badReduced dh h) (number 2)
+    (cond (not (eqb (length src) (w * h)) || not (eqb len (dw * dh))) (number 3) (cond (allFinite src) then (at 5 (firstNotFinite src)))))
 
-abbrev pub downsampleAnswer : ℕ → ℕ → ℕ → ℕ → List Float → ℕ → Outcome (Unit {0})
-downsampleAnswer w h rw rh src len =
-    downsampleRefusal w h rw rh src len (cond (allFinite (downsampled src w h rw rh)) (gives tt) (refused 22))
+-- then 22: an average not finite
+abbrev pub downsampleAnswer : List Float → ℕ → ℕ → ℕ → ℕ → ℕ → Outcome (Unit {0})
+downsampleAnswer src w h len dw dh =
+    downsampleRefusal src w h len dw dh refused refusedAt (cond (allFinite (downsampled src w h dw dh)) (gives tt) (refused 22))
+
+-- what the result slice holds at the end: what it held on 1 to 5, else the averages
+abbrev pub downsampleResult : List Float → ℕ → ℕ → List Float → ℕ → ℕ → List Float
+downsampleResult src w h dst dw dh =
+    downsampleRefusal src w h (length dst) dw dh (λ n. dst) (λ n c. dst) (downsampled src w h dw dh)

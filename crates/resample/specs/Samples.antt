@@ -66,22 +66,22 @@ centreOf side reduced x =
 -- the map with the reduced grid `delta`, upsampled on cell centres, added to it
 unfoldable pub addedOf : FarEdge → List Float → ℕ → ℕ → List Float → ℕ → ℕ → List Float
 unfolding bilinearOf tabulate
-addedOf kind map w h delta rw rh =
-    tabulate (w * h) (λ c. add binary32 (getD map c nan) (bilinearOf kind delta rw rh (centreOf w rw (c % w)) (centreOf h rh (c / w))))
+addedOf kind map w h delta dw dh =
+    tabulate (w * h) (λ c. add binary32 (getD map c nan) (bilinearOf kind delta dw dh (centreOf w dw (c % w)) (centreOf h dh (c / w))))
 
 -- 1, 2, 3, 5 (the full grid first), else `then`
 abbrev pub addRefusal : {A : Type 0} → List Float → ℕ → ℕ → List Float → ℕ → ℕ → (ℕ → A) → (ℕ → ℕ → A) → A → A
-addRefusal map w h delta rw rh no at then =
-    cond (badSides w h) (no 1)
-    (cond (badReduced rw w || badReduced rh h) (no 2)
-    (cond (not (eqb (length map) (w * h)) || not (eqb (length delta) (rw * rh))) (no 3)
+addRefusal map w h delta dw dh number at then =
+    cond (badSides w h) (number 1)
+    (cond (badReduced dw w || badReduced dh h) (number 2)
+    (cond (not (eqb (length map) (w * h)) || not (eqb (length delta) (dw * dh))) (number 3)
     (cond (allFinite map) (cond (allFinite delta) then (at 5 (firstNotFinite delta))) (at 5 (firstNotFinite map)))))
 
 abbrev pub addAnswer : List Float → ℕ → ℕ → List Float → ℕ → ℕ → Outcome (Unit {0})
-addAnswer map w h delta rw rh =
-    addRefusal map w h delta rw rh refused refusedAt (cond (allFinite (addedOf asSource map w h delta rw rh)) (gives tt) (refused 22))
+addAnswer map w h delta dw dh =
+    addRefusal map w h delta dw dh refused refusedAt (cond (allFinite (addedOf asSource map w h delta dw dh)) (gives tt) (refused 22))
 
 -- what the map holds at the end: the sum, or on any refusal what it held
 abbrev pub addHeights : List Float → ℕ → ℕ → List Float → ℕ → ℕ → List Float
-addHeights map w h delta rw rh =
-    addRefusal map w h delta rw rh (λ n. map) (λ n c. map) (cond (allFinite (addedOf asSource map w h delta rw rh)) (addedOf asSource map w h delta rw rh) map)
+addHeights map w h delta dw dh =
+    addRefusal map w h delta dw dh (λ n. map) (λ n c. map) (cond (allFinite (addedOf asSource map w h delta dw dh)) (addedOf asSource map w h delta dw dh) map)
