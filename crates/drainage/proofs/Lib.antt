@@ -1,0 +1,2 @@
+-- Theorems of the definitions in specs/.
+pub mod PlateLaws

@@ -1,0 +1,7 @@
+-- Document 01, 'Network', as definitions that compute, and the theorems about them.
+pub mod Ground
+pub mod Flood
+pub mod Receivers
+pub mod Ways
+pub mod Chains
+pub mod Theorems
