@@ -15,10 +15,10 @@ use Rattle.drainage.specs.Ways.{WorkList, areaOf, areasAlong, sumBelow}
 use Rattle.drainage.specs.Chains.{Near, LeastCrest}
 
 -- Neighbours are other cells and mutual, steps to neighbours join any two cells, and some cell is base level.
-pub record Joined (g : Ground) : Type 0 where
+pub record Joined (g : Ground) : Type 1 where
   pub few : g .cells ≤ 2 ^ 24
   pub other : (c m : ℕ) → c < g .cells → Near g c m → c ≡ m → ⊥
-  pub mutual : (c m : ℕ) → c < g .cells → Near g c m → Near g m c
+  pub both-ways : (c m : ℕ) → c < g .cells → Near g c m → Near g m c
   pub joins : (P : ℕ → Type 0) → ((c m : ℕ) → c < g .cells → Near g c m → P c → P m) → (a : ℕ) → a < g .cells → P a → (b : ℕ) → b < g .cells → P b
   pub outlet : ℕ
   pub outlet-inside : outlet < g .cells
