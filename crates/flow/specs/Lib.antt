@@ -1,0 +1,2 @@
+-- What the public call `route` answers and leaves in its result slices.
+pub mod Route
