@@ -1,1 +1,4 @@
 pub mod FiniteLaws
+pub mod ValueLaws
+pub mod WholeLaws
+pub mod BitsLaws

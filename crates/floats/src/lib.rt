@@ -1,6 +1,12 @@
+// What document 01 puts in the place of Rust's float methods, each on every f32 and each equal to its definition in
+// specs/Stand.antt; the bits of a float; and `height_key`, by which heights leave the queue (specs/Key.antt).
 ghost use mathlib.Core.Path.{_≡_};
-ghost use Rattle.floats.specs.Stand.{maxOf};
+ghost use lib.Dec.{T};
+ghost use lib.Ieee.{binary32, ofBits, toBits, toUnsigned};
 ghost use lib.Ieee.Scale.{finite};
+ghost use lib.Ieee.Positive.{above};
+ghost use Rattle.floats.specs.Stand.{maxOf, truncOf, roundOf, ceilOf, fractOf, indexOf};
+ghost use Rattle.floats.specs.Key.{keyOf};
 
 // max(a, b): a if a ≥ b, else b.
 pub fn max(a: f32, b: f32) -> f32
@@ -17,4 +23,126 @@ pub fn is_finite(x: f32) -> bool
         return x < f32::from_bits(0x7f80_0000);
     }
     false
+}
+
+// x cut to a whole number, as Rust's `as u64` has it: 0 below 1 and at a NaN, 2^64 - 1 from 2^64 on.
+pub fn to_u64(x: f32) -> u64
+    ensures { λ r. ⌜ r ≡ toUnsigned 64 x ⌝ }
+{
+    if x > -1.0 {
+        if x < 18446744073709551616.0 {
+            return std::num::truncating_f32_to_u64(x);
+        }
+        return u64::MAX;
+    }
+    0
+}
+
+// x as an index of a side, held inside it.
+pub fn index(x: f32, side: usize) -> usize
+    ensures { λ r. ⌜ r ≡ indexOf side x ⌝ }
+{
+    let i = to_u64(x) as usize;
+    if i < side {
+        return i;
+    }
+    if side == 0 {
+        return 0;
+    }
+    side - 1
+}
+
+// x without its fraction, for x above 0. From 2^23 on it has none.
+fn trunc_above(x: f32) -> f32
+    requires { ⌜ T (above x) ⌝ }
+    ensures { λ r. ⌜ r ≡ truncOf x ⌝ }
+{
+    if x >= 8388608.0 {
+        return x;
+    }
+    to_u64(x) as f32
+}
+
+// x without its fraction, with x's sign.
+pub fn trunc(x: f32) -> f32
+    ensures { λ r. ⌜ r ≡ truncOf x ⌝ }
+{
+    if x > 0.0 {
+        return trunc_above(x);
+    }
+    if x < 0.0 {
+        return -trunc_above(-x);
+    }
+    x
+}
+
+// x's fraction, with x's sign.
+pub fn fract(x: f32) -> f32
+    ensures { λ r. ⌜ r ≡ fractOf x ⌝ }
+{
+    x - trunc(x)
+}
+
+// The least whole number that is not below x, with x's sign.
+pub fn ceil(x: f32) -> f32
+    ensures { λ r. ⌜ r ≡ ceilOf x ⌝ }
+{
+    let t = trunc(x);
+    if t < x { t + 1.0 } else { t }
+}
+
+// The whole number nearest to x, half up, for x above 0. Below 2^23 the double is exact.
+fn round_above(x: f32) -> f32
+    requires { ⌜ T (above x) ⌝ }
+    ensures { λ r. ⌜ r ≡ roundOf x ⌝ }
+{
+    if x >= 8388608.0 {
+        return x;
+    }
+    ((to_u64(x + x) + 1) / 2) as f32
+}
+
+// The whole number nearest to x, half away from zero, with x's sign.
+pub fn round(x: f32) -> f32
+    ensures { λ r. ⌜ r ≡ roundOf x ⌝ }
+{
+    if x > 0.0 {
+        return round_above(x);
+    }
+    if x < 0.0 {
+        return -round_above(-x);
+    }
+    x
+}
+
+// The float of a bit pattern. Every NaN's pattern gives the one NaN.
+pub fn from_bits(b: u32) -> f32
+    ensures { λ r. ⌜ r ≡ ofBits binary32 b ⌝ }
+{
+    if b % 0x8000_0000 > 0x7f80_0000 {
+        return 0.0 / 0.0;
+    }
+    f32::from_bits(b)
+}
+
+// The bit pattern of a float, 0x7fc0_0000 for a NaN.
+pub fn to_bits(x: f32) -> u32
+    ensures { λ r. ⌜ r ≡ toBits binary32 x ⌝ }
+{
+    if x != x {
+        return 0x7fc0_0000;
+    }
+    f32::to_bits(x)
+}
+
+// The bits of x, folded so that the order of whole numbers is the order of floats: -2 below -1, and -0 just before +0.
+pub fn height_key(x: f32) -> u32
+    ensures { λ r. ⌜ r ≡ keyOf x ⌝ }
+{
+    let b = to_bits(x);
+    if b >= 0x8000_0000 {
+        0xffff_ffff - b
+    } else {
+        0x8000_0000 + b
+    }
 }

@@ -1,0 +1,37 @@
+-- A NaN and the bits: its patterns are those above an infinity's, whatever the sign, and it alone differs from itself. And `height_key` by the sign.
+use mathlib.Core.Path.{_≡_, refl, sym, ap, _∙_, subst}
+use mathlib.Core.Bool.{Bool, true, false, not, cond, true≢false}
+use Prim.Native.Nat.{ℕ, _+_, _-_, _%_, _^_, _≤_, _<_}
+use borrow.Author.Tests.{lt-ltb, le-ltb, le-leb, lt-leb}
+use lib.Dec.{T, ltb}
+use lib.Ieee.{Float, nan, inf, fin, binary32, ne, isNan, nanBits, ofBits, toBits}
+use lib.Ieee.Bits.{nanBits-is, nanBits-above}
+use lib.Ieee.Compare.{differs-from-itself}
+use Rattle.floats.specs.Key.{folded, keyOf}
+
+is-nan : (x : Float) → isNan x ≡ true → x ≡ nan
+unfolding isNan
+is-nan nan h = refl
+is-nan (inf s) h = absurd (true≢false (sym h))
+is-nan (fin s m e) h = absurd (true≢false (sym h))
+
+pub nan-pattern : (b : ℕ) → 0x7f80_0000 < b % 2 ^ 31 → ofBits binary32 b ≡ nan
+nan-pattern b h = is-nan (ofBits binary32 b) (sym (nanBits-is binary32 b) ∙ nanBits-above binary32 b ∙ lt-ltb 0x7f80_0000 (b % 2 ^ 31) h)
+
+pub no-nan-pattern : (b : ℕ) → b % 2 ^ 31 ≤ 0x7f80_0000 → T (not (nanBits binary32 b))
+no-nan-pattern b h = subst (λ (z : Bool). T (not z)) (sym (nanBits-above binary32 b ∙ le-ltb 0x7f80_0000 (b % 2 ^ 31) h)) tt
+
+pub nan-bits : (x : Float) → ne x x ≡ true → 0x7fc0_0000 ≡ toBits binary32 x
+nan-bits x h = subst (λ (z : Float). 0x7fc0_0000 ≡ toBits binary32 z) (sym (differs-from-itself x (subst T (sym h) tt))) (unfold toBits in refl)
+
+pub no-nan : (x : Float) → ne x x ≡ false → T (not (isNan x))
+unfolding ne isNan
+no-nan nan h = absurd (true≢false h)
+no-nan (inf s) h = tt
+no-nan (fin s m e) h = tt
+
+pub key-high : (x : Float) (b : ℕ) → b ≡ toBits binary32 x → 2 ^ 31 ≤ b → 2 ^ 32 - 1 - b ≡ keyOf x
+key-high x b e h = sym (ap (λ (t : Bool). cond t (2 ^ 32 - 1 - b) (2 ^ 31 + b)) (le-leb (2 ^ 31) b h)) ∙ ap folded e
+
+pub key-low : (x : Float) (b : ℕ) → b ≡ toBits binary32 x → b < 2 ^ 31 → 2 ^ 31 + b ≡ keyOf x
+key-low x b e h = sym (ap (λ (t : Bool). cond t (2 ^ 32 - 1 - b) (2 ^ 31 + b)) (lt-leb (2 ^ 31) b h)) ∙ ap folded e

@@ -1,0 +1,224 @@
+-- A finite float as the fraction that it equals (`HasValue x s a c`, lib.Ieee.Exact): a format writes each fraction in one way, what it holds rounds to
+-- itself, and comparisons and cuts are those of the fractions.
+use mathlib.Core.Path.{_≡_, refl, sym, ap, _∙_, subst}
+use mathlib.Core.Bool.{Bool, true, false, not, _&&_, _||_, Bool·beq, cond, true≢false, false≢true}
+use Prim.Native.Nat.{ℕ, zero, suc, _+_, _-_, _*_, _/_, _%_, _^_, _≤_, _<_, min}
+use native.Mathlib.Nat.{le-of-eq, le-of-suc-le-suc, lt-of-lt-of-le, lt-of-not-le, lt-irrefl, zero-mul, mul-one, one-mul, mul-comm, mul-assoc, mul-left-comm, mul-right-comm, mul-pos, add-mul, mul-lt-mul-of-pos-right, lt-of-mul-lt-mul-right, eq-of-mul-eq-mul-right, le-div-iff-mul-le}
+use native.Mathlib.Omega.{arith}
+use borrow.Author.Tests.{ltb-false}
+use lib.IntN.{ℤ, pos, negsuc}
+use lib.Dec.{T, leb, ltb, eqb, ltb→lt, lt→ltb, leb→le, eqb→eq}
+use lib.Pow.{pow-add, pow-pos, pow-lt}
+use lib.Ieee.{Float, nan, inf, fin, Format, prec, emax, low, up, down, size, hid, top, round, sum, add, below, level, lt, eq, le, fits, ofBits, toBits, toUnsigned}
+use lib.Ieee.Fits.{up-pos, down-pos, eq→eqb, and-l, and-r, round-fits}
+use lib.Ieee.Exact.{HasValue, round-exact}
+use lib.Ieee.Nearest.{div-same}
+use lib.Ieee.Bits.{ofBits-toBits}
+use lib.Ieee.Scale.{round-same}
+
+-- ---- one way to write each value: the bits are those of the fraction
+abbrev bitsAt : Format → Bool → ℕ → ℕ
+bitsAt f s n = cond s (top f) 0 + (size n - prec f) * hid f + n / 2 ^ (size n - prec f)
+
+bits-of-value : (f : Format) (x : Float) (s : Bool) (a c : ℕ) → 0 < c → HasValue x s a c → toBits f x ≡ bitsAt f s (a * 2 ^ low f / c)
+unfolding toBits
+bits-of-value f (fin t m e) s a c C v =
+    ap (λ (z : Bool). bitsAt f z (m * up e * 2 ^ low f / down e)) (v .0)
+    ∙ ap (bitsAt f s) (div-same (m * up e * 2 ^ low f) (down e) (a * 2 ^ low f) c (down-pos e) C (mul-right-comm (m * up e) (2 ^ low f) c ∙ ap (λ (z : ℕ). z * 2 ^ low f) (v .1) ∙ mul-right-comm a (down e) (2 ^ low f)))
+
+pub value-unique : (f : Format) (x y : Float) (s : Bool) (a c : ℕ) → 0 < c → T (fits f x) → T (fits f y) → HasValue x s a c → HasValue y s a c → x ≡ y
+value-unique f x y s a c C p q v w =
+    sym (ofBits-toBits f x p) ∙ ap (ofBits f) (bits-of-value f x s a c C v ∙ sym (bits-of-value f y s a c C w)) ∙ ofBits-toBits f y q
+
+-- ---- what a format holds, in its bounds and in units of its smallest value
+pub record Held (f : Format) (m : ℕ) (e : ℤ) : Type 0 where
+  pub few : m < 2 ^ prec f
+  pub fine : down e ≤ 2 ^ low f
+  pub within : m * up e < 2 ^ suc (emax f) * down e
+
+flat : (e : ℤ) → up e * down e ≡ 1 → down e ≤ 1
+flat (pos k) h = le-of-eq refl
+flat (negsuc k) h = le-of-eq (sym (one-mul (2 ^ suc k)) ∙ h)
+
+pub held : (f : Format) (s : Bool) (m : ℕ) (e : ℤ) → T (fits f (fin s m e)) → Held f m e
+unfolding fits
+held f s zero e t = record {
+  few = pow-pos (prec f);
+  fine = least (2 ^ low f) (down e) (pow-pos (low f)) (flat e (eqb→eq (up e * down e) 1 t));
+  within = subst (λ (z : ℕ). z < 2 ^ suc (emax f) * down e) (sym (zero-mul (up e))) (mul-pos (pow-pos (suc (emax f))) (down-pos e));
+}
+  where
+    least : (p d : ℕ) → 0 < p → d ≤ 1 → d ≤ p
+    least p d h k = omega arith
+held f s (suc m) e t =
+    let a : Bool = eqb (suc m % 2) 1 in
+    let b : Bool = ltb (suc m) (2 ^ prec f) in
+    let c : Bool = leb (down e) (2 ^ low f) in
+    let d : Bool = ltb (suc m * up e) (2 ^ suc (emax f) * down e) in
+    record {
+      few = ltb→lt (suc m) (2 ^ prec f) (and-r a b (and-l (a && b) c (and-l (a && b && c) d t)));
+      fine = leb→le (down e) (2 ^ low f) (and-r (a && b) c (and-l (a && b && c) d t));
+      within = ltb→lt (suc m * up e) (2 ^ suc (emax f) * down e) (and-r (a && b && c) d t);
+    }
+
+pow-back : (a l : ℕ) → 2 ^ a ≤ 2 ^ l → a ≤ l
+pow-back a l h = le-of-suc-le-suc (lt-of-not-le (λ (g : suc l ≤ a). lt-irrefl (2 ^ l) (lt-of-lt-of-le (pow-lt g) h)))
+
+back : (a l : ℕ) → a ≤ l → l - a + a ≡ l
+back a l h = omega arith
+
+in-units : (l m : ℕ) (e : ℤ) → down e ≤ 2 ^ l → (j : ℕ) × (m * up e * 2 ^ l ≡ m * 2 ^ j * down e)
+in-units l m (pos k) h = (k + l, mul-assoc m (2 ^ k) (2 ^ l) ∙ ap (λ (z : ℕ). m * z) (sym (pow-add 2 k l)) ∙ sym (mul-one (m * 2 ^ (k + l))))
+in-units l m (negsuc k) h = (
+  l - suc k,
+  ap (λ (z : ℕ). z * 2 ^ l) (mul-one m)
+      ∙ ap (λ (z : ℕ). m * 2 ^ z) (sym (back (suc k) l (pow-back (suc k) l h)))
+      ∙ ap (λ (z : ℕ). m * z) (pow-add 2 (l - suc k) (suc k))
+      ∙ sym (mul-assoc m (2 ^ (l - suc k)) (2 ^ suc k)),
+)
+
+-- ---- what a format holds, times a power of two, is exact as long as it does not overflow
+pub round-scaled : (f : Format) (s : Bool) (m : ℕ) (e : ℤ) (t num den : ℕ) → Held f m e → 0 < den → m * up e * 2 ^ t < 2 ^ suc (emax f) * down e
+    → num * down e ≡ m * up e * 2 ^ t * den → HasValue (round f s num den) s num den
+round-scaled f s m e t num den h D fine k =
+    let l = low f in
+    let u = in-units l m e (h .fine) in
+    let j = u .0 in
+    let scaled : m * up e * 2 ^ t * 2 ^ l ≡ m * 2 ^ (j + t) * down e =
+    mul-right-comm (m * up e) (2 ^ t) (2 ^ l)
+    ∙ ap (λ (z : ℕ). z * 2 ^ t) (u .1)
+    ∙ mul-right-comm (m * 2 ^ j) (down e) (2 ^ t)
+    ∙ ap (λ (z : ℕ). z * down e) (mul-assoc m (2 ^ j) (2 ^ t) ∙ ap (λ (z : ℕ). m * z) (sym (pow-add 2 j t))) in
+    let under : m * 2 ^ (j + t) * down e < 2 ^ (l + suc (emax f)) * down e =
+    subst (λ (z : ℕ). z < 2 ^ (l + suc (emax f)) * down e) scaled
+    (subst (λ (z : ℕ). m * up e * 2 ^ t * 2 ^ l < z) (mul-right-comm (2 ^ suc (emax f)) (down e) (2 ^ l) ∙ ap (λ (z : ℕ). z * down e) (mul-comm (2 ^ suc (emax f)) (2 ^ l) ∙ sym (pow-add 2 l (suc (emax f)))))
+    (mul-lt-mul-of-pos-right fine (pow-pos l))) in
+    round-exact f s num den m (j + t) D (h .few) (lt-of-mul-lt-mul-right (down e) under)
+    (eq-of-mul-eq-mul-right (down e) (down-pos e) (num * 2 ^ l) (m * 2 ^ (j + t) * den)
+    (mul-right-comm num (2 ^ l) (down e)
+    ∙ ap (λ (z : ℕ). z * 2 ^ l) k
+    ∙ mul-right-comm (m * up e * 2 ^ t) den (2 ^ l)
+    ∙ ap (λ (z : ℕ). z * den) scaled
+    ∙ mul-right-comm (m * 2 ^ (j + t)) (down e) den))
+
+-- what a format holds rounds to itself
+pub round-self : (f : Format) (s : Bool) (m : ℕ) (e : ℤ) → T (fits f (fin s m e)) → round f s (m * up e) (down e) ≡ fin s m e
+round-self f s m e t =
+    let h = held f s m e t in
+    value-unique f (round f s (m * up e) (down e)) (fin s m e) s (m * up e) (down e) (down-pos e) (round-fits f s (m * up e) (down e)) t
+    (round-scaled f s m e 0 (m * up e) (down e) h (down-pos e) (subst (λ (z : ℕ). z < 2 ^ suc (emax f) * down e) (sym (mul-one (m * up e))) (h .within)) (ap (λ (z : ℕ). z * down e) (sym (mul-one (m * up e)))))
+    (refl, refl)
+
+-- ---- comparisons, by any fractions that the two floats equal
+pub same-test : (b c : Bool) → (T b → T c) → (T c → T b) → b ≡ c
+same-test true true p q = refl
+same-test true false p q = absurd (p tt)
+same-test false true p q = absurd (q tt)
+same-test false false p q = refl
+
+-- p and q are A and B, scaled alike
+module _ (p q A B K L : ℕ) (u : p * K ≡ A * L) (v : q * K ≡ B * L) (P : 0 < K) (Q : 0 < L) where
+  scaled-ltb : ltb p q ≡ ltb A B
+  scaled-ltb = same-test (ltb p q) (ltb A B)
+      (λ t. lt→ltb A B (lt-of-mul-lt-mul-right L (subst (λ (z : ℕ). z < B * L) u (subst (λ (z : ℕ). p * K < z) v (mul-lt-mul-of-pos-right (ltb→lt p q t) P)))))
+      (λ t. lt→ltb p q (lt-of-mul-lt-mul-right K (subst (λ (z : ℕ). z < q * K) (sym u) (subst (λ (z : ℕ). A * L < z) (sym v) (mul-lt-mul-of-pos-right (ltb→lt A B t) Q)))))
+
+  scaled-eqb : eqb p q ≡ eqb A B
+  scaled-eqb = same-test (eqb p q) (eqb A B)
+      (λ t. eq→eqb (eq-of-mul-eq-mul-right L Q A B (sym u ∙ ap (λ (z : ℕ). z * K) (eqb→eq p q t) ∙ v)))
+      (λ t. eq→eqb (eq-of-mul-eq-mul-right K P p q (u ∙ ap (λ (z : ℕ). z * L) (eqb→eq A B t) ∙ sym v)))
+
+scaled-zero : (p A K L : ℕ) → p * K ≡ A * L → 0 < K → 0 < L → eqb p 0 ≡ eqb A 0
+scaled-zero p A K L u P Q = scaled-eqb p 0 A 0 K L u (zero-mul K ∙ sym (zero-mul L)) P Q
+
+below-scaled : (s t : Bool) (p q A B K L : ℕ) → p * K ≡ A * L → q * K ≡ B * L → 0 < K → 0 < L → below s p t q ≡ below s A t B
+below-scaled false false p q A B K L u v P Q = scaled-ltb p q A B K L u v P Q
+below-scaled false true p q A B K L u v P Q = refl
+below-scaled true false p q A B K L u v P Q = scaled-ltb 0 (p + q) 0 (A + B) K L (zero-mul K ∙ sym (zero-mul L)) (add-mul p q K ∙ ap (λ (z : ℕ). z + q * K) u ∙ ap (λ (z : ℕ). A * L + z) v ∙ sym (add-mul A B L)) P Q
+below-scaled true true p q A B K L u v P Q = scaled-ltb q p B A K L v u P Q
+
+level-scaled : (s t : Bool) (p q A B K L : ℕ) → p * K ≡ A * L → q * K ≡ B * L → 0 < K → 0 < L → level s p t q ≡ level s A t B
+level-scaled s t p q A B K L u v P Q =
+    ap (λ (z : Bool). z && (Bool·beq s t || eqb p 0)) (scaled-eqb p q A B K L u v P Q) ∙ ap (λ (z : Bool). eqb A B && (Bool·beq s t || z)) (scaled-zero p A K L u P Q)
+
+-- x / g is a / c, so x * h is a * d scaled by (c * d) / (g * h)
+cross : (x g h a c d : ℕ) → x * c ≡ a * g → x * h * (c * d) ≡ a * d * (g * h)
+cross x g h a c d v = simp (mul-assoc, mul-comm, mul-left-comm) (simp (mul-assoc, mul-comm, mul-left-comm) at (ap (λ (z : ℕ). z * (h * d)) v))
+
+cross-r : (y g h b c d : ℕ) → y * d ≡ b * h → y * g * (c * d) ≡ b * c * (g * h)
+cross-r y g h b c d v = simp (mul-assoc, mul-comm, mul-left-comm) (simp (mul-assoc, mul-comm, mul-left-comm) at (ap (λ (z : ℕ). z * (g * c)) v))
+
+pub lt-values : (x y : Float) (s t : Bool) (a c b d : ℕ) → 0 < c → 0 < d → HasValue x s a c → HasValue y t b d → lt x y ≡ below s (a * d) t (b * c)
+unfolding lt
+lt-values (fin s' m e) (fin t' n g) s t a c b d C D v w =
+    ap (λ (z : Bool). below z (m * up e * down g) t' (n * up g * down e)) (v .0)
+    ∙ ap (λ (z : Bool). below s (m * up e * down g) z (n * up g * down e)) (w .0)
+    ∙ below-scaled s t (m * up e * down g) (n * up g * down e) (a * d) (b * c) (c * d) (down e * down g)
+    (cross (m * up e) (down e) (down g) a c d (v .1)) (cross-r (n * up g) (down e) (down g) b c d (w .1)) (mul-pos C D) (mul-pos (down-pos e) (down-pos g))
+
+pub eq-values : (x y : Float) (s t : Bool) (a c b d : ℕ) → 0 < c → 0 < d → HasValue x s a c → HasValue y t b d → eq x y ≡ level s (a * d) t (b * c)
+unfolding eq
+eq-values (fin s' m e) (fin t' n g) s t a c b d C D v w =
+    ap (λ (z : Bool). level z (m * up e * down g) t' (n * up g * down e)) (v .0)
+    ∙ ap (λ (z : Bool). level s (m * up e * down g) z (n * up g * down e)) (w .0)
+    ∙ level-scaled s t (m * up e * down g) (n * up g * down e) (a * d) (b * c) (c * d) (down e * down g)
+    (cross (m * up e) (down e) (down g) a c d (v .1)) (cross-r (n * up g) (down e) (down g) b c d (w .1)) (mul-pos C D) (mul-pos (down-pos e) (down-pos g))
+
+pub le-values : (x y : Float) (s t : Bool) (a c b d : ℕ) → 0 < c → 0 < d → HasValue x s a c → HasValue y t b d
+    → le x y ≡ (below s (a * d) t (b * c) || level s (a * d) t (b * c))
+unfolding le
+le-values x y s t a c b d C D v w =
+    ap (λ (z : Bool). z || eq x y) (lt-values x y s t a c b d C D v w) ∙ ap (λ (z : Bool). below s (a * d) t (b * c) || z) (eq-values x y s t a c b d C D v w)
+
+-- ---- the cut to a whole number, by any fraction that the float equals
+pub cut-value : (w : ℕ) (x : Float) (a c : ℕ) → 0 < c → HasValue x false a c → toUnsigned w x ≡ min (a / c) (2 ^ w - 1)
+unfolding toUnsigned
+cut-value w (fin t m e) a c C v =
+    ap (λ (z : Bool). cond z 0 (min (m * up e / down e) (2 ^ w - 1))) (v .0)
+    ∙ ap (λ (z : ℕ). min z (2 ^ w - 1)) (div-same (m * up e) (down e) a c (down-pos e) C (v .1))
+
+-- not above -1: nothing is left
+pub cut-none : (w : ℕ) (x : Float) → lt (fin true 1 (pos 0)) x ≡ false → 0 ≡ toUnsigned w x
+unfolding lt toUnsigned
+cut-none w nan h = refl
+cut-none w (inf true) h = refl
+cut-none w (inf false) h = absurd (true≢false h)
+cut-none w (fin true m e) h = refl
+cut-none w (fin false m e) h = absurd (some (1 * down e) (m * up e * 1) (mul-pos (pow-pos 0) (down-pos e)) (ltb-false 0 (1 * down e + m * up e * 1) h))
+  where
+    some : (d a : ℕ) → 0 < d → d + a ≤ 0 → ⊥
+    some d a h k = omega arith
+
+-- from 2^w on: the largest number
+pub cut-most : (w : ℕ) (x : Float) → lt (fin true 1 (pos 0)) x ≡ true → lt x (fin false 1 (pos w)) ≡ false → 2 ^ w - 1 ≡ toUnsigned w x
+unfolding lt toUnsigned
+cut-most w nan h k = absurd (false≢true h)
+cut-most w (inf true) h k = absurd (false≢true h)
+cut-most w (inf false) h k = refl
+cut-most w (fin true m e) h k = absurd (some (m * up e * 1) (1 * 2 ^ w * down e) (mul-pos (mul-pos (pow-pos 0) (pow-pos w)) (down-pos e)) (ltb-false 0 (m * up e * 1 + 1 * 2 ^ w * down e) k))
+  where
+    some : (a d : ℕ) → 0 < d → a + d ≤ 0 → ⊥
+    some a d h k = omega arith
+cut-most w (fin false m e) h k = most (m * up e / down e) (2 ^ w) (le-div-iff-mul-le (down-pos e) .1 (plain (m * up e) (2 ^ w) (down e) (ltb-false (m * up e * 1) (1 * 2 ^ w * down e) k)))
+  where
+    most : (q p : ℕ) → p ≤ q → p - 1 ≡ min q (p - 1)
+    most q p h = omega arith
+
+    plain : (a p d : ℕ) → 1 * p * d ≤ a * 1 → p * d ≤ a
+    plain a p d h = omega arith
+
+-- ---- a sum of two floats of one sign, by any fractions that they equal
+pub add-values : (f : Format) (x y : Float) (s : Bool) (a c b d : ℕ) → 0 < c → 0 < d → HasValue x s a c → HasValue y s b d → add f x y ≡ round f s (a * d + b * c) (c * d)
+unfolding add sum
+add-values f (fin s' m e) (fin t' n g) s a c b d C D v w =
+    let p = m * up e * down g in
+    let q = n * up g * down e in
+    ap (λ (z : Bool). sum f z p t' q (down e * down g)) (v .0)
+    ∙ ap (λ (z : Bool). sum f s p z q (down e * down g)) (w .0)
+    ∙ like s p q (down e * down g)
+    ∙ round-same f s (p + q) (down e * down g) (a * d + b * c) (c * d) (mul-pos (down-pos e) (down-pos g)) (mul-pos C D)
+    (add-mul p q (c * d) ∙ ap (λ (z : ℕ). z + q * (c * d)) (cross (m * up e) (down e) (down g) a c d (v .1)) ∙ ap (λ (z : ℕ). a * d * (down e * down g) + z) (cross-r (n * up g) (down e) (down g) b c d (w .1)) ∙ sym (add-mul (a * d) (b * c) (down e * down g)))
+  where
+    like : (s : Bool) (p q r : ℕ) → sum f s p s q r ≡ round f s (p + q) r
+    like true p q r = unfold sum in refl
+    like false p q r = unfold sum in refl
