@@ -1,0 +1,1 @@
+-- Binary32 floats as whole numbers of their smallest unit.
