@@ -1,1 +1,7 @@
 pub mod ValueLaws
+pub mod SizeLaws
+pub mod OrderLaws
+pub mod RankLaws
+pub mod KeyLaws
+pub mod WholeLaws
+pub mod FitLaws

@@ -1,1 +1,3 @@
--- Binary32 floats as whole numbers of their smallest unit.
+-- Binary32 floats as whole numbers of their smallest unit, their keys, and lists of them.
+pub mod Order
+pub mod Fit

@@ -1,0 +1,46 @@
+-- The order of floats as an order of whole numbers. A float that is no NaN has a rank: its number in units of 2 ^ -149, the smallest positive
+-- float, counted from 2 ^ 277 so that it is never negative. Both zeros have the same rank.
+use mathlib.Core.Path.{_≡_}
+use mathlib.Core.Logic.{_⊎_}
+use mathlib.Core.Bool.{Bool, true, false, not, cond}
+use Prim.Native.Nat.{ℕ, _+_, _-_, _*_, _/_, _^_, _≤_, _<_, max}
+use lib.Dec.{T, ltb, leb, eqb}
+use lib.IntN.{pos}
+use lib.Ieee.{Float, nan, inf, fin, binary32, up, down, lt, le, eq, fits, isNan, ofInt}
+use Rattle.floats.specs.Stand.{maxOf}
+use Rattle.floats.specs.Key.{keyOf}
+
+-- x is a number: binary32 holds it, and it is no NaN. The infinities count as ± 2 ^ 128, which no finite float reaches.
+pub record Number (x : Float) : Type 0 where
+  pub fit : T (fits binary32 x)
+  pub real : T (not (isNan x))
+
+-- the number of n units with the sign s
+abbrev pub signed : Bool → ℕ → ℕ
+signed s n = cond s (2 ^ 277 - n) (2 ^ 277 + n)
+
+unfoldable pub rank : Float → ℕ
+rank nan = 0
+rank (inf s) = signed s (2 ^ 277)
+rank (fin s m e) = signed s (m * up e * 2 ^ 149 / down e)
+
+-- x is +0 or -0
+abbrev pub Zero : Float → Type 0
+Zero x = (s : Bool) × (x ≡ fin s 0 (pos 0))
+
+-- Numbers compare as their ranks do, so they are totally ordered, and the greater of two has the greater rank. Numbers of one rank are the same
+-- float, or zeros.
+pub record RankFollowsOrder : Type 0 where
+  pub less : (x y : Float) → Number x → Number y → lt x y ≡ ltb (rank x) (rank y)
+  pub at-most : (x y : Float) → Number x → Number y → le x y ≡ leb (rank x) (rank y)
+  pub equal : (x y : Float) → Number x → Number y → eq x y ≡ eqb (rank x) (rank y)
+  pub greater : (a b : Float) → Number a → Number b → rank (maxOf a b) ≡ max (rank a) (rank b)
+  pub same : (x y : Float) → Number x → Number y → rank x ≡ rank y → (x ≡ y) ⊎ (Zero x × Zero y)
+
+-- The key is a number of 32 bits that follows the order of numbers: the lower of two has the lower key, and so a key that is no higher means a
+-- number that is no higher. Different floats have different keys, the zeros too.
+pub record KeyFollowsOrder : Type 0 where
+  pub less : (x y : Float) → Number x → Number y → rank x < rank y → keyOf x < keyOf y
+  pub at-most : (x y : Float) → Number x → Number y → keyOf x ≤ keyOf y → rank x ≤ rank y
+  pub unique : (x y : Float) → T (fits binary32 x) → T (fits binary32 y) → keyOf x ≡ keyOf y → x ≡ y
+  pub narrow : (x : Float) → T (fits binary32 x) → keyOf x < 2 ^ 32
