@@ -3,7 +3,7 @@ use Prim.Native.Nat.{ℕ, suc, _+_, _-_, _*_, _≤_, _<_}
 use mathlib.Core.Path.{_≡_}
 use mathlib.Core.Bool.{_&&_, cond}
 use mathlib.Core.List.{List, [], _∷_}
-use lib.IntN.{ℤ, pos, negsuc}
+use lib.IntN.{ℤ, pos, negsuc, natAbs}
 use lib.ListN.{getD}
 use lib.Dec.{ltb}
 use Rattle.grid.specs.Sides.{columnOf, rowOf}
@@ -18,6 +18,19 @@ dirY = pos 0 ∷ negsuc 0 ∷ negsuc 0 ∷ negsuc 0 ∷ pos 0 ∷ pos 0 ∷ pos 
 abbrev pub shiftedOf : ℕ → ℤ → ℕ → ℕ
 shiftedOf x (pos k) side = cond (ltb (x + k) side) (x + k) side
 shiftedOf x (negsuc k) side = cond (ltb k x) (x - suc k) side
+
+-- what moving along a side asks: a place on a side of at most 4,096, and at most one step
+pub record Steps (x : ℕ) (d : ℤ) (side : ℕ) : Type 0 where
+  pub inside : x < side
+  pub bound : side ≤ 4096
+  pub small : natAbs d ≤ 1
+
+-- column x, row y is a cell of a grid with sides of at most 4,096
+pub record Place (w h x y : ℕ) : Type 0 where
+  pub column : x < w
+  pub row : y < h
+  pub wide : w ≤ 4096
+  pub high : h ≤ 4096
 
 -- the neighbour of column x, row y in direction d; outside the grid it is w × h, the number of no cell
 unfoldable pub neighbourOf : ℕ → ℕ → ℕ → ℕ → ℕ → ℕ

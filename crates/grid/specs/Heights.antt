@@ -1,10 +1,11 @@
 -- 'All heights are finite', for refusal 5 and for every 22: one definition over the list of heights.
-use Prim.Native.Nat.{ℕ, suc}
-use mathlib.Core.Bool.{Bool, cond}
+use Prim.Native.Nat.{ℕ, suc, _<_}
+use mathlib.Core.Path.{_≡_}
+use mathlib.Core.Bool.{Bool, true, cond}
 use mathlib.Core.List.{List, [], _∷_}
-use lib.ListN.{length}
+use lib.ListN.{length, getD}
 use lib.Dec.{eqb}
-use lib.Ieee.{Float}
+use lib.Ieee.{Float, nan}
 use lib.Ieee.Scale.{finite}
 
 -- the first cell, row by row, whose height is not finite; the number of cells where every height is finite
@@ -15,3 +16,7 @@ firstNotFinite (x ∷ xs) = cond (finite x) (suc (firstNotFinite xs)) 0
 unfoldable pub allFinite : List Float → Bool
 unfolding firstNotFinite
 allFinite hs = eqb (firstNotFinite hs) (length hs)
+
+-- every height below place n is finite
+pub record FiniteBelow (hs : List Float) (n : ℕ) : Type 0 where
+  pub each : (i : ℕ) → i < n → finite (getD hs i nan) ≡ true

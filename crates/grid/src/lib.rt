@@ -1,8 +1,136 @@
 // The grid that every call works on: sides, cells, the eight neighbours, base level, and the first height that is not finite.
 use floats::is_finite;
+ghost use mathlib.Core.Path.{_≡_};
+ghost use mathlib.Core.Bool.{_||_};
+ghost use Prim.Native.Nat.{_-_, _*_, _<_};
+ghost use lib.Dec.{eqb};
+ghost use lib.ListN.{length};
+ghost use lib.Ieee.{le};
+ghost use Rattle.grid.specs.Sides.{badSide, badSides};
+ghost use Rattle.grid.specs.Directions.{Steps, Place, shiftedOf, neighbourOf};
+ghost use Rattle.grid.specs.Base.{onBorder};
+ghost use Rattle.grid.specs.Heights.{firstNotFinite, allFinite};
 
 // A grid of w columns and h rows.
 pub struct Sides {
     pub w: usize,
     pub h: usize,
+}
+
+// Column and row of each direction: none, NW, N, NE, W, E, SW, S, SE.
+pub const DIRX: [i32; 9] = [0, -1, 0, 1, -1, 1, -1, 0, 1];
+
+pub const DIRY: [i32; 9] = [0, -1, -1, -1, 0, 0, 1, 1, 1];
+
+// Whether a side is outside 1 to 4,096.
+pub fn bad_side(side: usize) -> bool
+    ensures { λ r. ⌜ r ≡ badSide side ⌝ }
+{
+    if side == 0 {
+        return true;
+    }
+    4096 < side
+}
+
+// Refusal 1: whether either side is outside 1 to 4,096.
+pub fn bad_sides(g: Sides) -> bool
+    ensures { λ r. ⌜ r ≡ badSides (g .w) (g .h) ⌝ }
+{
+    if bad_side(g.w) {
+        return true;
+    }
+    bad_side(g.h)
+}
+
+// x moved by d, or `side` where that leaves 0 to side - 1. The sign is tested before the cast.
+pub fn shifted(x: usize, d: i32, side: usize) -> usize
+    requires { ⌜ Steps x d side ⌝ }
+    ensures { λ r. ⌜ r ≡ shiftedOf x d side ⌝ }
+{
+    let moved = x as i32 + d;
+    if moved < 0 {
+        return side;
+    }
+    let to = moved as usize;
+    if to < side {
+        return to;
+    }
+    side
+}
+
+// The neighbour of column x, row y in direction d, or w × h where that lies outside the grid.
+pub fn neighbour(g: Sides, x: usize, y: usize, d: usize) -> usize
+    requires { ⌜ Place (g .w) (g .h) x y ⌝ }
+    requires { ⌜ d < 9 ⌝ }
+    ensures { λ r. ⌜ r ≡ neighbourOf (g .w) (g .h) x y d ⌝ }
+{
+    let w = g.w;
+    let h = g.h;
+    let nx = shifted(x, DIRX[d], w);
+    if w <= nx {
+        return w * h;
+    }
+    let ny = shifted(y, DIRY[d], h);
+    if h <= ny {
+        return w * h;
+    }
+    nx + ny * w
+}
+
+// Whether x is the first or the last place along a side.
+pub fn at_end(x: usize, side: usize) -> bool
+    ensures { λ r. ⌜ r ≡ (eqb x 0 || eqb x (side - 1)) ⌝ }
+{
+    if x == 0 {
+        return true;
+    }
+    if side == 0 {
+        return false;
+    }
+    x == side - 1
+}
+
+// Base level: a border cell, or one that is not above the water.
+pub fn is_base(g: Sides, x: usize, y: usize, height: f32, water: f32) -> bool
+    ensures { λ r. ⌜ r ≡ (onBorder (g .w) (g .h) x y || le height water) ⌝ }
+{
+    if at_end(x, g.w) {
+        return true;
+    }
+    if at_end(y, g.h) {
+        return true;
+    }
+    height <= water
+}
+
+// The first cell, row by row, whose height is not finite; w × h where every height is finite.
+pub fn first_not_finite(g: Sides, hs: &[f32]) -> usize
+    requires { ⌜ length (now hs) ≡ g .w * g .h ⌝ }
+    ensures { λ r. ⌜ r ≡ firstNotFinite (now (hs .entry)) ⌝ }
+{
+    let w = g.w;
+    let h = g.h;
+    let mut y: usize = 0;
+    'rows: loop {
+        if h <= y {
+            break 'rows w * h;
+        }
+        let mut x: usize = 0;
+        while x < w {
+            let cell = x + y * w;
+            if !is_finite(hs[cell]) {
+                break 'rows cell;
+            }
+            x += 1;
+        }
+        y += 1;
+    }
+}
+
+// Whether every height is finite.
+pub fn all_finite(g: Sides, hs: &[f32]) -> bool
+    requires { ⌜ length (now hs) ≡ g .w * g .h ⌝ }
+    ensures { λ r. ⌜ r ≡ allFinite (now (hs .entry)) ⌝ }
+{
+    first_not_finite(g, hs) == hs.len()
 }

@@ -1,0 +1,5 @@
+pub mod SidesLaws
+pub mod ShiftedLaws
+pub mod NeighbourLaws
+pub mod HeightsLaws
+pub mod BaseLaws
