@@ -1,0 +1,3 @@
+-- Document 01, 'Talus'.
+pub mod Talus
+pub mod SlidePass

@@ -1,0 +1,64 @@
+-- One talus pass with its stop marks, and what the public call `slide_pass` answers.
+use Prim.Native.Nat.{ℕ, _*_, _^_}
+use mathlib.Core.Bool.{Bool, not, _||_, cond}
+use mathlib.Core.List.{List}
+use lib.ListN.{length}
+use lib.IntN.{pos}
+use lib.Dec.{eqb, ltb}
+use lib.Ieee.{Float, binary32, ofBits, neg, ofInt, add, sub, mul, div}
+use lib.Ieee.Scale.{finite}
+use Rattle.answers.specs.Outcome.{Outcome, gives, refused, refusedAt, outsideOf}
+use Rattle.lists.specs.Loops.{turns}
+use Rattle.grid.specs.Sides.{badSides}
+use Rattle.grid.specs.Heights.{firstNotFinite, allFinite}
+use Rattle.generators.specs.Marks.{reportOf}
+use Rattle.generators.specs.declared.Progress.{Progress}
+use Rattle.thermal_erosion.specs.Talus.{thresholdsOf, slideRow}
+use Rattle.thermal_erosion.specs.declared.ThermalParams.{ThermalParams}
+
+-- the fraction after row y: from + (to - from) × y / h
+abbrev pub fractionOf : Float → Float → ℕ → ℕ → Float
+fractionOf from to h y =
+    add binary32 from (div binary32 (mul binary32 (sub binary32 to from) (ofInt binary32 (pos y))) (ofInt binary32 (pos h)))
+
+-- the copy as far as it is made, and the record
+pub record Pass : Type 0 where
+  pub out : List Float
+  pub marks : Progress
+
+module _ (w h : ℕ) (ts : List Float) (strength water : Float) (hs : List Float) (from to : Float) (stop : ℕ) where
+  -- one row and the question after it; a stopped pass goes no further
+  abbrev pub rowStep : ℕ → Pass → Pass
+  rowStep y s =
+      cond (s .marks .stopped) s
+      (record { out = slideRow w h ts hs strength water y (s .out); marks = reportOf (s .marks) (fractionOf from to h y) stop })
+
+  -- the first n rows
+  unfoldable pub rowsOf : ℕ → Progress → Pass
+  unfolding turns slideRow
+  rowsOf n m = turns n rowStep (record { out = hs; marks = m })
+
+-- the whole pass of document 01's parameters
+abbrev pub passOf : ℕ → ℕ → ThermalParams → List Float → Float → Float → ℕ → Progress → Pass
+passOf w h p hs from to stop m = rowsOf w h (thresholdsOf (p .threshold)) (p .strength) (p .«water_level») hs from to stop h m
+
+-- refusal 4: threshold 0 to 16, strength 0 to 1, water level finite, ends of p 0 to 1, last -1 to 1, asked at most 2^31
+abbrev pub badPass : ThermalParams → Float → Float → Progress → Bool
+badPass p from to m =
+    let zero = ofBits binary32 0 in
+    let one = ofBits binary32 0x3f80_0000 in
+    outsideOf (p .threshold) zero (ofBits binary32 0x4180_0000)
+    || (outsideOf (p .strength) zero one
+    || (not (finite (p .«water_level»))
+    || (outsideOf from zero one || (outsideOf to zero one || (outsideOf (m .last) (neg one) one || ltb (2 ^ 31) (m .asked))))))
+
+-- 1: a side; 3: a length; 4: a setting; 5: a height; else `then`. `number` and `at` say what a refusal gives
+abbrev pub slideRefusal : {A : Type 0} → ℕ → ℕ → List Float → ℕ → ThermalParams → Float → Float → Progress → (ℕ → A) → (ℕ → ℕ → A) → A → A
+slideRefusal w h hs len p from to m number at then =
+    cond (badSides w h) (number 1)
+    (cond (not (eqb (length hs) (w * h)) || not (eqb len (w * h))) (number 3)
+    (cond (badPass p from to m) (number 4) (cond (allFinite hs) then (at 5 (firstNotFinite hs)))))
+
+-- then 21: stopped, asked before 22; 22: a height not finite
+abbrev pub passAnswer : Pass → Outcome (Unit {0})
+passAnswer s = cond (s .marks .stopped) (refused 21) (cond (allFinite (s .out)) (gives tt) (refused 22))
