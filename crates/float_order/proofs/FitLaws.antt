@@ -1,11 +1,10 @@
 -- Lists whose elements fit. Single results fit by lib.Ieee.Fits and lib.Ieee.Bits: add-fits, sub-fits, mul-fits, div-fits, neg-fits, ofInt-fits and
 -- ofBits-fits; `search fitting` finds these and the laws below.
 use Prim.Native.Nat.{ℕ, zero, suc}
-use mathlib.Core.Bool.{Bool, true, false}
 use mathlib.Core.List.{List, [], _∷_, _++_, map}
 use lib.Dec.{T}
-use lib.ListN.{getD, set, take, drop, replicate}
-use lib.Ieee.{Float, nan, binary32, fits}
+use lib.ListN.{set, take, drop, replicate}
+use lib.Ieee.{Float, binary32, fits}
 use lib.Ieee.Bits.{ofBits-fits}
 use lib.Ieee.Fits.{nan-fits, add-fits, sub-fits, mul-fits, div-fits, neg-fits, ofInt-fits}
 use Rattle.floats.specs.Stand.{maxOf}

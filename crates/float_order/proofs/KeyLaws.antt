@@ -15,9 +15,9 @@ use lib.Ieee.Bits.{toBits-lt}
 use lib.Ieee.Digits.{size-lt, size-le, size-reaches}
 use lib.Ieee.Fits.{kept-lt}
 use Rattle.floats.specs.Key.{folded, keyOf}
-use Rattle.float_order.specs.Order.{Number, rank, KeyFollowsOrder}
-use Rattle.float_order.proofs.ValueLaws.{bitsOf, bits-unique}
-use Rattle.float_order.proofs.SizeLaws.{signOf, unitsOf, rank-is, units-le, bits-is}
+use Rattle.float_order.specs.Order.{Number, signOf, unitsOf, signed, rank, KeyFollowsOrder}
+use Rattle.float_order.proofs.ValueLaws.{bits-unique}
+use Rattle.float_order.proofs.SizeLaws.{rank-is, units-le, bits-is}
 use Rattle.float_order.proofs.RankLaws.{lt-true}
 
 -- ---- the bits of a size of n units grow with n
@@ -86,7 +86,7 @@ key-narrow x p = go (leb (2 ^ 31) (toBits binary32 x)) refl
 
 -- sizes a and b up to B with bits u and v below C
 ordered : (B C a b u v : ℕ) (s t : Bool) → a ≤ B → b ≤ B → u < C → v < C → (a ≤ b → u ≤ v) → (b ≤ a → v ≤ u)
-    → cond s (B - a) (B + a) < cond t (B - b) (B + b) → cond s (C - 1 - u) (C + u) ≤ cond t (C - 1 - v) (C + v)
+    → signed B s a < signed B t b → cond s (C - 1 - u) (C + u) ≤ cond t (C - 1 - v) (C + v)
 ordered B C a b u v false false h k i j f g l = omega (arith, f (omega arith))
 ordered B C a b u v false true h k i j f g l = omega arith
 ordered B C a b u v true false h k i j f g l = omega arith

@@ -1,25 +1,29 @@
 -- Numbers compare as their ranks do.
 use mathlib.Core.Path.{_≡_, refl, sym, ap, ap₂, _∙_, subst₂}
-use mathlib.Core.Logic.{_⊎_, inl, inr}
-use mathlib.Core.Bool.{Bool, true, false, not, _&&_, _||_, Bool·beq, cond}
-use Prim.Native.Nat.{ℕ, _+_, _-_, _*_, _^_, _≤_, _<_, max}
+use mathlib.Core.Bool.{Bool, true, false, not, _&&_, _||_, Bool·beq, and-true}
+use Prim.Native.Nat.{ℕ, _+_, _*_, _^_, _≤_, _<_}
 use native.Mathlib.Nat.{mul-right-comm, mul-assoc, mul-comm, zero-mul, add-mul, mul-pos, mul-lt-mul-of-pos-right, lt-of-mul-lt-mul-right, eq-of-mul-eq-mul-right}
 use native.Mathlib.Omega.{arith}
 use borrow.Author.Tests.{lt-ltb, le-ltb, ne-eqb, le-leb, lt-leb, ltb-true, ltb-false, eqb-true, eqb-false}
-use lib.Dec.{T, ltb, leb, eqb, ltb→lt, lt→ltb, leb→le, le→leb, eqb→eq}
-use lib.IntN.{ℤ, pos}
+use lib.Dec.{T, ltb, leb, eqb, ltb→lt, lt→ltb, eqb→eq}
+use lib.IntN.{ℤ}
 use lib.Pow.{pow-pos}
 use lib.Ieee.{Float, nan, inf, fin, binary32, up, down, below, level, lt, le, eq, fits, isNan}
 use lib.Ieee.Fits.{down-pos, eq→eqb, and-i, and-l, and-r}
-use Rattle.float_order.specs.Order.{Number, signed, rank, Zero, RankFollowsOrder}
-use Rattle.float_order.proofs.SizeLaws.{signOf, unitsOf, rank-is, units-exact, units-lt, units-le, units-unique}
-use Rattle.floats.specs.Stand.{maxOf}
+use Rattle.float_order.specs.Order.{Number, signOf, unitsOf, signed, rank}
+use Rattle.float_order.proofs.SizeLaws.{rank-is, units-exact, units-lt, units-le}
 
-pub tests-agree : (a b : Bool) → (T a → T b) → (T b → T a) → a ≡ b
+tests-agree : (a b : Bool) → (T a → T b) → (T b → T a) → a ≡ b
 tests-agree true true p q = refl
 tests-agree true false p q = absurd (p tt)
 tests-agree false true p q = absurd (q tt)
 tests-agree false false p q = refl
+
+pub same-lt : (a b u v : ℕ) → (a < b → u < v) → (u < v → a < b) → ltb a b ≡ ltb u v
+same-lt a b u v f g = tests-agree (ltb a b) (ltb u v) (λ t. lt→ltb u v (f (ltb→lt a b t))) (λ t. lt→ltb a b (g (ltb→lt u v t)))
+
+same-eq : (a b u v : ℕ) → (a ≡ b → u ≡ v) → (u ≡ v → a ≡ b) → eqb a b ≡ eqb u v
+same-eq a b u v f g = tests-agree (eqb a b) (eqb u v) (λ t. eq→eqb (f (eqb→eq a b t))) (λ t. eq→eqb (g (eqb→eq u v t)))
 
 -- ---- A and B are a and b in another unit: they compare alike
 
@@ -30,16 +34,10 @@ scaled-eq : (A B a b L D : ℕ) → 0 < D → A * L ≡ a * D → B * L ≡ b * 
 scaled-eq A B a b L D d p q h = eq-of-mul-eq-mul-right D d a b (sym p ∙ ap (λ (z : ℕ). z * L) h ∙ q)
 
 ltb-scaled : (A B a b L D : ℕ) → 0 < L → 0 < D → A * L ≡ a * D → B * L ≡ b * D → ltb A B ≡ ltb a b
-ltb-scaled A B a b L D l d p q =
-    tests-agree (ltb A B) (ltb a b)
-    (λ t. lt→ltb a b (scaled-lt A B a b L D l p q (ltb→lt A B t)))
-    (λ t. lt→ltb A B (scaled-lt a b A B D L d (sym p) (sym q) (ltb→lt a b t)))
+ltb-scaled A B a b L D l d p q = same-lt A B a b (scaled-lt A B a b L D l p q) (scaled-lt a b A B D L d (sym p) (sym q))
 
 eqb-scaled : (A B a b L D : ℕ) → 0 < L → 0 < D → A * L ≡ a * D → B * L ≡ b * D → eqb A B ≡ eqb a b
-eqb-scaled A B a b L D l d p q =
-    tests-agree (eqb A B) (eqb a b)
-    (λ t. eq→eqb (scaled-eq A B a b L D d p q (eqb→eq A B t)))
-    (λ t. eq→eqb (scaled-eq a b A B D L l (sym p) (sym q) (eqb→eq a b t)))
+eqb-scaled A B a b L D l d p q = same-eq A B a b (scaled-eq A B a b L D d p q) (scaled-eq a b A B D L l (sym p) (sym q))
 
 below-scaled : (s t : Bool) (A B a b L D : ℕ) → 0 < L → 0 < D → A * L ≡ a * D → B * L ≡ b * D → below s A t B ≡ below s a t b
 below-scaled false false A B a b L D l d p q = ltb-scaled A B a b L D l d p q
@@ -54,12 +52,18 @@ level-scaled s t A B a b L D l d p q =
 
 -- ---- numbers compare as their signs and sizes do
 
--- the two sizes that `lt` and `eq` compare, in units
-left : (u L a d e : ℕ) → a * e ≡ u * L → u * d * L ≡ a * (e * d)
-left u L a d e h = mul-right-comm u d L ∙ ap (λ (z : ℕ). z * d) (sym h) ∙ mul-assoc a e d
-
-right : (u L a d e : ℕ) → a * d ≡ u * L → u * e * L ≡ a * (e * d)
-right u L a d e h = left u L a e d h ∙ ap (λ (z : ℕ). a * z) (mul-comm d e)
+-- a / e and b / d over one denominator: the two numbers that `lt` and `eq` compare, in units
+in-units : (P : ℕ → ℕ → ℕ → ℕ → Type 0) → ((A B a b L D : ℕ) → 0 < L → 0 < D → A * L ≡ a * D → B * L ≡ b * D → P A B a b) → (s t : Bool) (m n : ℕ) (e d : ℤ)
+    → T (fits binary32 (fin s m e)) → T (fits binary32 (fin t n d)) → P (m * up e * down d) (n * up d * down e) (unitsOf (fin s m e)) (unitsOf (fin t n d))
+in-units P f s t m n e d p q =
+    let a = unitsOf (fin s m e) in
+    let b = unitsOf (fin t n d) in
+    f (m * up e * down d) (n * up d * down e) a b (2 ^ 149) (down e * down d) (pow-pos 149) (mul-pos (down-pos e) (down-pos d))
+    (over (m * up e) (2 ^ 149) a (down d) (down e) (units-exact s m e p))
+    (over (n * up d) (2 ^ 149) b (down e) (down d) (units-exact t n d q) ∙ ap (λ (z : ℕ). b * z) (mul-comm (down d) (down e)))
+  where
+    over : (u L a d e : ℕ) → a * e ≡ u * L → u * d * L ≡ a * (e * d)
+    over u L a d e h = mul-right-comm u d L ∙ ap (λ (z : ℕ). z * d) (sym h) ∙ mul-assoc a e d
 
 -- an infinity's size B is above every finite one
 inf-below : (B u : ℕ) (s t : Bool) → u < B → s ≡ below s B t u
@@ -86,10 +90,7 @@ lt-below (inf s) (fin t n d) p q = inf-below (2 ^ 277) (unitsOf (fin t n d)) s t
 lt-below (fin s m e) nan p q = absurd (q .real)
 lt-below (fin s m e) (inf t) p q = below-inf (2 ^ 277) (unitsOf (fin s m e)) s t (units-lt s m e (p .fit))
 lt-below (fin s m e) (fin t n d) p q =
-    below-scaled s t (m * up e * down d) (n * up d * down e) (unitsOf (fin s m e)) (unitsOf (fin t n d)) (2 ^ 149) (down e * down d)
-    (pow-pos 149) (mul-pos (down-pos e) (down-pos d))
-    (left (m * up e) (2 ^ 149) (unitsOf (fin s m e)) (down d) (down e) (units-exact s m e (p .fit)))
-    (right (n * up d) (2 ^ 149) (unitsOf (fin t n d)) (down d) (down e) (units-exact t n d (q .fit)))
+    in-units (λ (A B a b : ℕ). below s A t B ≡ below s a t b) (below-scaled s t) s t m n e d (p .fit) (q .fit)
 
 not-level : (s t : Bool) (a b : ℕ) → (a ≡ b → ⊥) → false ≡ level s a t b
 not-level s t a b h = sym (ap (λ (u : Bool). u && (Bool·beq s t || eqb a 0)) (ne-eqb a b h))
@@ -110,18 +111,15 @@ eq-level (fin s m e) nan p q = absurd (q .real)
 eq-level (fin s m e) (inf t) p q =
     not-level s t (unitsOf (fin s m e)) (2 ^ 277) (λ h. apart (2 ^ 277) (unitsOf (fin s m e)) (units-lt s m e (p .fit)) (sym h))
 eq-level (fin s m e) (fin t n d) p q =
-    level-scaled s t (m * up e * down d) (n * up d * down e) (unitsOf (fin s m e)) (unitsOf (fin t n d)) (2 ^ 149) (down e * down d)
-    (pow-pos 149) (mul-pos (down-pos e) (down-pos d))
-    (left (m * up e) (2 ^ 149) (unitsOf (fin s m e)) (down d) (down e) (units-exact s m e (p .fit)))
-    (right (n * up d) (2 ^ 149) (unitsOf (fin t n d)) (down d) (down e) (units-exact t n d (q .fit)))
+    in-units (λ (A B a b : ℕ). level s A t B ≡ level s a t b) (level-scaled s t) s t m n e d (p .fit) (q .fit)
 
 -- ---- and so do their ranks: B - a or B + a, for sizes up to B
 
-below-ranked : (B a b : ℕ) (s t : Bool) → a ≤ B → b ≤ B → below s a t b ≡ ltb (cond s (B - a) (B + a)) (cond t (B - b) (B + b))
-below-ranked B a b false false h k = tests-agree (ltb a b) (ltb (B + a) (B + b)) (λ t. omega (arith, lt→ltb, ltb→lt)) (λ t. omega (arith, lt→ltb, ltb→lt))
-below-ranked B a b false true h k = sym (le-ltb (B + a) (B - b) (omega arith))
-below-ranked B a b true false h k = tests-agree (ltb 0 (a + b)) (ltb (B - a) (B + b)) (λ t. omega (arith, lt→ltb, ltb→lt)) (λ t. omega (arith, lt→ltb, ltb→lt))
-below-ranked B a b true true h k = tests-agree (ltb b a) (ltb (B - a) (B - b)) (λ t. omega (arith, lt→ltb, ltb→lt)) (λ t. omega (arith, lt→ltb, ltb→lt))
+below-ranked : (B a b : ℕ) (s t : Bool) → a ≤ B → b ≤ B → below s a t b ≡ ltb (signed B s a) (signed B t b)
+below-ranked B a b false false h k = same-lt a b (signed B false a) (signed B false b) (λ l. omega arith) (λ l. omega arith)
+below-ranked B a b false true h k = sym (le-ltb (signed B false a) (signed B true b) (omega arith))
+below-ranked B a b true false h k = same-lt 0 (a + b) (signed B true a) (signed B false b) (λ l. omega arith) (λ l. omega arith)
+below-ranked B a b true true h k = same-lt b a (signed B true a) (signed B true b) (λ l. omega arith) (λ l. omega arith)
 
 -- with opposite signs only zeros are equal
 opposite : (a b u v : ℕ) → (a ≡ b → a ≡ 0 → u ≡ v) → (u ≡ v → (a ≡ 0) × (b ≡ 0)) → (eqb a b && eqb a 0) ≡ eqb u v
@@ -130,17 +128,11 @@ opposite a b u v f g =
     (λ t. eq→eqb (f (eqb→eq a b (and-l (eqb a b) (eqb a 0) t)) (eqb→eq a 0 (and-r (eqb a b) (eqb a 0) t))))
     (λ t. let z = g (eqb→eq u v t) in and-i (eqb a b) (eqb a 0) (eq→eqb (z .0 ∙ sym (z .1))) (eq→eqb (z .0)))
 
-level-ranked : (B a b : ℕ) (s t : Bool) → a ≤ B → b ≤ B → level s a t b ≡ eqb (cond s (B - a) (B + a)) (cond t (B - b) (B + b))
-level-ranked B a b false false h k =
-    tests-agree (eqb a b && true) (eqb (B + a) (B + b))
-    (λ t. eq→eqb (ap (λ (z : ℕ). B + z) (eqb→eq a b (and-l (eqb a b) true t))))
-    (λ t. let e : a ≡ b = omega (arith, eqb→eq) in and-i (eqb a b) true (eq→eqb e) tt)
-level-ranked B a b false true h k = opposite a b (B + a) (B - b) (λ e f. omega arith) (λ e. omega arith)
-level-ranked B a b true false h k = opposite a b (B - a) (B + b) (λ e f. omega arith) (λ e. omega arith)
-level-ranked B a b true true h k =
-    tests-agree (eqb a b && true) (eqb (B - a) (B - b))
-    (λ t. eq→eqb (ap (λ (z : ℕ). B - z) (eqb→eq a b (and-l (eqb a b) true t))))
-    (λ t. let e : a ≡ b = omega (arith, eqb→eq) in and-i (eqb a b) true (eq→eqb e) tt)
+level-ranked : (B a b : ℕ) (s t : Bool) → a ≤ B → b ≤ B → level s a t b ≡ eqb (signed B s a) (signed B t b)
+level-ranked B a b false false h k = and-true (eqb a b) ∙ same-eq a b (signed B false a) (signed B false b) (λ e. omega arith) (λ e. omega arith)
+level-ranked B a b false true h k = opposite a b (signed B false a) (signed B true b) (λ e f. omega arith) (λ e. omega arith)
+level-ranked B a b true false h k = opposite a b (signed B true a) (signed B false b) (λ e f. omega arith) (λ e. omega arith)
+level-ranked B a b true true h k = and-true (eqb a b) ∙ same-eq a b (signed B true a) (signed B true b) (λ e. omega arith) (λ e. omega arith)
 
 -- ---- the laws
 

@@ -1,19 +1,19 @@
 -- What follows from the order of ranks: tests on numbers as facts of whole numbers and back, the total order, the greater of two, and that
 -- numbers of one rank are the same float or zeros.
-use mathlib.Core.Path.{_≡_, refl, sym, ap, _∙_}
+use mathlib.Core.Path.{_≡_, refl, sym, _∙_}
 use mathlib.Core.Logic.{_⊎_, inl, inr}
 use mathlib.Core.Bool.{Bool, true, false, cond}
-use Prim.Native.Nat.{ℕ, _+_, _-_, _^_, _≤_, _<_, max}
+use Prim.Native.Nat.{ℕ, _^_, _≤_, _<_, max}
 use native.Mathlib.Nat.{max-eq-left, max-eq-right, le-of-lt}
 use native.Mathlib.Omega.{arith}
 use borrow.Author.Tests.{ltb-true, ltb-false, leb-true, leb-false, eqb-true, lt-ltb, le-ltb, le-leb, lt-leb}
-use lib.Dec.{T, leb, ltb}
+use lib.Dec.{T}
 use lib.IntN.{pos}
 use lib.Ieee.{Float, nan, inf, fin, binary32, lt, le, eq, fits, isNan}
 use lib.Ieee.Scale.{finite}
 use Rattle.floats.specs.Stand.{maxOf}
-use Rattle.float_order.specs.Order.{Number, rank, Zero, RankFollowsOrder}
-use Rattle.float_order.proofs.SizeLaws.{signOf, unitsOf, rank-is, units-le, units-unique}
+use Rattle.float_order.specs.Order.{Number, signOf, unitsOf, signed, rank, Zero, RankFollowsOrder}
+use Rattle.float_order.proofs.SizeLaws.{rank-is, units-le, units-unique}
 use Rattle.float_order.proofs.OrderLaws.{lt-is, le-is, eq-is}
 
 pub finite-number : (x : Float) → T (fits binary32 x) → T (finite x) → Number x
@@ -54,18 +54,18 @@ module _ (x y : Float) (p : Number x) (q : Number y) where
 
 -- ---- a total order, in which only numbers of one rank are at most each other
 
-pub le-total : (x y : Float) → Number x → Number y → (le x y ≡ true) ⊎ (le y x ≡ true)
-le-total x y p q = go (le x y) refl
+pub num-le-total : (x y : Float) → Number x → Number y → (le x y ≡ true) ⊎ (le y x ≡ true)
+num-le-total x y p q = go (le x y) refl
   where
     go : (b : Bool) → le x y ≡ b → (le x y ≡ true) ⊎ (le y x ≡ true)
     go true h = inl h
     go false h = inr (rank-le y x q p (le-of-lt (le-false x y p q h)))
 
-pub le-trans : (x y z : Float) → Number x → Number y → Number z → le x y ≡ true → le y z ≡ true → le x z ≡ true
-le-trans x y z p q r h k = rank-le x z p r (omega (arith, le-true x y p q h, le-true y z q r k))
+pub num-le-trans : (x y z : Float) → Number x → Number y → Number z → le x y ≡ true → le y z ≡ true → le x z ≡ true
+num-le-trans x y z p q r h k = rank-le x z p r (omega (arith, le-true x y p q h, le-true y z q r k))
 
-pub le-antisymm : (x y : Float) → Number x → Number y → le x y ≡ true → le y x ≡ true → rank x ≡ rank y
-le-antisymm x y p q h k = omega (arith, le-true x y p q h, le-true y x q p k)
+pub num-le-antisymm : (x y : Float) → Number x → Number y → le x y ≡ true → le y x ≡ true → rank x ≡ rank y
+num-le-antisymm x y p q h k = omega (arith, le-true x y p q h, le-true y x q p k)
 
 -- ---- the greater of two
 
@@ -93,7 +93,7 @@ zero-number s = record { fit = tt; real = tt }
 no-units : (x : Float) → Number x → unitsOf x ≡ 0 → Zero x
 no-units x p h = (signOf x, units-unique x (fin (signOf x) 0 (pos 0)) p (zero-number (signOf x)) refl h)
 
-same-signed : (B a b : ℕ) (s t : Bool) → a ≤ B → b ≤ B → cond s (B - a) (B + a) ≡ cond t (B - b) (B + b) → ((s ≡ t) × (a ≡ b)) ⊎ ((a ≡ 0) × (b ≡ 0))
+same-signed : (B a b : ℕ) (s t : Bool) → a ≤ B → b ≤ B → signed B s a ≡ signed B t b → ((s ≡ t) × (a ≡ b)) ⊎ ((a ≡ 0) × (b ≡ 0))
 same-signed B a b false false h k e = inl (refl, omega arith)
 same-signed B a b false true h k e = inr (omega arith)
 same-signed B a b true false h k e = inr (omega arith)

@@ -2,7 +2,7 @@
 use mathlib.Core.Path.{_≡_, refl, sym, ap, ap₂, _∙_, subst}
 use mathlib.Core.Bool.{Bool, true, false, _&&_}
 use Prim.Native.Nat.{ℕ, zero, suc, _-_, _*_, _/_, _%_, _^_, _≤_, _<_}
-use native.Mathlib.Nat.{le-refl, le-of-lt, le-of-eq, le-of-suc-le-suc, le-trans, lt-of-lt-of-le, lt-of-not-le, lt-irrefl, mul-right-comm, mul-comm, mul-one, zero-mul, div-one, mul-pos, mul-lt-mul-of-pos-right, le-mul-of-pos-right, div-lt-iff-lt-mul, mul-assoc, mul-div-cancel}
+use native.Mathlib.Nat.{le-of-lt, le-of-eq, le-of-suc-le-suc, le-trans, lt-of-lt-of-le, lt-of-not-le, lt-irrefl, mul-right-comm, mul-comm, mul-one, zero-mul, div-one, mul-pos, mul-lt-mul-of-pos-right, le-mul-of-pos-right, div-lt-iff-lt-mul, mul-assoc, mul-div-cancel}
 use lib.Dec.{T, ltb, leb, eqb, ltb→lt, leb→le, eqb→eq, lit≤}
 use lib.IntN.{ℤ, pos, negsuc}
 use lib.Pow.{pow-pos, pow-add, pow-lt}
@@ -10,19 +10,9 @@ use lib.Ieee.{Float, nan, inf, fin, binary32, up, down, size, fits, isNan, toBit
 use lib.Ieee.Digits.{back}
 use lib.Ieee.Fits.{up-pos, down-pos, and-l, and-r}
 use Rattle.float_order.proofs.ValueLaws.{bitsOf, bits-unique}
-use Rattle.float_order.specs.Order.{Number, signed, rank}
+use Rattle.float_order.specs.Order.{Number, signOf, unitsOf, signed, rank}
 
-abbrev pub signOf : Float → Bool
-signOf nan = true
-signOf (inf s) = s
-signOf (fin s m e) = s
-
-abbrev pub unitsOf : Float → ℕ
-unitsOf nan = 0
-unitsOf (inf s) = 2 ^ 277
-unitsOf (fin s m e) = m * up e * 2 ^ 149 / down e
-
-pub rank-is : (x : Float) → Number x → rank x ≡ signed (signOf x) (unitsOf x)
+pub rank-is : (x : Float) → Number x → rank x ≡ signed (2 ^ 277) (signOf x) (unitsOf x)
 unfolding rank isNan
 rank-is nan p = absurd (p .real)
 rank-is (inf s) p = refl
@@ -63,7 +53,7 @@ units-lt s m e t =
 pub units-le : (x : Float) → Number x → unitsOf x ≤ 2 ^ 277
 unfolding isNan
 units-le nan p = absurd (p .real)
-units-le (inf s) p = le-refl (2 ^ 277)
+units-le (inf s) p = lit≤ tt
 units-le (fin s m e) p = le-of-lt (units-lt s m e (p .fit))
 
 pub bits-is : (x : Float) → Number x → toBits binary32 x ≡ bitsOf (signOf x) (unitsOf x)

@@ -2,9 +2,9 @@
 use mathlib.Core.Path.{_≡_, refl, sym, ap, ap₂, _∙_}
 use mathlib.Core.Bool.{Bool, true, false, true≢false}
 use Prim.Native.Nat.{ℕ, _+_, _*_, _/_, _^_, _≤_, _<_}
-use native.Mathlib.Nat.{add-mul, mul-assoc, mul-comm, mul-one, mul-right-comm, mul-div-cancel, mul-pos, zero-lt-suc, lt-of-mul-lt-mul-right, mul-lt-mul-of-pos-right, eq-of-mul-eq-mul-right}
+use native.Mathlib.Nat.{add-mul, mul-assoc, mul-one, mul-right-comm, mul-div-cancel, mul-pos, zero-lt-suc, lt-of-mul-lt-mul-right, mul-lt-mul-of-pos-right, eq-of-mul-eq-mul-right}
 use native.Mathlib.Omega.{arith}
-use lib.Dec.{T, ltb, ltb→lt, lt→ltb}
+use lib.Dec.{T, ltb}
 use lib.IntN.{pos}
 use lib.Pow.{pow-pos}
 use lib.Ieee.{Float, nan, inf, fin, binary32, up, down, round, sum, add, lt, ofInt, ofBits, fits}
@@ -14,7 +14,7 @@ use lib.Ieee.Fits.{down-pos, ofInt-fits}
 use lib.Ieee.Scale.{finite, round-same}
 use Rattle.float_order.specs.Order.{Number, rank}
 use Rattle.float_order.specs.Whole.{whole, WholeNumbers}
-use Rattle.float_order.proofs.OrderLaws.{tests-agree, lt-is}
+use Rattle.float_order.proofs.OrderLaws.{same-lt, lt-is}
 use Rattle.float_order.proofs.RankLaws.{finite-number}
 
 pub whole-fits : (n : ℕ) → T (fits binary32 (whole n))
@@ -53,9 +53,7 @@ whole-rank n h = value-rank (whole n) n (whole-value n h)
 
 placed-lt : (B L a b : ℕ) → 0 < L → ltb (B + a * L) (B + b * L) ≡ ltb a b
 placed-lt B L a b l =
-    tests-agree (ltb (B + a * L) (B + b * L)) (ltb a b)
-    (λ t. lt→ltb a b (lt-of-mul-lt-mul-right L (omega (arith, ltb→lt))))
-    (λ t. lt→ltb (B + a * L) (B + b * L) (omega (arith, mul-lt-mul-of-pos-right (ltb→lt a b t) l)))
+    same-lt (B + a * L) (B + b * L) a b (λ h. lt-of-mul-lt-mul-right L (omega arith)) (λ h. omega (arith, mul-lt-mul-of-pos-right h l))
 
 pub whole-lt : (a b : ℕ) → a ≤ 2 ^ 24 → b ≤ 2 ^ 24 → lt (whole a) (whole b) ≡ ltb a b
 whole-lt a b p q =
@@ -64,8 +62,8 @@ whole-lt a b p q =
 placed-same : (B L a b : ℕ) → 0 < L → B + a * L ≡ B + b * L → a ≡ b
 placed-same B L a b l h = eq-of-mul-eq-mul-right L l a b (omega arith)
 
-pub whole-unique : (a b : ℕ) → a ≤ 2 ^ 24 → b ≤ 2 ^ 24 → whole a ≡ whole b → a ≡ b
-whole-unique a b p q h = placed-same (2 ^ 277) (2 ^ 149) a b (pow-pos 149) (sym (whole-rank a p) ∙ ap rank h ∙ whole-rank b q)
+pub whole-inj : (a b : ℕ) → a ≤ 2 ^ 24 → b ≤ 2 ^ 24 → whole a ≡ whole b → a ≡ b
+whole-inj a b p q h = placed-same (2 ^ 277) (2 ^ 149) a b (pow-pos 149) (sym (whole-rank a p) ∙ ap rank h ∙ whole-rank b q)
 
 -- ---- sums
 
@@ -103,4 +101,4 @@ unfolding ofInt ofBits
 whole-one = refl
 
 pub whole-numbers : WholeNumbers
-whole-numbers = record { sum = whole-sum; unique = whole-unique; less = whole-lt; none = whole-zero; one = whole-one }
+whole-numbers = record { sum = λ a b h. whole-sum a b (omega arith); unique = whole-inj; less = whole-lt; none = whole-zero; one = whole-one }

@@ -2,11 +2,11 @@
 -- float, counted from 2 ^ 277 so that it is never negative. Both zeros have the same rank.
 use mathlib.Core.Path.{_≡_}
 use mathlib.Core.Logic.{_⊎_}
-use mathlib.Core.Bool.{Bool, true, false, not, cond}
+use mathlib.Core.Bool.{Bool, false, not, cond}
 use Prim.Native.Nat.{ℕ, _+_, _-_, _*_, _/_, _^_, _≤_, _<_, max}
 use lib.Dec.{T, ltb, leb, eqb}
 use lib.IntN.{pos}
-use lib.Ieee.{Float, nan, inf, fin, binary32, up, down, lt, le, eq, fits, isNan, ofInt}
+use lib.Ieee.{Float, nan, inf, fin, binary32, up, down, lt, le, eq, fits, isNan}
 use Rattle.floats.specs.Stand.{maxOf}
 use Rattle.floats.specs.Key.{keyOf}
 
@@ -15,14 +15,25 @@ pub record Number (x : Float) : Type 0 where
   pub fit : T (fits binary32 x)
   pub real : T (not (isNan x))
 
--- the number of n units with the sign s
-abbrev pub signed : Bool → ℕ → ℕ
-signed s n = cond s (2 ^ 277 - n) (2 ^ 277 + n)
+-- the sign of x, and its size in units
+abbrev pub signOf : Float → Bool
+signOf nan = false
+signOf (inf s) = s
+signOf (fin s m e) = s
+
+abbrev pub unitsOf : Float → ℕ
+unitsOf nan = 0
+unitsOf (inf s) = 2 ^ 277
+unitsOf (fin s m e) = m * up e * 2 ^ 149 / down e
+
+-- n units with the sign s, counted from the base b
+abbrev pub signed : ℕ → Bool → ℕ → ℕ
+signed b s n = cond s (b - n) (b + n)
 
 unfoldable pub rank : Float → ℕ
 rank nan = 0
-rank (inf s) = signed s (2 ^ 277)
-rank (fin s m e) = signed s (m * up e * 2 ^ 149 / down e)
+rank (inf s) = signed (2 ^ 277) s (unitsOf (inf s))
+rank (fin s m e) = signed (2 ^ 277) s (unitsOf (fin s m e))
 
 -- x is +0 or -0
 abbrev pub Zero : Float → Type 0
