@@ -1,5 +1,6 @@
 pub mod SidesLaws
 pub mod ShiftedLaws
 pub mod NeighbourLaws
+pub mod ReachLaws
 pub mod HeightsLaws
 pub mod BaseLaws

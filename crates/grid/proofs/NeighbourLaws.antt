@@ -1,70 +1,188 @@
--- The neighbour in a direction, as `neighbour` finds it: from the tables, read as the machine reads them.
-use Prim.Native.Nat.{ℕ, zero, suc, _+_, _*_, _^_, _≤_, _<_}
+-- The neighbour in a direction: where it lies, that it is another cell, and that the direction 9 - d leads back.
+use Prim.Native.Nat.{ℕ, zero, suc, _+_, _-_, _*_, _≤_, _<_}
 use native.Mathlib.Omega.{arith}
-use mathlib.Core.Path.{_≡_, refl, sym, ap, _∙_}
-use mathlib.Core.Bool.{Bool, true, false, cond, _&&_}
-use mathlib.Core.List.{List, [], _∷_}
-use lib.IntN.{ℤ, pos, natAbs}
+use native.Mathlib.Decide.{decLt}
+use mathlib.Core.Path.{_≡_, refl, sym, ap, ap₂, _∙_}
+use mathlib.Core.Logic.{_≢_, _⊎_, inl, inr}
+use mathlib.Core.Bool.{Bool, true, false, cond, _&&_, true≢false}
+use lib.IntN.{ℤ, pos, negsuc, negℤ}
 use lib.ListN.{getD}
-use lib.Dec.{T, ltb, leb, lit≤, leb→le}
-use lib.Ieee.Fits.{and-l, and-r}
-use borrow.Author.Tests.{lt-ltb, le-ltb}
-use mir.Syntax.{w32, w64}
-use mir.Val.{Fits, ofZ, toZ}
-use mir.ValLaws.{toZ-ofZ}
-use Rattle.grid.specs.Directions.{dirX, dirY, shiftedOf, neighbourOf, Steps, Place}
-use Rattle.grid.proofs.SidesLaws.{cells-bound, cell-lt}
-use Rattle.grid.proofs.ShiftedLaws.{small}
+use lib.Dec.{ltb}
+use borrow.Author.Tests.{lt-ltb, le-ltb, ltb-true, ltb-false}
+use Rattle.grid.specs.Sides.{cellOf, columnOf, rowOf}
+use Rattle.grid.specs.Directions.{dirX, dirY, shiftedOf, neighbourOf, neighbourAt, Adjacent}
+use Rattle.grid.specs.Joined.{Mutual, Apart}
+use Rattle.grid.proofs.SidesLaws.{cell-lt, column-cell, row-cell, column-lt, row-lt, cell-back}
 
--- every entry of a table is -1, 0 or 1
-abbrev allSmall : List ℤ → Bool
-allSmall [] = true
-allSmall (z ∷ l) = leb (natAbs z) 1 && allSmall l
+abbrev pub stepX : ℕ → ℤ
+stepX d = getD dirX d (pos 0)
 
-entry-small : (l : List ℤ) → T (allSmall l) → (d : ℕ) → natAbs (getD l d (pos 0)) ≤ 1
-entry-small [] t d = lit≤ tt
-entry-small (z ∷ l) t zero = leb→le (natAbs z) 1 (and-l (leb (natAbs z) 1) (allSmall l) t)
-entry-small (z ∷ l) t (suc d) = entry-small l (and-r (leb (natAbs z) 1) (allSmall l) t) d
+abbrev pub stepY : ℕ → ℤ
+stepY d = getD dirY d (pos 0)
 
--- an entry as the machine reads it
-abbrev readOf : List ℤ → ℕ → ℤ
-readOf l d = toZ w32 (ofZ w32 (getD l d (pos 0)))
+-- what holds of each of the eight directions
+pub each-direction : (P : ℕ → Type 0) → P 1 → P 2 → P 3 → P 4 → P 5 → P 6 → P 7 → P 8 → (d : ℕ) → 1 ≤ d → d ≤ 8 → P d
+each-direction P nw n ne w e sw s se zero lo hi = absurd (omega arith)
+each-direction P nw n ne w e sw s se (suc zero) lo hi = nw
+each-direction P nw n ne w e sw s se (suc (suc zero)) lo hi = n
+each-direction P nw n ne w e sw s se (suc (suc (suc zero))) lo hi = ne
+each-direction P nw n ne w e sw s se (suc (suc (suc (suc zero)))) lo hi = w
+each-direction P nw n ne w e sw s se (suc (suc (suc (suc (suc zero))))) lo hi = e
+each-direction P nw n ne w e sw s se (suc (suc (suc (suc (suc (suc zero)))))) lo hi = sw
+each-direction P nw n ne w e sw s se (suc (suc (suc (suc (suc (suc (suc zero))))))) lo hi = s
+each-direction P nw n ne w e sw s se (suc (suc (suc (suc (suc (suc (suc (suc zero)))))))) lo hi = se
+each-direction P nw n ne w e sw s se (suc (suc (suc (suc (suc (suc (suc (suc (suc d))))))))) lo hi = absurd (omega arith)
 
-read-is : (l : List ℤ) → T (allSmall l) → (d : ℕ) → readOf l d ≡ getD l d (pos 0)
-read-is l t d = toZ-ofZ w32 _ (small _ (entry-small l t d))
+abbrev isZero : ℤ → Bool
+isZero (pos zero) = true
+isZero (pos (suc n)) = false
+isZero (negsuc n) = false
 
-steps : (l : List ℤ) → T (allSmall l) → (d x side : ℕ) → x < side → side ≤ 4096 → Steps x (readOf l d) side
-steps l t d x side h k = record { inside = h; bound = k; small = rw (read-is l t d) (entry-small l t d) }
+-- direction 9 - d is the opposite of d, and d moves in the column or in the row
+record Turns (d : ℕ) : Type 0 where
+  column : stepX (9 - d) ≡ negℤ (stepX d)
+  row : stepY (9 - d) ≡ negℤ (stepY d)
+  moves : (isZero (stepX d) && isZero (stepY d)) ≡ false
 
-module _ {w h x y : ℕ} (p : Place w h x y) (d : ℕ) where
-  pub steps-x : Steps x (readOf dirX d) w
-  steps-x = steps dirX tt d x w (p .column) (p .wide)
+turns : (d : ℕ) → 1 ≤ d → d ≤ 8 → Turns d
+turns =
+    each-direction Turns
+    (record { column = refl; row = refl; moves = refl })
+    (record { column = refl; row = refl; moves = refl })
+    (record { column = refl; row = refl; moves = refl })
+    (record { column = refl; row = refl; moves = refl })
+    (record { column = refl; row = refl; moves = refl })
+    (record { column = refl; row = refl; moves = refl })
+    (record { column = refl; row = refl; moves = refl })
+    (record { column = refl; row = refl; moves = refl })
 
-  pub steps-y : Steps y (readOf dirY d) h
-  steps-y = steps dirY tt d y h (p .row) (p .high)
+-- a step that stays on the side
+pub shift-ahead : (x k side : ℕ) → x + k < side → shiftedOf x (pos k) side ≡ x + k
+shift-ahead x k side h = rw (lt-ltb (x + k) side h)
 
-  pub cells-fit : Fits w64 (w * h)
-  cells-fit = record { fits = omega (arith, cells-bound w h (p .wide) (p .high)) }
+shift-behind : (x k side : ℕ) → k < x → shiftedOf x (negsuc k) side ≡ x - suc k
+shift-behind x k side h = rw (lt-ltb k x h)
 
-  pub cell-fits : (nx ny : ℕ) → nx < w → ny < h → Fits w64 (nx + ny * w)
-  cell-fits nx ny hx hy = record { fits = omega (arith, cell-lt w nx ny hx h hy, cells-bound w h (p .wide) (p .high)) }
+held : (b : Bool) (m side n : ℕ) → cond b m side ≡ n → n < side → (b ≡ true) × (m ≡ n)
+held true m side n e l = (refl, e)
+held false m side n e l = absurd (omega arith)
 
-  module _ (nx : ℕ) (ex : nx ≡ shiftedOf x (readOf dirX d) w) where
-    ex′ : shiftedOf x (getD dirX d (pos 0)) w ≡ nx
-    ex′ = ap (λ (z : ℤ). shiftedOf x z w) (sym (read-is dirX tt d)) ∙ sym ex
+-- and back from where it led
+from-ahead : (x k side n : ℕ) → shiftedOf x (pos k) side ≡ n → n < side → x + k ≡ n
+from-ahead x k side n e l = held (ltb (x + k) side) (x + k) side n e l .1
 
-    pub past-column : w ≤ nx → w * h ≡ neighbourOf w h x y d
+from-behind : (x k side n : ℕ) → shiftedOf x (negsuc k) side ≡ n → n < side → n + suc k ≡ x
+from-behind x k side n e l =
+    let t = held (ltb k x) (x - suc k) side n e l in
+    let u : k < x = ltb-true k x (t .0) in
+    let p : x - suc k ≡ n = t .1 in
+    omega arith
+
+shift-back : (x : ℕ) (z : ℤ) (side n : ℕ) → x < side → shiftedOf x z side ≡ n → n < side → shiftedOf n (negℤ z) side ≡ x
+shift-back x (pos zero) side n h e l =
+    let p : x + 0 ≡ n = from-ahead x 0 side n e l in
+    let q : n + 0 ≡ x = omega arith in
+    shift-ahead n 0 side (omega arith) ∙ q
+shift-back x (pos (suc k)) side n h e l =
+    let p : x + suc k ≡ n = from-ahead x (suc k) side n e l in
+    let q : n - suc k ≡ x = omega arith in
+    shift-behind n k side (omega arith) ∙ q
+shift-back x (negsuc k) side n h e l =
+    let q : n + suc k ≡ x = from-behind x k side n e l in
+    shift-ahead n (suc k) side (omega arith) ∙ q
+
+-- only a step of 0 stays where it is
+shift-still : (x : ℕ) (z : ℤ) (side : ℕ) → x < side → shiftedOf x z side ≡ x → isZero z ≡ true
+shift-still x (pos zero) side h e = refl
+shift-still x (pos (suc k)) side h e = absurd (omega (arith, from-ahead x (suc k) side x e h))
+shift-still x (negsuc k) side h e = absurd (omega (arith, from-behind x k side x e h))
+
+-- the neighbour by the moved column and row
+module _ (w h x y d nx : ℕ) (ex : shiftedOf x (stepX d) w ≡ nx) where
+  pub past-column : w ≤ nx → neighbourOf w h x y d ≡ w * h
+  unfolding neighbourOf
+  past-column l = rw (ex, le-ltb nx w l)
+
+  module _ (ny : ℕ) (ey : shiftedOf y (stepY d) h ≡ ny) (l : nx < w) where
+    pub past-row : h ≤ ny → neighbourOf w h x y d ≡ w * h
     unfolding neighbourOf
-    past-column l = rw (ex′, le-ltb nx w l)
+    past-row m = rw (ex, ey, lt-ltb nx w l, le-ltb ny h m)
 
-    module _ (ny : ℕ) (ey : ny ≡ shiftedOf y (readOf dirY d) h) (l : nx < w) where
-      ey′ : shiftedOf y (getD dirY d (pos 0)) h ≡ ny
-      ey′ = ap (λ (z : ℤ). shiftedOf y z h) (sym (read-is dirY tt d)) ∙ sym ey
+    pub within : ny < h → neighbourOf w h x y d ≡ cellOf w nx ny
+    unfolding neighbourOf
+    within m = rw (ex, ey, lt-ltb nx w l, lt-ltb ny h m)
 
-      pub past-row : h ≤ ny → w * h ≡ neighbourOf w h x y d
-      unfolding neighbourOf
-      past-row m = rw (ex′, ey′, lt-ltb nx w l, le-ltb ny h m)
+-- column nx, row ny is the neighbour in direction d
+pub record Beside (w h x y d nx ny : ℕ) : Type 0 where
+  pub column : shiftedOf x (stepX d) w ≡ nx
+  pub row : shiftedOf y (stepY d) h ≡ ny
+  pub columns : nx < w
+  pub rows : ny < h
 
-      pub inside : ny < h → nx + ny * w ≡ neighbourOf w h x y d
-      unfolding neighbourOf
-      inside m = rw (ex′, ey′, lt-ltb nx w l, lt-ltb ny h m)
+pub beside : {w h x y d nx ny : ℕ} → Beside w h x y d nx ny → neighbourOf w h x y d ≡ cellOf w nx ny
+beside {w} {h} {x} {y} {d} {nx} {ny} b = within w h x y d nx (b .column) ny (b .row) (b .columns) (b .rows)
+
+-- a neighbour lies outside the grid, or beside
+pub outside-or-beside : (w h x y d : ℕ) → (neighbourOf w h x y d ≡ w * h) ⊎ Beside w h x y d (shiftedOf x (stepX d) w) (shiftedOf y (stepY d) h)
+outside-or-beside w h x y d = go (decLt nx w) (decLt ny h)
+  where
+    nx : ℕ
+    nx = shiftedOf x (stepX d) w
+
+    ny : ℕ
+    ny = shiftedOf y (stepY d) h
+
+    go : Dec (nx < w) → Dec (ny < h) → (neighbourOf w h x y d ≡ w * h) ⊎ Beside w h x y d nx ny
+    go (yes p) (yes q) = inr (record { column = refl; row = refl; columns = p; rows = q })
+    go (yes p) (no q) = inl (past-row w h x y d nx refl ny refl p (omega arith))
+    go (no p) q = inl (past-column w h x y d nx refl (omega arith))
+
+pub neighbour-le : (w h c d : ℕ) → neighbourAt w h c d ≤ w * h
+neighbour-le w h c d = go (outside-or-beside w h (columnOf w c) (rowOf w c) d)
+  where
+    go : {nx ny : ℕ} → (neighbourAt w h c d ≡ w * h) ⊎ Beside w h (columnOf w c) (rowOf w c) d nx ny → neighbourAt w h c d ≤ w * h
+    go (inl e) = omega arith
+    go {nx} {ny} (inr b) = omega (arith, beside b, cell-lt w nx ny (b .columns) h (b .rows))
+
+-- a neighbour that is a cell, by its coordinates
+inside-beside : (w h a b d : ℕ) → b < w * h → neighbourAt w h a d ≡ b → Beside w h (columnOf w a) (rowOf w a) d (columnOf w b) (rowOf w b)
+inside-beside w h a b d l e = go (outside-or-beside w h (columnOf w a) (rowOf w a) d)
+  where
+    go : {nx ny : ℕ} → (neighbourAt w h a d ≡ w * h) ⊎ Beside w h (columnOf w a) (rowOf w a) d nx ny → Beside w h (columnOf w a) (rowOf w a) d (columnOf w b) (rowOf w b)
+    go (inl o) = absurd (omega arith)
+    go {nx} {ny} (inr s) =
+        let same : b ≡ cellOf w nx ny = sym e ∙ beside s in
+        let column : columnOf w b ≡ nx = ap (columnOf w) same ∙ column-cell w nx ny (s .columns) in
+        let row : rowOf w b ≡ ny = ap (rowOf w) same ∙ row-cell w nx ny (s .columns) in
+        rw (column, row) s
+
+module _ (w h a d : ℕ) (lo : 1 ≤ d) (hi : d ≤ 8) (l : a < w * h) where
+  back-beside : (b : ℕ) → b < w * h → neighbourAt w h a d ≡ b → Beside w h (columnOf w b) (rowOf w b) (9 - d) (columnOf w a) (rowOf w a)
+  back-beside b m e =
+      let s = inside-beside w h a b d m e in
+      let t = turns d lo hi in
+      record {
+        column = rw (t .column) (shift-back _ (stepX d) w _ (column-lt w h a l) (s .column) (s .columns));
+        row = rw (t .row) (shift-back _ (stepY d) h _ (row-lt w h a l) (s .row) (s .rows));
+        columns = column-lt w h a l;
+        rows = row-lt w h a l;
+      }
+
+  pub neighbour-apart : a ≢ neighbourAt w h a d
+  neighbour-apart e =
+      let s = inside-beside w h a a d l (sym e) in
+      true≢false (sym (ap₂ _&&_ (shift-still _ (stepX d) w (s .columns) (s .column)) (shift-still _ (stepY d) h (s .rows) (s .row))) ∙ turns d lo hi .moves)
+
+pub adjacent-back : (w h : ℕ) → Mutual w h
+adjacent-back w h a b l s =
+    let d = s .direction in
+    record {
+      direction = 9 - d;
+      first = omega arith;
+      last = omega arith;
+      inside = l;
+      leads = beside (back-beside w h a d (s .first) (s .last) l b (s .inside) (s .leads)) ∙ cell-back w a;
+    }
+
+pub adjacent-apart : (w h : ℕ) → Apart w h
+adjacent-apart w h a b l s e = neighbour-apart w h a (s .direction) (s .first) (s .last) l (e ∙ sym (s .leads))

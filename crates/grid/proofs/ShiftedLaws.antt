@@ -1,11 +1,15 @@
--- `shifted` in signed arithmetic: what the machine reads back of x + d is x + d, and its sign and size decide as `shiftedOf` does.
-use Prim.Native.Nat.{ℕ, suc, _-_, _^_, _≤_, _<_}
+-- `shifted` in signed arithmetic: what the machine reads back of x + d is x + d, and its sign and size decide as `shiftedOf` does; the entries
+-- of the direction tables, as the machine reads them, are steps that it takes.
+use Prim.Native.Nat.{ℕ, zero, suc, _-_, _^_, _≤_, _<_}
 use native.Mathlib.Omega.{arith}
-use mathlib.Core.Path.{_≡_, refl, ap, _∙_}
-use mathlib.Core.Bool.{Bool, true, false, cond, true≢false}
+use mathlib.Core.Path.{_≡_, refl, sym, ap, _∙_}
+use mathlib.Core.Bool.{Bool, true, false, cond, _&&_, true≢false}
+use mathlib.Core.List.{List, [], _∷_}
 use lib.IntN.{ℤ, pos, negsuc, natAbs, _+ℤ_}
 use lib.Signed.{mag, ltZ, nonNeg}
-use lib.Dec.{T, ltb}
+use lib.Dec.{T, ltb, leb, lit≤, leb→le}
+use lib.Ieee.Fits.{and-l, and-r}
+use lib.ListN.{getD}
 use borrow.Author.Tests.{ltb-true, ltb-false, lt-ltb, le-ltb}
 use mir.Syntax.{w32, w64}
 use mir.Val.{Fits, SFits, ofZ, toZ}
@@ -21,15 +25,15 @@ mag-sum x (negsuc k) hx hd = go (ltb x (suc k))
     go true = omega arith
     go false = omega arith
 
-pub small : (d : ℤ) → natAbs d ≤ 1 → SFits w32 d
+small : (d : ℤ) → natAbs d ≤ 1 → SFits w32 d
 small (pos k) h = record { sfits = omega arith }
 small (negsuc k) h = record { sfits = omega arith }
 
 -- what the machine makes of x + d, and reads back of its bits
-abbrev sumOf : ℕ → ℤ → ℤ
+abbrev pub sumOf : ℕ → ℤ → ℤ
 sumOf x d = toZ w32 x +ℤ toZ w32 (ofZ w32 d)
 
-abbrev readOf : ℕ → ℤ → ℤ
+abbrev pub readOf : ℕ → ℤ → ℤ
 readOf x d = toZ w32 (ofZ w32 (sumOf x d))
 
 -- z in 0 … side - 1, or the side
@@ -90,3 +94,27 @@ module _ {x : ℕ} {d : ℤ} {side : ℕ} (p : Steps x d side) where
       go : (z : ℤ) → ltZ z (pos 0) ≡ false → side ≤ natAbs z → side ≡ held z side
       go (pos n) t i = rw (le-ltb n side i)
       go (negsuc n) t i = absurd (true≢false t)
+
+-- every entry of a table is -1, 0 or 1
+abbrev allSmall : List ℤ → Bool
+allSmall [] = true
+allSmall (z ∷ l) = leb (natAbs z) 1 && allSmall l
+
+entry-small : (l : List ℤ) → T (allSmall l) → (d : ℕ) → natAbs (getD l d (pos 0)) ≤ 1
+entry-small [] t d = lit≤ tt
+entry-small (z ∷ l) t zero = leb→le (natAbs z) 1 (and-l (leb (natAbs z) 1) (allSmall l) t)
+entry-small (z ∷ l) t (suc d) = entry-small l (and-r (leb (natAbs z) 1) (allSmall l) t) d
+
+-- an entry as the machine reads it
+abbrev pub entryOf : List ℤ → ℕ → ℤ
+entryOf l d = toZ w32 (ofZ w32 (getD l d (pos 0)))
+
+module _ (l : List ℤ) (t : T (allSmall l)) (d x side : ℕ) where
+  entry-is : entryOf l d ≡ getD l d (pos 0)
+  entry-is = toZ-ofZ w32 _ (small _ (entry-small l t d))
+
+  pub entry-steps : x < side → side ≤ 4096 → Steps x (entryOf l d) side
+  entry-steps h k = record { inside = h; bound = k; small = rw entry-is (entry-small l t d) }
+
+  pub entry-shifts : {r : ℕ} → r ≡ shiftedOf x (entryOf l d) side → shiftedOf x (getD l d (pos 0)) side ≡ r
+  entry-shifts e = sym (e ∙ ap (λ (z : ℤ). shiftedOf x z side) entry-is)

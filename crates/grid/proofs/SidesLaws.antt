@@ -2,12 +2,11 @@
 use Prim.Native.Nat.{ℕ, zero, suc, _+_, _*_, _^_, _≤_, _<_}
 use native.Mathlib.Nat.{mul-comm, mul-le-mul, mod-lt, mod-add-div', div-lt-iff-lt-mul, zero-mul}
 use native.Mathlib.Omega.{arith}
-use mathlib.Core.Path.{_≡_, sym, _∙_, ap}
-use mathlib.Core.Logic.{_≢_}
+use mathlib.Core.Path.{_≡_, _∙_, ap}
 use lib.Arith.{digits-lt, digits-div, digits-mod}
 use mir.Syntax.{w64}
 use mir.Val.{Fits}
-use Rattle.grid.specs.Sides.{cellOf, columnOf, rowOf}
+use Rattle.grid.specs.Sides.{cellOf, columnOf, rowOf, Coordinates}
 
 module _ (w x y : ℕ) (hx : x < w) where
   swapped : cellOf w x y ≡ y * w + x
@@ -40,3 +39,17 @@ module _ (w h c : ℕ) (l : c < w * h) where
 -- a grid in range has at most 2 ^ 24 cells
 pub cells-bound : (w h : ℕ) → w ≤ 4096 → h ≤ 4096 → w * h ≤ 2 ^ 24
 cells-bound w h hw hh = mul-le-mul hw hh
+
+pub cells-fit : (w h : ℕ) → w ≤ 4096 → h ≤ 4096 → Fits w64 (w * h)
+cells-fit w h hw hh = record { fits = omega (arith, cells-bound w h hw hh) }
+
+pub coordinates : (w h : ℕ) → Coordinates w h
+coordinates w h =
+    record {
+      column = column-cell w;
+      row = row-cell w;
+      cell = cell-back w;
+      inside = λ x y hx hy. cell-lt w x y hx h hy;
+      columns = column-lt w h;
+      rows = row-lt w h;
+    }

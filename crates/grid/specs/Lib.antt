@@ -3,3 +3,4 @@ pub mod Sides
 pub mod Directions
 pub mod Heights
 pub mod Base
+pub mod Joined

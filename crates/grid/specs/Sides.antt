@@ -1,5 +1,6 @@
 -- Document 01: cells are numbered i = x + y × w, on a grid of w columns and h rows.
-use Prim.Native.Nat.{ℕ, _+_, _*_, _/_, _%_}
+use Prim.Native.Nat.{ℕ, _+_, _*_, _/_, _%_, _<_}
+use mathlib.Core.Path.{_≡_}
 use mathlib.Core.Bool.{Bool, _||_}
 use lib.Dec.{eqb, ltb}
 
@@ -12,6 +13,15 @@ columnOf w c = c % w
 
 abbrev pub rowOf : ℕ → ℕ → ℕ
 rowOf w c = c / w
+
+-- columns, rows and cells fit together: each pair of a column and a row has one cell, and each cell one such pair
+pub record Coordinates (w h : ℕ) : Type 0 where
+  pub column : (x y : ℕ) → x < w → columnOf w (cellOf w x y) ≡ x
+  pub row : (x y : ℕ) → x < w → rowOf w (cellOf w x y) ≡ y
+  pub cell : (c : ℕ) → cellOf w (columnOf w c) (rowOf w c) ≡ c
+  pub inside : (x y : ℕ) → x < w → y < h → cellOf w x y < w * h
+  pub columns : (c : ℕ) → c < w * h → columnOf w c < w
+  pub rows : (c : ℕ) → c < w * h → rowOf w c < h
 
 -- refusal 1: a side outside 1 to 4,096
 abbrev pub badSide : ℕ → Bool
