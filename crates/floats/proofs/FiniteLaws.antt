@@ -1,8 +1,13 @@
--- Finite as two comparisons with the infinities.
+-- Finite as two comparisons with the infinities; and that every stand-in's result is a binary32 value, finite where max's two numbers are.
+use Prim.Native.Nat.{ℕ, _+_, _-_, _*_, _/_}
 use mathlib.Core.Path.{_≡_, refl, sym}
-use mathlib.Core.Bool.{Bool, true, false}
-use lib.Ieee.{Float, nan, inf, fin, lt}
+use mathlib.Core.Bool.{Bool, true, false, cond}
+use lib.Dec.{T}
+use lib.Ieee.{Float, nan, inf, fin, binary32, up, down, lt, le, fits}
+use lib.Ieee.Fits.{cond-fits, nan-fits, inf-fits, round-fits, sub-fits}
+use lib.Ieee.Exact.{HasValue}
 use lib.Ieee.Scale.{finite}
+use Rattle.floats.specs.Stand.{maxOf, truncOf, roundOf, ceilOf, fractOf}
 
 -- above -∞: finite exactly if below +∞
 pub above-low : (x : Float) → lt (inf true) x ≡ true → lt x (inf false) ≡ finite x
@@ -19,3 +24,39 @@ not-above-low nan h = refl
 not-above-low (inf true) h = refl
 not-above-low (inf false) h = refl
 not-above-low (fin s m e) h = sym h
+
+-- ---- what the stand-ins keep
+pub maxOf-finite : (a b : Float) → T (finite a) → T (finite b) → T (finite (maxOf a b))
+maxOf-finite a b p q = go (le b a)
+  where
+    go : (t : Bool) → T (finite (cond t a b))
+    go true = p
+    go false = q
+
+pub maxOf-fits : (a b : Float) → T (fits binary32 a) → T (fits binary32 b) → T (fits binary32 (maxOf a b))
+maxOf-fits a b p q = cond-fits binary32 (le b a) a b p q
+
+pub truncOf-fits : (x : Float) → T (fits binary32 (truncOf x))
+unfolding truncOf
+truncOf-fits nan = nan-fits binary32
+truncOf-fits (inf s) = inf-fits binary32 s
+truncOf-fits (fin s m e) = round-fits binary32 s (m * up e / down e) 1
+
+pub roundOf-fits : (x : Float) → T (fits binary32 (roundOf x))
+unfolding roundOf
+roundOf-fits nan = nan-fits binary32
+roundOf-fits (inf s) = inf-fits binary32 s
+roundOf-fits (fin s m e) = round-fits binary32 s ((2 * (m * up e) + down e) / (2 * down e)) 1
+
+pub ceilOf-fits : (x : Float) → T (fits binary32 (ceilOf x))
+unfolding ceilOf
+ceilOf-fits nan = nan-fits binary32
+ceilOf-fits (inf s) = inf-fits binary32 s
+ceilOf-fits (fin true m e) = round-fits binary32 true (m * up e / down e) 1
+ceilOf-fits (fin false m e) = round-fits binary32 false ((m * up e + (down e - 1)) / down e) 1
+
+pub fractOf-fits : (x : Float) → T (fits binary32 (fractOf x))
+fractOf-fits x = sub-fits binary32 x (truncOf x)
+
+pub value-finite : (x : Float) (s : Bool) (a c : ℕ) → HasValue x s a c → T (finite x)
+value-finite (fin t m e) s a c v = tt

@@ -1,7 +1,7 @@
 -- A finite float as the fraction that it equals (`HasValue x s a c`, lib.Ieee.Exact): a format writes each fraction in one way, what it holds rounds to
 -- itself, and comparisons and cuts are those of the fractions.
 use mathlib.Core.Path.{_≡_, refl, sym, ap, _∙_, subst}
-use mathlib.Core.Bool.{Bool, true, false, not, _&&_, _||_, Bool·beq, cond, true≢false, false≢true}
+use mathlib.Core.Bool.{Bool, true, false, _&&_, _||_, Bool·beq, cond, true≢false, false≢true}
 use Prim.Native.Nat.{ℕ, zero, suc, _+_, _-_, _*_, _/_, _%_, _^_, _≤_, _<_, min}
 use native.Mathlib.Nat.{le-of-eq, le-of-suc-le-suc, lt-of-lt-of-le, lt-of-not-le, lt-irrefl, zero-mul, mul-one, one-mul, mul-comm, mul-assoc, mul-left-comm, mul-right-comm, mul-pos, add-mul, mul-lt-mul-of-pos-right, lt-of-mul-lt-mul-right, eq-of-mul-eq-mul-right, le-div-iff-mul-le}
 use native.Mathlib.Omega.{arith}
@@ -10,11 +10,15 @@ use lib.IntN.{ℤ, pos, negsuc}
 use lib.Dec.{T, leb, ltb, eqb, ltb→lt, lt→ltb, leb→le, eqb→eq}
 use lib.Pow.{pow-add, pow-pos, pow-lt}
 use lib.Ieee.{Float, nan, inf, fin, Format, prec, emax, low, up, down, size, hid, top, round, sum, add, below, level, lt, eq, le, fits, ofBits, toBits, toUnsigned}
-use lib.Ieee.Fits.{up-pos, down-pos, eq→eqb, and-l, and-r, round-fits}
+use lib.Ieee.Fits.{down-pos, eq→eqb, and-l, and-r, round-fits}
 use lib.Ieee.Exact.{HasValue, round-exact}
 use lib.Ieee.Nearest.{div-same}
 use lib.Ieee.Bits.{ofBits-toBits}
 use lib.Ieee.Scale.{round-same}
+
+-- a test that passed, as `good` has it of a parameter
+pub holds : {b : Bool} → b ≡ true → T b
+holds h = subst T (sym h) tt
 
 -- ---- one way to write each value: the bits are those of the fraction
 abbrev bitsAt : Format → Bool → ℕ → ℕ

@@ -1,19 +1,17 @@
 -- trunc, round and ceil: from 2^23 on every binary32 number is whole; below it the whole number is that of the cut fraction; the sign goes along.
 use mathlib.Core.Path.{_≡_, refl, sym, ap, _∙_, subst}
 use mathlib.Core.Bool.{Bool, true, false, not, _&&_, _||_, cond, true≢false, false≢true}
-use mathlib.Core.Logic.{_⊎_, inl, inr}
-use Prim.Native.Nat.{ℕ, zero, suc, _+_, _-_, _*_, _/_, _%_, _^_, _≤_, _<_, min}
-use native.Mathlib.Nat.{le-of-eq, le-of-lt, lt-of-lt-of-le, le-refl, not-le-of-lt, mul-one, mul-comm, zero-mul, mul-pos, mul-le-mul-right, div-one, div-lt-iff-lt-mul, div-div-eq-div-mul, add-div-right, div-mul-le-self, lt-div-mul-add, pow-succ', div-eq-of-lt-le}
+use Prim.Native.Nat.{ℕ, zero, suc, _+_, _-_, _*_, _/_, _^_, _≤_, _<_, min}
+use native.Mathlib.Nat.{le-of-eq, le-of-lt, lt-of-lt-of-le, mul-one, mul-comm, zero-mul, mul-pos, mul-le-mul-right, div-one, div-lt-iff-lt-mul, div-div-eq-div-mul, add-div-right, div-mul-le-self, lt-div-mul-add, pow-succ', div-eq-of-lt-le, div-le-of-le-mul}
 use native.Mathlib.Omega.{arith}
-use borrow.Author.Tests.{ltb-true, ltb-false, eqb-false, le-ltb}
+use borrow.Author.Tests.{ltb-true, ltb-false, eqb-false}
 use lib.IntN.{ℤ, pos, negsuc}
 use lib.Dec.{T, leb, ltb, eqb, ltb→lt, lt→ltb, nltb→le, eqb→eq, le→leb, leb→le, nleb→lt, lit≤}
 use lib.Pow.{pow-pos}
-use lib.Ieee.{Float, nan, inf, fin, Format, binary32, prec, emax, low, up, down, odd, units, round, neg, sum, add, below, lt, eq, le, fits, inFloat, ofInt, toUnsigned}
+use lib.Ieee.{Float, nan, inf, fin, Format, binary32, prec, emax, low, up, down, odd, units, round, neg, add, below, lt, le, fits, inFloat, ofInt, toUnsigned}
 use lib.Ieee.Fits.{down-pos}
 use lib.Ieee.Exact.{HasValue}
 use lib.Ieee.Back.{round-whole}
-use lib.Ieee.Nearest.{div-same}
 use lib.Ieee.Scale.{round-same}
 use lib.Ieee.Positive.{above, first-pos}
 use Rattle.floats.specs.Stand.{truncOf, roundOf, ceilOf}
@@ -45,17 +43,17 @@ neg-neg (inf false) = refl
 neg-neg (fin true m e) = refl
 neg-neg (fin false m e) = refl
 
-pub trunc-neg : (x : Float) → truncOf (neg x) ≡ neg (truncOf x)
+pub truncOf-neg : (x : Float) → truncOf (neg x) ≡ neg (truncOf x)
 unfolding truncOf neg
-trunc-neg nan = refl
-trunc-neg (inf s) = refl
-trunc-neg (fin s m e) = round-neg binary32 s (m * up e / down e) 1
+truncOf-neg nan = refl
+truncOf-neg (inf s) = refl
+truncOf-neg (fin s m e) = round-neg binary32 s (m * up e / down e) 1
 
-pub nearest-neg : (x : Float) → roundOf (neg x) ≡ neg (roundOf x)
+pub roundOf-neg : (x : Float) → roundOf (neg x) ≡ neg (roundOf x)
 unfolding roundOf neg
-nearest-neg nan = refl
-nearest-neg (inf s) = refl
-nearest-neg (fin s m e) = round-neg binary32 s ((2 * (m * up e) + down e) / (2 * down e)) 1
+roundOf-neg nan = refl
+roundOf-neg (inf s) = refl
+roundOf-neg (fin s m e) = round-neg binary32 s ((2 * (m * up e) + down e) / (2 * down e)) 1
 
 -- ---- neither above nor below zero: a zero or a NaN
 zero-float : (s : Bool) (m : ℕ) (e : ℤ) → T (fits binary32 (fin s m e)) → m * up e ≡ 0 → fin s m e ≡ fin s 0 (pos 0)
@@ -82,13 +80,13 @@ module _ (g : Float → Float) (n : nan ≡ g nan) (z : (s : Bool) → fin s 0 (
   kept-zero (fin true m e) t p q = keeps true m e (zero-float true m e t (none-below (m * up e) (0 * down e) (zero-mul (down e)) q))
   kept-zero (fin false m e) t p q = keeps false m e (zero-float false m e t (none (m * up e) (0 * down e) (zero-mul (down e)) p))
 
-pub trunc-zero : (x : Float) → T (fits binary32 x) → lt (fin false 0 (pos 0)) x ≡ false → lt x (fin false 0 (pos 0)) ≡ false → x ≡ truncOf x
+pub truncOf-zero : (x : Float) → T (fits binary32 x) → lt (fin false 0 (pos 0)) x ≡ false → lt x (fin false 0 (pos 0)) ≡ false → x ≡ truncOf x
 unfolding truncOf round
-trunc-zero = kept-zero truncOf refl (λ (s : Bool). refl)
+truncOf-zero = kept-zero truncOf refl (λ (s : Bool). refl)
 
-pub nearest-zero : (x : Float) → T (fits binary32 x) → lt (fin false 0 (pos 0)) x ≡ false → lt x (fin false 0 (pos 0)) ≡ false → x ≡ roundOf x
+pub roundOf-zero : (x : Float) → T (fits binary32 x) → lt (fin false 0 (pos 0)) x ≡ false → lt x (fin false 0 (pos 0)) ≡ false → x ≡ roundOf x
 unfolding roundOf round
-nearest-zero = kept-zero roundOf refl (λ (s : Bool). refl)
+roundOf-zero = kept-zero roundOf refl (λ (s : Bool). refl)
 
 -- above zero, by the two tests
 some : (a z : ℕ) → z ≡ 0 → ltb z (a * 1) ≡ true → 0 < a
@@ -166,15 +164,15 @@ half-up a = omega arith
 up-none : (a : ℕ) → (a + (1 - 1)) / 1 ≡ a
 up-none a = omega arith
 
-pub trunc-big : (x : Float) → T (above x) → T (fits binary32 x) → le big x ≡ true → x ≡ truncOf x
+pub truncOf-big : (x : Float) → T (above x) → T (fits binary32 x) → le big x ≡ true → x ≡ truncOf x
 unfolding truncOf
-trunc-big (inf s) a t h = refl
-trunc-big (fin false m e) a t h = sym (stays false m e (λ (d : ℕ). m * up e / d) t (div-one (m * up e)) (at-least m e h))
+truncOf-big (inf s) a t h = refl
+truncOf-big (fin false m e) a t h = sym (stays false m e (λ (d : ℕ). m * up e / d) t (div-one (m * up e)) (at-least m e h))
 
-pub nearest-big : (x : Float) → T (above x) → T (fits binary32 x) → le big x ≡ true → x ≡ roundOf x
+pub roundOf-big : (x : Float) → T (above x) → T (fits binary32 x) → le big x ≡ true → x ≡ roundOf x
 unfolding roundOf
-nearest-big (inf s) a t h = refl
-nearest-big (fin false m e) a t h = sym (stays false m e (λ (d : ℕ). (2 * (m * up e) + d) / (2 * d)) t (half-up (m * up e)) (at-least m e h))
+roundOf-big (inf s) a t h = refl
+roundOf-big (fin false m e) a t h = sym (stays false m e (λ (d : ℕ). (2 * (m * up e) + d) / (2 * d)) t (half-up (m * up e)) (at-least m e h))
 
 -- ---- below 2^23 the cut fraction is a whole number that binary32 holds
 -- t is the cut of a / d, which is below 2^23
@@ -192,10 +190,10 @@ as-float t h = (le→leb t (2 ^ 24) h, refl)
 wider : (t : ℕ) → t < 2 ^ 23 → t < 2 ^ 24
 wider t h = omega arith
 
-pub trunc-cut : (x : Float) → T (above x) → le big x ≡ false → (t : ℕ) → t ≡ toUnsigned 64 x → T (inFloat binary32 (pos t)) × (ofInt binary32 (pos t) ≡ truncOf x)
+pub truncOf-cut : (x : Float) → T (above x) → le big x ≡ false → (t : ℕ) → t ≡ toUnsigned 64 x → T (inFloat binary32 (pos t)) × (ofInt binary32 (pos t) ≡ truncOf x)
 unfolding truncOf
-trunc-cut (inf false) a h t r = absurd (true≢false (unfold le in h))
-trunc-cut (fin false m e) a h t r =
+truncOf-cut (inf false) a h t r = absurd (true≢false (unfold le in h))
+truncOf-cut (fin false m e) a h t r =
     let l : m * up e / down e < 2 ^ 24 = wider (m * up e / down e) (less-cut (m * up e) (down e) (down-pos e) (under m e h)) in
     let is : t ≡ m * up e / down e = r ∙ cut-value 64 (fin false m e) (m * up e) (down e) (down-pos e) (refl, refl) ∙ uncapped (m * up e / down e) l in
     subst (λ (z : ℕ). T (inFloat binary32 (pos z)) × (ofInt binary32 (pos z) ≡ round binary32 false (m * up e / down e) 1)) (sym is) (as-float (m * up e / down e) (le-of-lt l))
@@ -219,11 +217,11 @@ doubled m e h g =
 half-of : (a d : ℕ) → 0 < d → (2 * a / d + 1) / 2 ≡ (2 * a + d) / (2 * d)
 half-of a d D = ap (λ (z : ℕ). z / 2) (sym (add-div-right (2 * a) D)) ∙ div-div-eq-div-mul (2 * a + d) d 2 ∙ ap (λ (z : ℕ). (2 * a + d) / z) (mul-comm d 2)
 
-pub nearest-cut : (x : Float) → T (above x) → T (fits binary32 x) → le big x ≡ false → (t : ℕ) → t ≡ toUnsigned 64 (add binary32 x x)
+pub roundOf-cut : (x : Float) → T (above x) → T (fits binary32 x) → le big x ≡ false → (t : ℕ) → t ≡ toUnsigned 64 (add binary32 x x)
     → (t < 2 ^ 24) × T (inFloat binary32 (pos ((t + 1) / 2))) × (ofInt binary32 (pos ((t + 1) / 2)) ≡ roundOf x)
 unfolding roundOf
-nearest-cut (inf false) a f h t r = absurd (true≢false (unfold le in h))
-nearest-cut (fin false m e) a f h t r =
+roundOf-cut (inf false) a f h t r = absurd (true≢false (unfold le in h))
+roundOf-cut (fin false m e) a f h t r =
     let n = 2 * (m * up e) / down e in
     let g : m * up e < 2 ^ 23 * down e = under m e h in
     let l : n < 2 ^ 24 = div-lt-iff-lt-mul (down-pos e) .1 (twice-lt (m * up e) (down e) g) in
@@ -237,6 +235,36 @@ nearest-cut (fin false m e) a f h t r =
 
     half-le : (n : ℕ) → n < 2 ^ 24 → (n + 1) / 2 ≤ 2 ^ 24
     half-le n h = omega arith
+
+-- ---- the rounding in the definitions is exact: trunc, round and ceil have the whole number as their value, whatever the finite float
+module _ (s : Bool) (m : ℕ) (e : ℤ) (t : T (fits binary32 (fin s m e))) where
+  whole-value : (q : ℕ → ℕ) → q 1 ≡ m * up e → (m * up e < 2 ^ 23 * down e → q (down e) ≤ 2 ^ 24) → HasValue (round binary32 s (q (down e)) 1) s (q (down e)) 1
+  whole-value q one small = go (leb (2 ^ 23 * down e) (m * up e)) (leb→le (2 ^ 23 * down e) (m * up e)) (nleb→lt (2 ^ 23 * down e) (m * up e))
+    where
+      go : (b : Bool) → (T b → 2 ^ 23 * down e ≤ m * up e) → (T (not b) → m * up e < 2 ^ 23 * down e) → HasValue (round binary32 s (q (down e)) 1) s (q (down e)) 1
+      go true h k =
+          let d : down e ≡ 1 = whole-above m e (held binary32 s m e t) (h tt) in
+          subst (λ (x : Float). HasValue x s (q (down e)) 1) (sym (stays s m e q t one (h tt)))
+          (refl, mul-one (m * up e) ∙ sym one ∙ ap q (sym d) ∙ sym (mul-one (q (down e))) ∙ ap (λ (z : ℕ). q (down e) * z) (sym d))
+      go false h k = round-whole binary32 s (q (down e)) (small (k tt))
+
+  pub truncOf-value : HasValue (truncOf (fin s m e)) s (m * up e / down e) 1
+  unfolding truncOf
+  truncOf-value = whole-value (λ (d : ℕ). m * up e / d) (div-one (m * up e)) (λ h. le-of-lt (wider (m * up e / down e) (less-cut (m * up e) (down e) (down-pos e) h)))
+
+  pub roundOf-value : HasValue (roundOf (fin s m e)) s ((2 * (m * up e) + down e) / (2 * down e)) 1
+  unfolding roundOf
+  roundOf-value = whole-value (λ (d : ℕ). (2 * (m * up e) + d) / (2 * d)) (half-up (m * up e)) (λ h. div-le-of-le-mul (2 * down e) (most (m * up e) (down e) h))
+    where
+      most : (a d : ℕ) → a < 2 ^ 23 * d → 2 * a + d ≤ 2 * d * 2 ^ 24
+      most a d h = omega arith
+
+pub ceilOf-value : (m : ℕ) (e : ℤ) → T (fits binary32 (fin false m e)) → HasValue (ceilOf (fin false m e)) false ((m * up e + (down e - 1)) / down e) 1
+unfolding ceilOf
+ceilOf-value m e t = whole-value false m e t (λ (d : ℕ). (m * up e + (d - 1)) / d) (up-none (m * up e)) (λ h. div-le-of-le-mul (down e) (most (m * up e) (down e) h))
+  where
+    most : (a d : ℕ) → a < 2 ^ 23 * d → a + (d - 1) ≤ d * 2 ^ 24
+    most a d h = omega arith
 
 -- ---- ceil: one more than the cut, unless nothing was cut
 module _ (a d : ℕ) (D : 0 < d) where
@@ -258,75 +286,45 @@ module _ (a d : ℕ) (D : 0 < d) where
       upper : (t : ℕ) → a ≤ t * d → a + (d - 1) < (t + 1) * d
       upper t h = omega arith
 
--- the cut against the float itself
-cut-lt : (s : Bool) (m : ℕ) (e : ℤ) → m * up e < 2 ^ 23 * down e → lt (truncOf (fin s m e)) (fin s m e) ≡ below s (m * up e / down e * down e) s (m * up e * 1)
-unfolding truncOf
-cut-lt s m e h =
-    let t = m * up e / down e in
-    lt-values (round binary32 s t 1) (fin s m e) s s t 1 (m * up e) (down e) (pow-pos 0) (down-pos e)
-    (round-whole binary32 s t (le-of-lt (wider t (less-cut (m * up e) (down e) (down-pos e) h)))) (refl, refl)
+-- the cut against the float itself, and one more
+module _ (s : Bool) (m : ℕ) (e : ℤ) (t : T (fits binary32 (fin s m e))) where
+  cut-lt : lt (truncOf (fin s m e)) (fin s m e) ≡ below s (m * up e / down e * down e) s (m * up e * 1)
+  cut-lt = lt-values (truncOf (fin s m e)) (fin s m e) s s (m * up e / down e) 1 (m * up e) (down e) (pow-pos 0) (down-pos e) (truncOf-value s m e t) (refl, refl)
 
-self : (s : Bool) (m : ℕ) (e : ℤ) → lt (fin s m e) (fin s m e) ≡ false
-unfolding lt
-self true m e = le-ltb (m * up e * down e) (m * up e * down e) (le-refl (m * up e * down e))
-self false m e = le-ltb (m * up e * down e) (m * up e * down e) (le-refl (m * up e * down e))
+less-than : (p q : ℕ) → ltb p (q * 1) ≡ true → p < q
+less-than p q l = omega (arith, ltb-true p (q * 1) l)
 
--- a float is 2^23 at least, in size, and then its own cut, or it is less
-by-size : (s : Bool) (m : ℕ) (e : ℤ) → T (fits binary32 (fin s m e)) → ((2 ^ 23 * down e ≤ m * up e) × (truncOf (fin s m e) ≡ fin s m e)) ⊎ (m * up e < 2 ^ 23 * down e)
-unfolding truncOf
-by-size s m e t = go (leb (2 ^ 23 * down e) (m * up e)) (leb→le (2 ^ 23 * down e) (m * up e)) (nleb→lt (2 ^ 23 * down e) (m * up e))
-  where
-    go : (b : Bool) → (T b → 2 ^ 23 * down e ≤ m * up e) → (T (not b) → m * up e < 2 ^ 23 * down e) → ((2 ^ 23 * down e ≤ m * up e) × (round binary32 s (m * up e / down e) 1 ≡ fin s m e)) ⊎ (m * up e < 2 ^ 23 * down e)
-    go true p q = inl (p tt, stays s m e (λ (d : ℕ). m * up e / d) t (div-one (m * up e)) (p tt))
-    go false p q = inr (q tt)
+not-less : (p q : ℕ) → ltb p (q * 1) ≡ false → q ≤ p
+not-less p q l = omega (arith, ltb-false p (q * 1) l)
 
--- only a float above zero and below 2^23 is above its cut
-above-cut : (s : Bool) (m : ℕ) (e : ℤ) → T (fits binary32 (fin s m e)) → lt (truncOf (fin s m e)) (fin s m e) ≡ true → (s ≡ false) × (m * up e < 2 ^ 23 * down e) × (m * up e / down e * down e < m * up e)
-above-cut s m e t h = go s (by-size s m e t) h (cut-lt s m e)
-  where
-    a : ℕ
-    a = m * up e
+never-less : (p q : ℕ) → p ≤ q → ltb (q * 1) p ≡ true → ⊥
+never-less p q k l = omega (arith, ltb-true (q * 1) p l)
 
-    d : ℕ
-    d = down e
-
-    more : (p q : ℕ) → ltb p (q * 1) ≡ true → p < q
-    more p q l = omega (arith, ltb-true p (q * 1) l)
-
-    no : (p q : ℕ) → p ≤ q → ltb (q * 1) p ≡ true → ⊥
-    no p q k l = omega (arith, ltb-true (q * 1) p l)
-
-    go : (s : Bool) → ((2 ^ 23 * d ≤ a) × (truncOf (fin s m e) ≡ fin s m e)) ⊎ (a < 2 ^ 23 * d) → lt (truncOf (fin s m e)) (fin s m e) ≡ true
-        → (a < 2 ^ 23 * d → lt (truncOf (fin s m e)) (fin s m e) ≡ below s (a / d * d) s (a * 1)) → (s ≡ false) × (a < 2 ^ 23 * d) × (a / d * d < a)
-    go s (inl g) h k = absurd (true≢false (sym h ∙ ap (λ (z : Float). lt z (fin s m e)) (g .1) ∙ self s m e))
-    go true (inr g) h k = absurd (no (a / d * d) a (div-mul-le-self a d) (sym (k g) ∙ h))
-    go false (inr g) h k = (refl, g, more (a / d * d) a (sym (k g) ∙ h))
-
-pub ceil-up : (x : Float) → T (fits binary32 x) → lt (truncOf x) x ≡ true → add binary32 (truncOf x) (fin false 1 (pos 0)) ≡ ceilOf x
-unfolding truncOf ceilOf
-ceil-up nan t h = absurd (false≢true (unfold lt in h))
-ceil-up (inf true) t h = absurd (false≢true (unfold lt in h))
-ceil-up (inf false) t h = absurd (false≢true (unfold lt in h))
-ceil-up (fin true m e) t h = absurd (true≢false (above-cut true m e t h .0))
+ceil-up : (x : Float) → T (fits binary32 x) → lt (truncOf x) x ≡ true → add binary32 (truncOf x) (fin false 1 (pos 0)) ≡ ceilOf x
+unfolding ceilOf
+ceil-up nan t h = absurd (false≢true (unfold truncOf lt in h))
+ceil-up (inf true) t h = absurd (false≢true (unfold truncOf lt in h))
+ceil-up (inf false) t h = absurd (false≢true (unfold truncOf lt in h))
+ceil-up (fin true m e) t h = absurd (never-less (m * up e / down e * down e) (m * up e) (div-mul-le-self (m * up e) (down e)) (sym (cut-lt true m e t) ∙ h))
 ceil-up (fin false m e) t h =
-    let c = above-cut false m e t h in
     let q = m * up e / down e in
-    add-values binary32 (round binary32 false q 1) (fin false 1 (pos 0)) false q 1 1 1 (pow-pos 0) (pow-pos 0)
-    (round-whole binary32 false q (le-of-lt (wider q (less-cut (m * up e) (down e) (down-pos e) (c .1))))) (refl, refl)
-    ∙ ap (λ (z : ℕ). round binary32 false z 1) (ones q ∙ sym (one-more (m * up e) (down e) (down-pos e) (c .2)))
+    add-values binary32 (truncOf (fin false m e)) (fin false 1 (pos 0)) false q 1 1 1 (pow-pos 0) (pow-pos 0) (truncOf-value false m e t) (refl, refl)
+    ∙ ap (λ (z : ℕ). round binary32 false z 1) (ones q ∙ sym (one-more (m * up e) (down e) (down-pos e) (less-than (q * down e) (m * up e) (sym (cut-lt false m e t) ∙ h))))
   where
     ones : (q : ℕ) → q * 1 + 1 ≡ q + 1
     ones q = omega arith
 
-pub ceil-same : (x : Float) → T (fits binary32 x) → lt (truncOf x) x ≡ false → truncOf x ≡ ceilOf x
+ceil-same : (x : Float) → T (fits binary32 x) → lt (truncOf x) x ≡ false → truncOf x ≡ ceilOf x
 unfolding truncOf ceilOf
 ceil-same nan t h = refl
 ceil-same (inf s) t h = refl
 ceil-same (fin true m e) t h = refl
-ceil-same (fin false m e) t h = elim (by-size false m e t) [
-  | inl g ↦ g .1 ∙ sym (stays false m e (λ (d : ℕ). (m * up e + (d - 1)) / d) t (up-none (m * up e)) (g .0))
-  | inr g ↦ ap (λ (z : ℕ). round binary32 false z 1) (sym (no-more (m * up e) (down e) (down-pos e) (less (m * up e / down e * down e) (m * up e) (sym (cut-lt false m e g) ∙ h))))
-]
-  where
-    less : (p q : ℕ) → ltb p (q * 1) ≡ false → q ≤ p
-    less p q l = omega (arith, ltb-false p (q * 1) l)
+ceil-same (fin false m e) t h =
+    ap (λ (z : ℕ). round binary32 false z 1) (sym (no-more (m * up e) (down e) (down-pos e) (not-less (m * up e / down e * down e) (m * up e) (sym (cut-lt false m e t) ∙ h))))
+
+-- t is the cut of x
+pub ceilOf-up : (x t : Float) → T (fits binary32 x) → t ≡ truncOf x → lt t x ≡ true → add binary32 t (fin false 1 (pos 0)) ≡ ceilOf x
+ceilOf-up x t f e h = ap (λ (z : Float). add binary32 z (fin false 1 (pos 0))) e ∙ ceil-up x f (ap (λ (z : Float). lt z x) (sym e) ∙ h)
+
+pub ceilOf-same : (x t : Float) → T (fits binary32 x) → t ≡ truncOf x → lt t x ≡ false → t ≡ ceilOf x
+ceilOf-same x t f e h = e ∙ ceil-same x f (ap (λ (z : Float). lt z x) (sym e) ∙ h)

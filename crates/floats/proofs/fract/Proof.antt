@@ -3,9 +3,6 @@ use lib.Ieee.{binary32, sub}
 use borrow.Author.Needs.{needs}
 use Rattle.floats.proofs.fract.Statement.{statement}
 use Rattle.floats.proofs.fract.Tie as tie
-use Rattle.floats.proofs.fract.Reads as reads
-use Rattle.floats.proofs.fract.Lts as lts
-use Rattle.floats.proofs.trunc.Reads as trunc-reads
 
 trunc-requires : tie.Need-trunc-requires
 trunc-requires c κs = search needs

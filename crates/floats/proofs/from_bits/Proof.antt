@@ -4,8 +4,6 @@ use Rattle.floats.proofs.BitsLaws.{nan-pattern, no-nan-pattern}
 use borrow.Author.Needs.{needs}
 use Rattle.floats.proofs.from_bits.Statement.{statement}
 use Rattle.floats.proofs.from_bits.Tie as tie
-use Rattle.floats.proofs.from_bits.Reads as reads
-use Rattle.floats.proofs.from_bits.Lts as lts
 
 returns : tie.Need-returns
 unfolding div ofBits

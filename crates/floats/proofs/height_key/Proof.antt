@@ -2,9 +2,6 @@ use Rattle.floats.proofs.BitsLaws.{key-high, key-low}
 use borrow.Author.Needs.{needs}
 use Rattle.floats.proofs.height_key.Statement.{statement}
 use Rattle.floats.proofs.height_key.Tie as tie
-use Rattle.floats.proofs.height_key.Reads as reads
-use Rattle.floats.proofs.height_key.Lts as lts
-use Rattle.floats.proofs.to_bits.Reads as to-bits-reads
 
 to-bits-requires : tie.Need-to-bits-requires
 to-bits-requires c κs = search needs

@@ -2,8 +2,6 @@ use lib.Ieee.{ofBits, nanBits}
 use Rattle.floats.proofs.FiniteLaws.{above-low, not-above-low}
 use Rattle.floats.proofs.is_finite.Statement.{statement}
 use Rattle.floats.proofs.is_finite.Tie as tie
-use Rattle.floats.proofs.is_finite.Reads as reads
-use Rattle.floats.proofs.is_finite.Lts as lts
 
 float-from-bits-if1 : tie.Need-float-from-bits-if1
 unfolding nanBits

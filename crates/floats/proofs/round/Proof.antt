@@ -1,13 +1,10 @@
-use mathlib.Core.Path.{sym, ap, _∙_, subst}
-use lib.Dec.{T}
+use mathlib.Core.Path.{ap, _∙_}
 use lib.Ieee.{neg, ofBits}
-use Rattle.floats.proofs.WholeLaws.{above-zero, below-zero, neg-neg, nearest-neg, nearest-zero}
+use Rattle.floats.proofs.ValueLaws.{holds}
+use Rattle.floats.proofs.WholeLaws.{above-zero, below-zero, neg-neg, roundOf-neg, roundOf-zero}
 use borrow.Author.Needs.{needs}
 use Rattle.floats.proofs.round.Statement.{statement}
 use Rattle.floats.proofs.round.Tie as tie
-use Rattle.floats.proofs.round.Reads as reads
-use Rattle.floats.proofs.round.Lts as lts
-use Rattle.floats.proofs.round_above.Reads as round-above-reads
 
 round-above-requires : tie.Need-round-above-requires
 unfolding ofBits
@@ -21,11 +18,11 @@ unfolding ofBits
 round-above-requires-2 c κs = below-zero _ (c .if2 .taken)
 
 returns-2 : tie.Need-returns-2
-returns-2 c = ap neg (c .round-above2 .ensures ∙ nearest-neg _) ∙ neg-neg _
+returns-2 c = ap neg (c .round-above2 .ensures ∙ roundOf-neg _) ∙ neg-neg _
 
 returns-3 : tie.Need-returns-3
 unfolding ofBits
-returns-3 c = nearest-zero _ (subst T (sym (c .before .before .good .0 .1)) tt) (c .before .if1 .left) (c .if2 .left)
+returns-3 c = roundOf-zero _ (holds (c .before .before .good .0 .1)) (c .before .if1 .left) (c .if2 .left)
 
 pub round-spec : {M : Type 1} → statement M
 round-spec =

@@ -2,8 +2,6 @@ use Rattle.floats.proofs.BitsLaws.{nan-bits, no-nan}
 use borrow.Author.Needs.{needs}
 use Rattle.floats.proofs.to_bits.Statement.{statement}
 use Rattle.floats.proofs.to_bits.Tie as tie
-use Rattle.floats.proofs.to_bits.Reads as reads
-use Rattle.floats.proofs.to_bits.Lts as lts
 
 returns : tie.Need-returns
 returns c = nan-bits _ (c .if1 .taken)

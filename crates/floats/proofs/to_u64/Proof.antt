@@ -1,17 +1,12 @@
-use mathlib.Core.Path.{sym, subst}
-use lib.Dec.{T}
 use lib.Ieee.{ofBits, neg}
-use Rattle.floats.proofs.ValueLaws.{cut-none, cut-most}
+use Rattle.floats.proofs.ValueLaws.{holds, cut-none, cut-most}
 use borrow.Author.Needs.{needs}
 use Rattle.floats.proofs.to_u64.Statement.{statement}
 use Rattle.floats.proofs.to_u64.Tie as tie
-use Rattle.floats.proofs.to_u64.Reads as reads
-use Rattle.floats.proofs.to_u64.Lts as lts
-use Rattle.std.proofs.num.truncating_f32_to_u64.Reads as truncating-f32-to-u64-reads
 
 truncating-f32-to-u64-requires : tie.Need-truncating-f32-to-u64-requires
 unfolding ofBits neg
-truncating-f32-to-u64-requires c κs = (subst T (sym (c .before .if1 .taken)) tt, subst T (sym (c .if2 .taken)) tt)
+truncating-f32-to-u64-requires c κs = (holds (c .before .if1 .taken), holds (c .if2 .taken))
 
 returns : tie.Need-returns
 returns c = search needs

@@ -1,13 +1,10 @@
-use mathlib.Core.Path.{sym, ap, _∙_, subst}
-use lib.Dec.{T}
+use mathlib.Core.Path.{ap, _∙_}
 use lib.Ieee.{neg, ofBits}
-use Rattle.floats.proofs.WholeLaws.{above-zero, below-zero, neg-neg, trunc-neg, trunc-zero}
+use Rattle.floats.proofs.ValueLaws.{holds}
+use Rattle.floats.proofs.WholeLaws.{above-zero, below-zero, neg-neg, truncOf-neg, truncOf-zero}
 use borrow.Author.Needs.{needs}
 use Rattle.floats.proofs.trunc.Statement.{statement}
 use Rattle.floats.proofs.trunc.Tie as tie
-use Rattle.floats.proofs.trunc.Reads as reads
-use Rattle.floats.proofs.trunc.Lts as lts
-use Rattle.floats.proofs.trunc_above.Reads as trunc-above-reads
 
 trunc-above-requires : tie.Need-trunc-above-requires
 unfolding ofBits
@@ -21,11 +18,11 @@ unfolding ofBits
 trunc-above-requires-2 c κs = below-zero _ (c .if2 .taken)
 
 returns-2 : tie.Need-returns-2
-returns-2 c = ap neg (c .trunc-above2 .ensures ∙ trunc-neg _) ∙ neg-neg _
+returns-2 c = ap neg (c .trunc-above2 .ensures ∙ truncOf-neg _) ∙ neg-neg _
 
 returns-3 : tie.Need-returns-3
 unfolding ofBits
-returns-3 c = trunc-zero _ (subst T (sym (c .before .before .good .0 .1)) tt) (c .before .if1 .left) (c .if2 .left)
+returns-3 c = truncOf-zero _ (holds (c .before .before .good .0 .1)) (c .before .if1 .left) (c .if2 .left)
 
 pub trunc-spec : {M : Type 1} → statement M
 trunc-spec =
