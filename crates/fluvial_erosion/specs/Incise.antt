@@ -1,0 +1,42 @@
+-- What the public call `incise` answers and leaves in its result slice.
+use Prim.Native.Nat.{ℕ, _*_}
+use mathlib.Core.Bool.{Bool, not, _||_, cond}
+use mathlib.Core.List.{List}
+use lib.ListN.{length}
+use lib.Dec.{eqb, ltb}
+use lib.Ieee.{Float, binary32, ofBits, neg}
+use lib.Ieee.Scale.{finite}
+use Rattle.answers.specs.Outcome.{Outcome, gives, refused, refusedAt, outsideOf}
+use Rattle.grid.specs.Sides.{badSides}
+use Rattle.grid.specs.Heights.{firstNotFinite, allFinite}
+use Rattle.drainage.specs.Ground.{gridGround}
+use Rattle.fluvial_erosion.specs.Incision.{incisedBy}
+use Rattle.fluvial_erosion.specs.Lent.{firstBadReceiver, firstBadEntry}
+use Rattle.fluvial_erosion.specs.declared.FluvialParams.{FluvialParams}
+
+-- refusal 4: k 0 to 64, uplift -1 to 1, water level finite
+abbrev pub badIncision : FluvialParams → Bool
+badIncision p =
+    let one = ofBits binary32 0x3f80_0000 in
+    outsideOf (p .k) (ofBits binary32 0) (ofBits binary32 0x4280_0000) || (outsideOf (p .uplift) (neg one) one || not (finite (p .«water_level»)))
+
+-- 1: a side; 3: a length (heights, receivers, list and result exactly n, scratch at least n); 4: a setting; 5: a height; 6: a receiver; 7: the
+-- list; else `then`. `number` and `at` say what a refusal gives
+abbrev pub inciseRefusal : {A : Type 0} → ℕ → ℕ → List Float → FluvialParams → List ℕ → List ℕ → ℕ → ℕ → (ℕ → A) → (ℕ → ℕ → A) → A → A
+inciseRefusal w h hs p recv list result scratch number at then =
+    let n = w * h in
+    cond (badSides w h) (number 1)
+    (cond
+    (not (eqb (length hs) n) || (not (eqb (length recv) n) || (not (eqb (length list) n) || (not (eqb result n) || ltb scratch n))))
+    (number 3)
+    (cond (badIncision p) (number 4)
+    (cond (not (allFinite hs)) (at 5 (firstNotFinite hs))
+    (cond (ltb (firstBadReceiver w h recv) n) (at 6 (firstBadReceiver w h recv)) (cond (ltb (firstBadEntry n recv list) n) (at 7 (firstBadEntry n recv list)) then)))))
+
+abbrev pub incised : ℕ → ℕ → List Float → FluvialParams → List ℕ → List ℕ → List Float
+incised w h hs p recv list = incisedBy (gridGround w h (p .«water_level») hs) p recv list hs
+
+-- then 22: a height not finite
+abbrev pub inciseAnswer : ℕ → ℕ → List Float → FluvialParams → List ℕ → List ℕ → ℕ → ℕ → Outcome (Unit {0})
+inciseAnswer w h hs p recv list result scratch =
+    inciseRefusal w h hs p recv list result scratch refused refusedAt (cond (allFinite (incised w h hs p recv list)) (gives tt) (refused 22))

@@ -1,0 +1,48 @@
+-- Document 01, 'Incision': along the list, from the heights as they then stand. A cell with height ≤ water level is skipped. Else
+-- c = k × root(max(area, 1e-4 × n) / n) / d, and the new height is (height + uplift + c × H) / (1 + c). For a cell that is its own receiver H is the
+-- water level and d is 1; otherwise H is max(receiver's new height, water level) and d the distance.
+use Prim.Native.Nat.{ℕ}
+use mathlib.Core.Bool.{cond}
+use mathlib.Core.List.{List, [], _∷_}
+use lib.ListN.{getD, set}
+use lib.IntN.{pos}
+use lib.Dec.{eqb}
+use lib.Ieee.{Float, nan, binary32, ofBits, ofInt, add, mul, div, le}
+use Rattle.floats.specs.Stand.{maxOf}
+use Rattle.square_root.specs.Root.{rootOf}
+use Rattle.drainage.specs.Ground.{Ground}
+use Rattle.drainage.specs.Receivers.{distanceTo}
+use Rattle.drainage.specs.Ways.{areasAlong}
+use Rattle.fluvial_erosion.specs.declared.FluvialParams.{FluvialParams}
+
+-- k × root(max(area, 1e-4 × n) / n) / d
+abbrev pub incisionCoef : Float → Float → Float → Float → Float
+incisionCoef area n k d = div binary32 (mul binary32 k (rootOf (div binary32 (maxOf area (mul binary32 (ofBits binary32 0x38d1_b717) n)) n))) d
+
+-- (height + uplift + c × H) / (1 + c)
+abbrev pub solved : Float → Float → Float → Float → Float
+solved height uplift c down =
+    div binary32 (add binary32 (add binary32 height uplift) (mul binary32 c down)) (add binary32 (ofBits binary32 0x3f80_0000) c)
+
+-- the height of a cell after its incision, from its own height, its area, the distance to its receiver and the height H to drain to
+abbrev pub incisedHeight : FluvialParams → ℕ → Float → Float → Float → Float → Float
+incisedHeight p n area d height down =
+    cond (le height (p .«water_level»)) height (solved height (p .uplift) (incisionCoef area (ofInt binary32 (pos n)) (p .k) d) down)
+
+module _ (g : Ground) (p : FluvialParams) (areas : List Float) (recv : List ℕ) where
+  -- H: the water level for a cell that is its own receiver, else max(receiver's height, water level)
+  abbrev pub drainsTo : List Float → ℕ → Float
+  drainsTo hs c = cond (eqb (getD recv c 0) c) (p .«water_level») (maxOf (getD hs (getD recv c 0) nan) (p .«water_level»))
+
+  abbrev pub incisedAt : List Float → ℕ → Float
+  incisedAt hs c = incisedHeight p (g .cells) (getD areas c nan) (distanceTo g c (getD recv c 0)) (getD hs c nan) (drainsTo hs c)
+
+  -- forward along the list, each cell from the heights as they then stand
+  unfoldable pub inciseAlong : List ℕ → List Float → List Float
+  inciseAlong [] hs = hs
+  inciseAlong (c ∷ rest) hs = inciseAlong rest (set hs c (incisedAt hs c))
+
+-- areas backward along the list, then incision forward along it
+unfoldable pub incisedBy : Ground → FluvialParams → List ℕ → List ℕ → List Float → List Float
+unfolding areasAlong inciseAlong
+incisedBy g p recv list hs = inciseAlong g p (areasAlong (g .cells) recv list) recv list hs

@@ -1,0 +1,36 @@
+-- Refusals 6 and 7: a lent receiver that is neither its own cell nor an 8-neighbour, and a lent list that is no work list.
+use Prim.Native.Nat.{ℕ, zero, suc, _*_}
+use mathlib.Core.Bool.{Bool, false, _&&_, _||_, cond}
+use mathlib.Core.List.{List}
+use lib.ListN.{getD, take}
+use lib.Dec.{eqb, ltb}
+use Rattle.lists.specs.Loops.{turns}
+use Rattle.grid.specs.Directions.{neighbourAt}
+use Rattle.drainage.specs.Ways.{times}
+
+-- the first number below n that a test fails of; n where it holds of all
+unfoldable pub firstFailing : ℕ → (ℕ → Bool) → ℕ
+firstFailing zero p = 0
+firstFailing (suc n) p = let f = firstFailing n p in cond (eqb f n) (cond (p n) (suc n) n) f
+
+-- r is the cell c itself or one of its 8 neighbours
+unfoldable pub goodReceiver : ℕ → ℕ → ℕ → ℕ → Bool
+unfolding turns
+goodReceiver w h c r = ltb r (w * h) && (eqb r c || turns 8 (λ i found. found || eqb (neighbourAt w h c (suc i)) r) false)
+
+-- refusal 6: the first cell with a receiver that is not good
+abbrev pub firstBadReceiver : ℕ → ℕ → List ℕ → ℕ
+firstBadReceiver w h recv = firstFailing (w * h) (λ c. goodReceiver w h c (getD recv c 0))
+
+-- the entry at a position is a cell, did not stand earlier, and any other cell that it drains into did
+unfoldable pub goodEntry : ℕ → List ℕ → List ℕ → ℕ → Bool
+unfolding times
+goodEntry n recv list position =
+    let c = getD list position 0 in
+    let r = getD recv c 0 in
+    let earlier = take position list in
+    ltb c n && (eqb (times c earlier) 0 && (eqb r c || ltb 0 (times r earlier)))
+
+-- refusal 7: the first position with an entry that is not good
+abbrev pub firstBadEntry : ℕ → List ℕ → List ℕ → ℕ
+firstBadEntry n recv list = firstFailing n (goodEntry n recv list)

@@ -1,0 +1,4 @@
+-- Document 01, 'Whole runs' and 'The other run of demand 3'.
+pub mod Plan
+pub mod Machine
+pub mod Run

@@ -1,0 +1,53 @@
+-- Document 01, 'Whole runs': the settings converted to the working grid.
+use Prim.Native.Nat.{ℕ, max}
+use mathlib.Core.List.{List}
+use lib.IntN.{pos}
+use lib.Ieee.{Float, binary32, ofBits, ofInt, sub, mul, div, toUnsigned}
+use Rattle.floats.specs.Stand.{ceilOf}
+use Rattle.fluvial_erosion.specs.declared.FluvialParams.{FluvialParams}
+use Rattle.thermal_erosion.specs.declared.ThermalParams.{ThermalParams}
+use Rattle.runs.specs.declared.FluvialSettings.{FluvialSettings}
+use Rattle.runs.specs.declared.ThermalSettings.{ThermalSettings}
+
+-- scale = longest working side / 512
+abbrev pub scaleOf : ℕ → ℕ → Float
+scaleOf w h = div binary32 (ofInt binary32 (pos (max w h))) (ofBits binary32 0x4400_0000)
+
+-- k = 8 × strength × scale
+abbrev pub kOf : Float → Float → Float
+kOf strength scale = mul binary32 (mul binary32 (ofBits binary32 0x4100_0000) strength) scale
+
+-- threshold = 0.03 × (1 - talus)² / scale
+abbrev pub thresholdOf : Float → Float → Float
+thresholdOf talus scale =
+    let steep = sub binary32 (ofBits binary32 0x3f80_0000) talus in
+    div binary32 (mul binary32 (ofBits binary32 0x3cf5_c28f) (mul binary32 steep steep)) scale
+
+-- passes: ceil(iterations × scale), at least 1
+abbrev pub passesOf : ℕ → Float → ℕ
+passesOf iterations scale = max (toUnsigned 64 (ceilOf (mul binary32 (ofInt binary32 (pos iterations)) scale))) 1
+
+-- What a run does on its working grid: `iterations` times an incision, where `incision` says so, and then `passes` talus passes.
+pub record Plan : Type 0 where
+  pub iterations : ℕ
+  pub passes : ℕ
+  pub cuts : FluvialParams
+  pub slides : ThermalParams
+
+-- a fluvial run on a w × h working grid: 1 in place of iterations for its passes, talus strength 0.5; iterations 0 counts as 1
+abbrev pub fluvialPlan : ℕ → ℕ → FluvialSettings → Plan
+fluvialPlan w h s =
+    let scale = scaleOf w h in
+    record {
+      iterations = max (s .iterations) 1;
+      passes = passesOf 1 scale;
+      cuts = record { k = kOf (s .strength) scale; uplift = s .uplift; «water_level» = s .«water_level» };
+      slides = record { threshold = thresholdOf (s .talus) scale; strength = ofBits binary32 0x3f00_0000; «water_level» = s .«water_level» }
+    }
+
+-- the passes and the parameters of a thermal run
+abbrev pub thermalPasses : ℕ → ℕ → ThermalSettings → ℕ
+thermalPasses w h s = passesOf (s .iterations) (scaleOf w h)
+
+abbrev pub thermalParams : ℕ → ℕ → ThermalSettings → ThermalParams
+thermalParams w h s = record { threshold = thresholdOf (s .talus) (scaleOf w h); strength = s .strength; «water_level» = s .«water_level» }

@@ -1,0 +1,146 @@
+-- Whole runs of document 01 on a map: full-grid, or on a reduced grid with the difference added back. `runBy` takes the work list of each
+-- iteration as an argument; ours is `runBy` with the flood's own order.
+use Prim.Native.Nat.{ℕ, _+_, _*_}
+use mathlib.Core.Bool.{Bool, true, false, _&&_, cond}
+use mathlib.Core.List.{List}
+use lib.ListN.{getD, length}
+use lib.IntN.{pos}
+use lib.Dec.{eqb}
+use lib.Ieee.{Float, nan, binary32, ofBits, ofInt, add, sub, mul, div}
+use Rattle.lists.specs.Loops.{tabulate}
+use Rattle.grid.specs.Heights.{allFinite}
+use Rattle.grid.specs.declared.Sides.{Sides}
+use Rattle.drainage.specs.Ground.{Ground, floats, gridGround}
+use Rattle.drainage.specs.Flood.{flooded}
+use Rattle.drainage.specs.Receivers.{receivers}
+use Rattle.fluvial_erosion.specs.Incision.{incisedBy}
+use Rattle.fluvial_erosion.specs.declared.FluvialParams.{FluvialParams}
+use Rattle.thermal_erosion.specs.Talus.{thresholdsOf}
+use Rattle.resample.specs.WorkSize.{workSize}
+use Rattle.resample.specs.Blocks.{downsampled}
+use Rattle.resample.specs.Samples.{FarEdge, asSource, addedOf}
+use Rattle.runs.specs.Plan.{Plan, fluvialPlan, thermalPasses, thermalParams}
+use Rattle.runs.specs.Machine.{Course, State, finished}
+use Rattle.runs.specs.declared.FluvialSettings.{FluvialSettings}
+use Rattle.runs.specs.declared.ThermalSettings.{ThermalSettings}
+
+abbrev float : ℕ → Float
+float n = ofInt binary32 (pos n)
+
+-- which list an iteration goes along, by its number and the order that its routing gave
+abbrev pub Choice : Type 0
+Choice = ℕ → List ℕ → List ℕ
+
+-- our run goes along the flood's own order
+abbrev pub ours : Choice
+ours it order = order
+
+-- the other run goes along the lists lent to it
+abbrev pub lent : (ℕ → List ℕ) → Choice
+lent lists it order = lists it
+
+-- the network of the heights that an iteration routes
+abbrev pub orderOn : (List Float → Ground) → List Float → List ℕ
+orderOn ground hs = flooded floats (ground hs) hs .order
+
+abbrev pub receiversOn : (List Float → Ground) → List Float → List ℕ
+receiversOn ground hs = receivers floats (ground hs) (flooded floats (ground hs) hs .spill) (flooded floats (ground hs) hs .finder)
+
+-- the heights routed, then areas and incision along the chosen list
+unfoldable pub incisionBy : (List Float → Ground) → FluvialParams → Choice → ℕ → List Float → List Float
+unfolding incisedBy
+incisionBy ground p choose it hs = incisedBy (ground hs) p (receiversOn ground hs) (choose it (orderOn ground hs)) hs
+
+-- (it + 0.5 + 0.5 × pass / passes) / iterations
+abbrev pub fluvialBegins : ℕ → ℕ → ℕ → ℕ → Float
+fluvialBegins iterations passes it pass =
+    let half = ofBits binary32 0x3f00_0000 in
+    div binary32
+    (add binary32 (add binary32 (float it) half) (div binary32 (mul binary32 half (float pass)) (float passes)))
+    (float iterations)
+
+abbrev pub fluvialCourse : (List Float → Ground) → ℕ → ℕ → Plan → ℕ → Choice → Course
+fluvialCourse ground w h plan stop choose =
+    record {
+      w = w;
+      h = h;
+      iterations = plan .iterations;
+      passes = plan .passes;
+      cutting = true;
+      incision = incisionBy ground (plan .cuts) choose;
+      opening = λ it. div binary32 (float it) (float (plan .iterations));
+      begins = fluvialBegins (plan .iterations) (plan .passes);
+      thresholds = thresholdsOf (plan .slides .threshold);
+      strength = plan .slides .strength;
+      water = plan .slides .«water_level»;
+      stop = stop
+    }
+
+-- a thermal run: each iteration is one pass, and nothing opens it
+abbrev pub thermalCourse : ℕ → ℕ → ThermalSettings → ℕ → Course
+thermalCourse w h s stop =
+    let n = thermalPasses w h s in
+    record {
+      w = w;
+      h = h;
+      iterations = n;
+      passes = 1;
+      cutting = false;
+      incision = λ it hs. hs;
+      opening = λ it. ofBits binary32 0;
+      begins = λ it pass. div binary32 (float (it + pass)) (float n);
+      thresholds = thresholdsOf (thermalParams w h s .threshold);
+      strength = s .strength;
+      water = s .«water_level»;
+      stop = stop
+    }
+
+-- What a whole run ends with: 0 or the number that ended it, the counts, and the map.
+pub record Ran : Type 0 where
+  pub number : ℕ
+  pub incisions : ℕ
+  pub passes : ℕ
+  pub questions : ℕ
+  pub map : List Float
+
+abbrev pub ranAs : ℕ → State → List Float → Ran
+ranAs number s map =
+    record { number = number; incisions = s .incisions; passes = s .passes; questions = s .marks .asked; map = map }
+
+-- the difference of the reduced grids
+unfoldable pub differenceOf : List Float → List Float → List Float
+unfolding tabulate
+differenceOf eroded small = tabulate (length small) (λ i. sub binary32 (getD eroded i nan) (getD small i nan))
+
+-- a reduced run that was not stopped adds its difference to the map; 22 leaves the map as it came
+abbrev pub addedBack : FarEdge → ℕ → ℕ → ℕ → ℕ → List Float → List Float → State → Ran
+addedBack kind w h dw dh map small s =
+    let delta = differenceOf (s .heights) small in
+    let sum = addedOf kind map w h delta dw dh in
+    cond (allFinite delta && allFinite sum) (ranAs 0 s sum) (ranAs 22 s map)
+
+-- a course on the w × h map: on the map itself where the working sides are its own, else on its block averages
+abbrev pub runOn : FarEdge → ℕ → ℕ → Course → List Float → Ran
+runOn kind w h c map =
+    let small = downsampled map w h (c .w) (c .h) in
+    let s = finished c small in
+    let full = finished c map in
+    cond (eqb (c .w) w && eqb (c .h) h) (ranAs (full .number) full (full .heights))
+    (cond (allFinite small)
+    (cond (eqb (s .number) 0) (addedBack kind w h (c .w) (c .h) map small s) (ranAs (s .number) s map))
+    (record { number = 22; incisions = 0; passes = 0; questions = 0; map = map }))
+
+-- a whole fluvial run by the work lists that `choose` gives
+unfoldable pub runBy : ℕ → ℕ → FluvialSettings → ℕ → Choice → List Float → Ran
+unfolding workSize
+runBy w h s stop choose map =
+    let work = workSize w h (s .«work_res») in
+    let plan = fluvialPlan (work .w) (work .h) s in
+    runOn asSource w h (fluvialCourse (gridGround (work .w) (work .h) (s .«water_level»)) (work .w) (work .h) plan stop choose) map
+
+-- a whole thermal run
+unfoldable pub thermalRun : ℕ → ℕ → ThermalSettings → ℕ → List Float → Ran
+unfolding workSize
+thermalRun w h s stop map =
+    let work = workSize w h (s .«work_res») in
+    runOn asSource w h (thermalCourse (work .w) (work .h) s stop) map
