@@ -3,7 +3,8 @@ use mathlib.Core.Path.{_≡_, refl, sym, ap, _∙_, subst}
 use mathlib.Core.Bool.{Bool, true, false, not, cond, true≢false}
 use Prim.Native.Nat.{ℕ, _+_, _-_, _%_, _^_, _≤_, _<_}
 use borrow.Author.Tests.{lt-ltb, le-ltb, le-leb, lt-leb}
-use lib.Dec.{T}
+use native.Mathlib.Omega.{arith}
+use lib.Dec.{T, leb, nleb→lt}
 use lib.Ieee.{Float, nan, inf, fin, binary32, ne, isNan, nanBits, ofBits, toBits}
 use lib.Ieee.Bits.{nanBits-is, nanBits-above}
 use lib.Ieee.Compare.{differs-from-itself}
@@ -35,3 +36,17 @@ key-high x b e h = sym (ap (λ (t : Bool). cond t (2 ^ 32 - 1 - b) (2 ^ 31 + b))
 
 pub key-low : (x : Float) (b : ℕ) → b ≡ toBits binary32 x → b < 2 ^ 31 → 2 ^ 31 + b ≡ keyOf x
 key-low x b e h = sym (ap (λ (t : Bool). cond t (2 ^ 32 - 1 - b) (2 ^ 31 + b)) (lt-leb (2 ^ 31) b h)) ∙ ap folded e
+
+-- a key is a u32, whatever the float
+pub key-lt : (x : Float) → keyOf x < 2 ^ 32
+key-lt x = go (leb (2 ^ 31) (toBits binary32 x)) (nleb→lt (2 ^ 31) (toBits binary32 x))
+  where
+    most : (b : ℕ) → 2 ^ 32 - 1 - b < 2 ^ 32
+    most b = omega arith
+
+    raised : (b : ℕ) → b < 2 ^ 31 → 2 ^ 31 + b < 2 ^ 32
+    raised b h = omega arith
+
+    go : (p : Bool) → (T (not p) → toBits binary32 x < 2 ^ 31) → cond p (2 ^ 32 - 1 - toBits binary32 x) (2 ^ 31 + toBits binary32 x) < 2 ^ 32
+    go true h = most (toBits binary32 x)
+    go false h = raised (toBits binary32 x) (h tt)

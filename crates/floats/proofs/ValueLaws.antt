@@ -2,19 +2,22 @@
 -- itself, and comparisons and cuts are those of the fractions.
 use mathlib.Core.Path.{_≡_, refl, sym, ap, _∙_, subst}
 use mathlib.Core.Bool.{Bool, true, false, _&&_, _||_, Bool·beq, cond, true≢false, false≢true}
+use mathlib.Core.Logic.{_⊎_, inl, inr}
 use Prim.Native.Nat.{ℕ, zero, suc, _+_, _-_, _*_, _/_, _%_, _^_, _≤_, _<_, min}
-use native.Mathlib.Nat.{le-of-eq, le-of-suc-le-suc, lt-of-lt-of-le, lt-of-not-le, lt-irrefl, zero-mul, mul-one, one-mul, mul-comm, mul-assoc, mul-left-comm, mul-right-comm, mul-pos, add-mul, mul-lt-mul-of-pos-right, lt-of-mul-lt-mul-right, eq-of-mul-eq-mul-right, le-div-iff-mul-le}
+use native.Mathlib.Nat.{le-of-eq, le-of-lt, eq-or-lt-of-le, le-of-suc-le-suc, lt-of-le-of-lt, min-le-left, div-lt-iff-lt-mul, lt-of-lt-of-le, lt-of-not-le, lt-irrefl, zero-mul, mul-one, one-mul, mul-comm, mul-assoc, mul-left-comm, mul-right-comm, mul-pos, add-mul, mul-lt-mul-of-pos-right, lt-of-mul-lt-mul-right, eq-of-mul-eq-mul-right, le-div-iff-mul-le}
 use native.Mathlib.Omega.{arith}
-use borrow.Author.Tests.{ltb-false}
+use borrow.Author.Tests.{ltb-true, ltb-false}
 use lib.IntN.{ℤ, pos, negsuc}
-use lib.Dec.{T, leb, ltb, eqb, ltb→lt, lt→ltb, leb→le, eqb→eq}
+use lib.Dec.{T, leb, ltb, eqb, ltb→lt, lt→ltb, leb→le, le→leb, eqb→eq}
 use lib.Pow.{pow-add, pow-pos, pow-lt}
-use lib.Ieee.{Float, nan, inf, fin, Format, prec, emax, low, up, down, size, hid, top, round, sum, add, below, level, lt, eq, le, fits, ofBits, toBits, toUnsigned}
+use lib.Ieee.{Float, nan, inf, fin, Format, binary32, prec, emax, low, up, down, size, hid, top, round, sum, add, below, level, lt, eq, le, fits, ofBits, toBits, ofInt, toUnsigned}
 use lib.Ieee.Fits.{down-pos, eq→eqb, and-l, and-r, round-fits}
 use lib.Ieee.Exact.{HasValue, round-exact}
+use lib.Ieee.Back.{round-whole}
 use lib.Ieee.Nearest.{div-same}
 use lib.Ieee.Bits.{ofBits-toBits}
 use lib.Ieee.Scale.{round-same}
+use Rattle.floats.specs.Stand.{indexOf}
 
 -- a test that passed, as `good` has it of a parameter
 pub holds : {b : Bool} → b ≡ true → T b
@@ -174,6 +177,42 @@ unfolding le
 le-values x y s t a c b d C D v w =
     ap (λ (z : Bool). z || eq x y) (lt-values x y s t a c b d C D v w) ∙ ap (λ (z : Bool). below s (a * d) t (b * c) || z) (eq-values x y s t a c b d C D v w)
 
+-- of two that are not negative `le` is one test
+or-leb : (a b : ℕ) → (ltb a b || (eqb a b && true)) ≡ leb a b
+or-leb a b = same-test (ltb a b || (eqb a b && true)) (leb a b) (go (ltb a b) (eqb a b) (ltb→lt a b) (eqb→eq a b)) (λ t. back-in (ltb a b) (eqb a b) (eq-or-lt-of-le (leb→le a b t)) (lt→ltb a b) (λ (e : a ≡ b). eq→eqb e))
+  where
+    go : (p q : Bool) → (T p → a < b) → (T q → a ≡ b) → T (p || (q && true)) → T (leb a b)
+    go true q l e t = le→leb a b (le-of-lt (l tt))
+    go false true l e t = le→leb a b (le-of-eq (e tt))
+    go false false l e t = absurd t
+
+    back-in : (p q : Bool) → (a ≡ b) ⊎ (a < b) → (a < b → T p) → (a ≡ b → T q) → T (p || (q && true))
+    back-in true q h l e = tt
+    back-in false true h l e = tt
+    back-in false false (inl h) l e = e h
+    back-in false false (inr h) l e = l h
+
+pub le-positive : (x y : Float) (a c b d : ℕ) → 0 < c → 0 < d → HasValue x false a c → HasValue y false b d → le x y ≡ leb (a * d) (b * c)
+le-positive x y a c b d C D v w = le-values x y false false a c b d C D v w ∙ or-leb (a * d) (b * c)
+
+-- ---- a whole number up to 2^24 as a float, and a float against one
+pub ofInt-value : (n : ℕ) → n ≤ 2 ^ 24 → HasValue (ofInt binary32 (pos n)) false n 1
+unfolding ofInt
+ofInt-value n h = round-whole binary32 false n h
+
+module _ (m : ℕ) (e : ℤ) (n : ℕ) (h : n ≤ 2 ^ 24) where
+  pub lt-ofInt : lt (fin false m e) (ofInt binary32 (pos n)) ≡ ltb (m * up e) (n * down e)
+  lt-ofInt = lt-values (fin false m e) (ofInt binary32 (pos n)) false false (m * up e) (down e) n 1 (down-pos e) (pow-pos 0) (refl, refl) (ofInt-value n h) ∙ ap (λ (z : ℕ). ltb z (n * down e)) (mul-one (m * up e))
+
+  pub ofInt-lt : lt (ofInt binary32 (pos n)) (fin false m e) ≡ ltb (n * down e) (m * up e)
+  ofInt-lt = lt-values (ofInt binary32 (pos n)) (fin false m e) false false n 1 (m * up e) (down e) (pow-pos 0) (down-pos e) (ofInt-value n h) (refl, refl) ∙ ap (λ (z : ℕ). ltb (n * down e) z) (mul-one (m * up e))
+
+  pub le-ofInt : le (fin false m e) (ofInt binary32 (pos n)) ≡ leb (m * up e) (n * down e)
+  le-ofInt = le-positive (fin false m e) (ofInt binary32 (pos n)) (m * up e) (down e) n 1 (down-pos e) (pow-pos 0) (refl, refl) (ofInt-value n h) ∙ ap (λ (z : ℕ). leb z (n * down e)) (mul-one (m * up e))
+
+  pub ofInt-le : le (ofInt binary32 (pos n)) (fin false m e) ≡ leb (n * down e) (m * up e)
+  ofInt-le = le-positive (ofInt binary32 (pos n)) (fin false m e) n 1 (m * up e) (down e) (pow-pos 0) (down-pos e) (ofInt-value n h) (refl, refl) ∙ ap (λ (z : ℕ). leb (n * down e) z) (mul-one (m * up e))
+
 -- ---- the cut to a whole number, by any fraction that the float equals
 pub cut-value : (w : ℕ) (x : Float) (a c : ℕ) → 0 < c → HasValue x false a c → toUnsigned w x ≡ min (a / c) (2 ^ w - 1)
 unfolding toUnsigned
@@ -211,6 +250,28 @@ cut-most w (fin false m e) h k = most (m * up e / down e) (2 ^ w) (le-div-iff-mu
     plain : (a p d : ℕ) → 1 * p * d ≤ a * 1 → p * d ≤ a
     plain a p d h = omega arith
 
+-- nothing is above the infinity
+top-lt : (y : Float) → lt (inf false) y ≡ false
+unfolding lt
+top-lt nan = refl
+top-lt (inf t) = refl
+top-lt (fin t n d) = refl
+
+-- below a whole number: cut below it too, so an index held inside a side that x is below is just the cut
+pub cut-below : (w : ℕ) (x : Float) (n : ℕ) → 0 < n → n ≤ 2 ^ 24 → lt x (ofInt binary32 (pos n)) ≡ true → toUnsigned w x < n
+unfolding toUnsigned
+cut-below w nan n N h t = N
+cut-below w (inf true) n N h t = N
+cut-below w (inf false) n N h t = absurd (true≢false (sym t ∙ top-lt (ofInt binary32 (pos n))))
+cut-below w (fin true m e) n N h t = N
+cut-below w (fin false m e) n N h t = lt-of-le-of-lt (min-le-left (m * up e / down e) (2 ^ w - 1)) (div-lt-iff-lt-mul (down-pos e) .1 (ltb-true (m * up e) (n * down e) (sym (lt-ofInt m e n h) ∙ t)))
+
+pub index-inside : (x : Float) (side : ℕ) → 0 < side → side ≤ 2 ^ 24 → lt x (ofInt binary32 (pos side)) ≡ true → indexOf side x ≡ toUnsigned 64 x
+index-inside x side S h t = uncapped (toUnsigned 64 x) (cut-below 64 x side S h t)
+  where
+    uncapped : (t : ℕ) → t < side → min t (side - 1) ≡ t
+    uncapped t l = omega arith
+
 -- ---- a sum of two floats of one sign, by any fractions that they equal
 pub add-values : (f : Format) (x y : Float) (s : Bool) (a c b d : ℕ) → 0 < c → 0 < d → HasValue x s a c → HasValue y s b d → add f x y ≡ round f s (a * d + b * c) (c * d)
 unfolding add sum
@@ -226,3 +287,13 @@ add-values f (fin s' m e) (fin t' n g) s a c b d C D v w =
     like : (s : Bool) (p q r : ℕ) → sum f s p s q r ≡ round f s (p + q) r
     like true p q r = unfold sum in refl
     like false p q r = unfold sum in refl
+
+-- whole numbers up to 2^24 add up as whole numbers do
+pub ofInt-add : (a b : ℕ) → a ≤ 2 ^ 24 → b ≤ 2 ^ 24 → add binary32 (ofInt binary32 (pos a)) (ofInt binary32 (pos b)) ≡ ofInt binary32 (pos (a + b))
+ofInt-add a b h k =
+    add-values binary32 (ofInt binary32 (pos a)) (ofInt binary32 (pos b)) false a 1 b 1 (pow-pos 0) (pow-pos 0) (ofInt-value a h) (ofInt-value b k)
+    ∙ ap (λ (z : ℕ). round binary32 false z 1) (ones a b)
+    ∙ unfold ofInt in refl
+  where
+    ones : (a b : ℕ) → a * 1 + b * 1 ≡ a + b
+    ones a b = omega arith

@@ -1,12 +1,12 @@
 -- trunc, round and ceil: from 2^23 on every binary32 number is whole; below it the whole number is that of the cut fraction; the sign goes along.
 use mathlib.Core.Path.{_≡_, refl, sym, ap, _∙_, subst}
-use mathlib.Core.Bool.{Bool, true, false, not, _&&_, _||_, cond, true≢false, false≢true}
+use mathlib.Core.Bool.{Bool, true, false, not, cond, true≢false, false≢true}
 use Prim.Native.Nat.{ℕ, zero, suc, _+_, _-_, _*_, _/_, _^_, _≤_, _<_, min}
-use native.Mathlib.Nat.{le-of-eq, le-of-lt, lt-of-lt-of-le, mul-one, mul-comm, zero-mul, mul-pos, mul-le-mul-right, div-one, div-lt-iff-lt-mul, div-div-eq-div-mul, add-div-right, div-mul-le-self, lt-div-mul-add, pow-succ', div-eq-of-lt-le, div-le-of-le-mul}
+use native.Mathlib.Nat.{le-of-lt, lt-of-lt-of-le, mul-one, mul-comm, zero-mul, mul-pos, mul-le-mul-right, div-one, div-lt-iff-lt-mul, div-div-eq-div-mul, add-div-right, div-mul-le-self, lt-div-mul-add, pow-succ', div-eq-of-lt-le, div-le-of-le-mul}
 use native.Mathlib.Omega.{arith}
-use borrow.Author.Tests.{ltb-true, ltb-false, eqb-false}
+use borrow.Author.Tests.{ltb-true, ltb-false, leb-true, leb-false}
 use lib.IntN.{ℤ, pos, negsuc}
-use lib.Dec.{T, leb, ltb, eqb, ltb→lt, lt→ltb, nltb→le, eqb→eq, le→leb, leb→le, nleb→lt, lit≤}
+use lib.Dec.{T, leb, ltb, lt→ltb, le→leb, leb→le, nleb→lt, lit≤}
 use lib.Pow.{pow-pos}
 use lib.Ieee.{Float, nan, inf, fin, Format, binary32, prec, emax, low, up, down, odd, units, round, neg, add, below, lt, le, fits, inFloat, ofInt, toUnsigned}
 use lib.Ieee.Fits.{down-pos}
@@ -15,7 +15,7 @@ use lib.Ieee.Back.{round-whole}
 use lib.Ieee.Scale.{round-same}
 use lib.Ieee.Positive.{above, first-pos}
 use Rattle.floats.specs.Stand.{truncOf, roundOf, ceilOf}
-use Rattle.floats.proofs.ValueLaws.{Held, held, round-self, round-scaled, value-unique, lt-values, cut-value, add-values}
+use Rattle.floats.proofs.ValueLaws.{Held, held, round-self, round-scaled, value-unique, lt-values, le-positive, cut-value, add-values}
 
 -- ---- the sign goes along
 odd-neg : (d : ℕ) (s : Bool) (q k l : ℕ) → odd d (not s) q k l ≡ neg (odd d s q k l)
@@ -118,32 +118,14 @@ below-zero (fin false m e) p = absurd (no-less (m * up e) (0 * down e) (zero-mul
 abbrev pub big : Float
 big = fin false 1 (pos 23)
 
-le-true : (a b : ℕ) → (ltb a b || (eqb a b && true)) ≡ true → a ≤ b
-le-true a b h = go (ltb a b) (eqb a b) (ltb→lt a b) (eqb→eq a b) h
-  where
-    go : (p q : Bool) → (T p → a < b) → (T q → a ≡ b) → (p || (q && true)) ≡ true → a ≤ b
-    go true q l e h = le-of-lt (l tt)
-    go false true l e h = le-of-eq (e tt)
-    go false false l e h = absurd (false≢true h)
-
-le-false : (a b : ℕ) → (ltb a b || (eqb a b && true)) ≡ false → b < a
-le-false a b h = go (ltb a b) (eqb a b) (nltb→le a b) (eqb-false a b) h
-  where
-    less : b ≤ a → (a ≡ b → ⊥) → b < a
-    less l n = omega arith
-
-    go : (p q : Bool) → (T (not p) → b ≤ a) → (q ≡ false → a ≡ b → ⊥) → (p || (q && true)) ≡ false → b < a
-    go true q l e h = absurd (true≢false h)
-    go false true l e h = absurd (true≢false h)
-    go false false l e h = less (l tt) (e refl)
+big-test : (m : ℕ) (e : ℤ) → le big (fin false m e) ≡ leb (2 ^ 23 * down e) (m * up e)
+big-test m e = le-positive big (fin false m e) (2 ^ 23) 1 (m * up e) (down e) (pow-pos 0) (down-pos e) (refl, refl) (refl, refl) ∙ ap (leb (2 ^ 23 * down e)) (mul-one (m * up e))
 
 at-least : (m : ℕ) (e : ℤ) → le big (fin false m e) ≡ true → 2 ^ 23 * down e ≤ m * up e
-unfolding le
-at-least m e h = subst (λ (z : ℕ). 2 ^ 23 * down e ≤ z) (mul-one (m * up e)) (le-true (2 ^ 23 * down e) (m * up e * 1) h)
+at-least m e h = leb-true (2 ^ 23 * down e) (m * up e) (sym (big-test m e) ∙ h)
 
 under : (m : ℕ) (e : ℤ) → le big (fin false m e) ≡ false → m * up e < 2 ^ 23 * down e
-unfolding le
-under m e h = subst (λ (z : ℕ). z < 2 ^ 23 * down e) (mul-one (m * up e)) (le-false (2 ^ 23 * down e) (m * up e * 1) h)
+under m e h = leb-false (2 ^ 23 * down e) (m * up e) (sym (big-test m e) ∙ h)
 
 whole-above : (m : ℕ) (e : ℤ) → Held binary32 m e → 2 ^ 23 * down e ≤ m * up e → down e ≡ 1
 whole-above m (pos k) h g = refl
