@@ -1,12 +1,14 @@
 -- Document 01, 'Stop marks': a question is asked when p - last ≥ 0.01; last then becomes p; the S-th question asked gets yes, 0 means never;
 -- a stopped record asks none and stays stopped.
 use Prim.Native.Nat.{ℕ, _+_, _^_}
+use mathlib.Core.Path.{_≡_}
 use mathlib.Core.Bool.{Bool, true, false, not, _||_, cond}
 use lib.Dec.{eqb, ltb}
 use lib.Ieee.{Float, binary32, ofBits, neg, sub, le}
 use Rattle.answers.specs.Outcome.{Outcome, gives, refused, refusalOf, outsideOf}
 use Rattle.generators.specs.declared.Progress.{Progress}
 use Rattle.generators.specs.declared.Go.{Go}
+use Rattle.generators.specs.declared.Reported.{Reported}
 
 -- a whole run begins with this record
 abbrev pub fresh : Progress
@@ -39,3 +41,8 @@ reportAnswer m p s = cond (badReport m p) (refused 4) (gives (not (reportOf m p 
 -- and the record that it hands back, on a refusal as given
 abbrev pub reportRecord : Progress → Float → ℕ → Progress
 reportRecord m p s = cond (badReport m p) m (reportOf m p s)
+
+-- what a report promises of its result
+pub record ReportMade (m : Progress) (p : Float) (s : ℕ) (r : Reported) : Type 0 where
+  pub answer : goOf (r .go) ≡ reportAnswer m p s
+  pub handed : r .progress ≡ reportRecord m p s

@@ -1,0 +1,2 @@
+-- Laws of the stop marks and of extents, for the layers above.
+pub mod MarksLaws
