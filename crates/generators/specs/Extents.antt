@@ -36,8 +36,11 @@ abbrev pub slopeOf : MinMax → Float → Float → Float
 slopeOf m lo hi = cond (eq (m .min) (m .max)) (ofBits binary32 0) (div binary32 (sub binary32 hi lo) (sub binary32 (m .max) (m .min)))
 
 -- target_min + (value - min) × slope
+abbrev pub scaledBy : Float → Float → Float → Float → Float
+scaledBy min lo slope x = add binary32 lo (mul binary32 (sub binary32 x min) slope)
+
 abbrev pub normalizedAt : MinMax → Float → Float → Float → Float
-normalizedAt m lo hi x = add binary32 lo (mul binary32 (sub binary32 x (m .min)) (slopeOf m lo hi))
+normalizedAt m lo hi = scaledBy (m .min) lo (slopeOf m lo hi)
 
 unfoldable pub normalizedOf : List Float → Float → Float → List Float
 unfolding minMaxOf

@@ -5,7 +5,9 @@ use answers::outside;
 use grid::Sides;
 ghost use Prim.Native.Nat.{_-_, _^_, _<_};
 ghost use mathlib.Core.Path.{_≡_};
+ghost use mathlib.Core.List.{map};
 ghost use Rattle.generators.specs.Marks.{badReport, reportOf, ReportMade};
+ghost use Rattle.generators.specs.Extents.{widened, minMaxOf, slopeOf, scaledBy};
 
 // Document 01's record of the stop marks: the last p asked at, the questions asked, and whether one got yes.
 pub struct Progress {
@@ -103,4 +105,60 @@ pub struct MinMax {
 pub enum Extent {
     Of(MinMax),
     Refused(Refusal),
+}
+
+// One value more: above max it becomes max, else below min it becomes min.
+fn widen(m: MinMax, x: f32) -> MinMax
+    ensures { λ r. ⌜ r ≡ widened m x ⌝ }
+{
+    if x > m.max {
+        return MinMax { min: m.min, max: x };
+    }
+    if x < m.min {
+        return MinMax { min: x, max: m.max };
+    }
+    m
+}
+
+// (min, max) of any values, from the first on; (0, 0) of none.
+fn min_max(v: &[f32]) -> MinMax
+    ensures { λ r. ⌜ r ≡ minMaxOf (now (v .entry)) ⌝ }
+{
+    let n = v.len();
+    if n == 0 {
+        return MinMax { min: 0.0, max: 0.0 };
+    }
+    let first = v[0];
+    let mut m = MinMax {
+        min: first,
+        max: first,
+    };
+    let mut i: usize = 1;
+    while i < n {
+        m = widen(m, v[i]);
+        i += 1;
+    }
+    m
+}
+
+// What a difference of heights is multiplied by: 0 where min and max are equal.
+fn slope(m: MinMax, lo: f32, hi: f32) -> f32
+    ensures { λ r. ⌜ r ≡ slopeOf m lo hi ⌝ }
+{
+    if m.min == m.max {
+        return 0.0;
+    }
+    (hi - lo) / (m.max - m.min)
+}
+
+// Stores lo + (value - min) × slope for each value.
+fn store_scaled(v: &mut [f32], min: f32, lo: f32, slope: f32)
+    ensures { λ _. ⌜ now (v .exit) ≡ map (scaledBy min lo slope) (now (v .entry)) ⌝ }
+{
+    let n = v.len();
+    let mut i: usize = 0;
+    while i < n {
+        v[i] = lo + (v[i] - min) * slope;
+        i += 1;
+    }
 }

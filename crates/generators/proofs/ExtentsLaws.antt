@@ -1,0 +1,92 @@
+-- Laws of the loops over a map: the scan for (min, max), and the pass that stores a function of each value.
+use Prim.Native.Nat.{ℕ, zero, suc, _+_, _≤_, _<_}
+use mathlib.Core.Path.{_≡_, refl, sym, ap, _∙_}
+use mathlib.Core.List.{List, [], _∷_, _++_, map}
+use native.Mathlib.Numerals.{add-one}
+use native.Mathlib.Omega.{arith}
+use lib.ListN.{length, getD, take, set, length-map, List·getD-map}
+use lib.Seq.{take-all, take-suc}
+use lib.Ieee.{Float, nan, binary32, ofBits}
+use Rattle.lists.specs.Loops.{tabulate}
+use Rattle.lists.proofs.TableLaws.{filled, filled-none, filled-length, filled-more, filled-done, filled-ahead, tabulate-same, tabulate-getD}
+use Rattle.generators.specs.declared.MinMax.{MinMax}
+use Rattle.generators.specs.Extents.{widened, widenedBy, minMaxOf}
+
+pub widened-by-more : (m : MinMax) (xs : List Float) (y : Float) → widenedBy m (xs ++ (y ∷ [])) ≡ widened (widenedBy m xs) y
+unfolding widenedBy
+widened-by-more m [] y = refl
+widened-by-more m (x ∷ xs) y = widened-by-more (widened m x) xs y
+
+-- m is the extent of the first i values, at least one
+pub record Scanned (v : List Float) (i : ℕ) (m : MinMax) : Type 0 where
+  pub some : 1 ≤ i
+  pub within : i ≤ length v
+  pub found : m ≡ minMaxOf (take i v)
+
+pub scan-none : (v : List Float) → length v ≡ 0 → record { min = ofBits binary32 0; max = ofBits binary32 0 } ≡ minMaxOf v
+unfolding minMaxOf
+scan-none [] h = refl
+scan-none (x ∷ xs) h = absurd (omega arith)
+
+pub scan-first : (v : List Float) → 0 < length v → Scanned v 1 (record { min = getD v 0 nan; max = getD v 0 nan })
+unfolding minMaxOf widenedBy
+scan-first [] h = absurd (omega arith)
+scan-first (x ∷ xs) h = record { some = omega arith; within = omega arith; found = refl }
+
+scan-step : (v : List Float) (i : ℕ) → 1 ≤ i → i < length v → minMaxOf (take (suc i) v) ≡ widened (minMaxOf (take i v)) (getD v i nan)
+unfolding minMaxOf
+scan-step [] i s h = absurd (omega arith)
+scan-step (x ∷ xs) zero s h = absurd (omega arith)
+scan-step (x ∷ xs) (suc i) s h =
+    ap (widenedBy (record { min = x; max = x })) (take-suc xs i nan (omega arith)) ∙ widened-by-more _ (take i xs) (getD xs i nan)
+
+pub scan-more : (v : List Float) (i : ℕ) (m r : MinMax) → Scanned v i m → i < length v → r ≡ widened m (getD v i nan) → Scanned v (i + 1) r
+scan-more v i m r s h e = record {
+  some = omega arith;
+  within = omega arith;
+  found =
+      e ∙ ap (λ (q : MinMax). widened q (getD v i nan)) (s .found) ∙ sym (scan-step v i (s .some) h)
+      ∙ ap (λ (n : ℕ). minMaxOf (take n v)) (sym (add-one i));
+}
+
+pub scan-done : (v : List Float) (i : ℕ) (m : MinMax) → Scanned v i m → length v ≤ i → m ≡ minMaxOf v
+scan-done v i m s h = s .found ∙ ap minMaxOf (take-all i v h)
+
+-- a list of values of g is g's map
+tabulate-map : (g : Float → Float) (l : List Float) → tabulate (length l) (λ i. g (getD l i nan)) ≡ map g l
+tabulate-map g l =
+    tabulate-same (λ i. g (getD l i nan)) (λ i. getD (map g l) i (g nan)) (length l) (λ i _. sym (List·getD-map g l i nan))
+    ∙ ap (λ (n : ℕ). tabulate n (λ i. getD (map g l) i (g nan))) (sym (length-map l g))
+    ∙ tabulate-getD (map g l) (g nan)
+
+module _ (g : Float → Float) (old : List Float) where
+  -- new holds g of each of the first i values, and the others as they were
+  pub record Stored (i : ℕ) (new : List Float) : Type 0 where
+    pub within : i ≤ length old
+    pub held : new ≡ filled (λ k. g (getD old k nan)) i old
+
+  pub stored-none : Stored 0 old
+  stored-none = record { within = omega arith; held = filled-none (λ k. g (getD old k nan)) old }
+
+  pub stored-length : (i : ℕ) (new : List Float) → Stored i new → length new ≡ length old
+  stored-length i new s = ap length (s .held) ∙ filled-length (λ k. g (getD old k nan)) i old (s .within)
+
+  pub stored-more : (i : ℕ) (new : List Float) → Stored i new → i < length old → Stored (i + 1) (set new i (g (getD new i nan)))
+  stored-more i new s h = record {
+    within = omega arith;
+    held =
+        ap (λ (l : List Float). set l i (g (getD l i nan))) (s .held)
+        ∙ ap (λ (x : Float). set (filled f i old) i (g x)) (filled-ahead f i i old nan (omega arith))
+        ∙ filled-more f i old h;
+  }
+    where
+      f : ℕ → Float
+      f k = g (getD old k nan)
+
+  pub stored-done : (i : ℕ) (new : List Float) → Stored i new → length old ≤ i → new ≡ map g old
+  stored-done i new s h =
+      let e : i ≡ length old = omega (arith, s .within) in
+      s .held ∙ filled-done f i old (sym e) ∙ ap (λ (n : ℕ). tabulate n f) e ∙ tabulate-map g old
+    where
+      f : ℕ → Float
+      f k = g (getD old k nan)

@@ -1,0 +1,62 @@
+use Prim.Native.Nat.{_-_}
+use mathlib.Core.Path.{_≡_}
+use native.Mathlib.Omega.{arith}
+use borrow.Author.Needs.{needs}
+use lib.ListN.{length}
+use Rattle.generators.specs.Extents.{scaledBy}
+use Rattle.generators.proofs.ExtentsLaws.{Stored, stored-none, stored-length, stored-more, stored-done}
+use Rattle.generators.proofs.store_scaled.Statement.{statement}
+use Rattle.generators.proofs.store_scaled.Tie as tie
+
+abbrev Inv-loop : tie.InvT-loop
+Inv-loop v₀ min lo slope n i₀ v i = Stored (scaledBy min lo slope) v₀ i v
+
+abbrev μ-loop : tie.MeasureT-loop
+μ-loop v₀ min lo slope n i₀ v i = length v₀ - i
+
+loop-holds : tie.Need-loop-holds Inv-loop μ-loop
+loop-holds c = stored-none _ _
+
+mul-v : tie.Need-mul-v Inv-loop μ-loop
+mul-v c = search needs
+
+slice-read-v : tie.Need-slice-read-v Inv-loop μ-loop
+slice-read-v c = rw (stored-length _ _ _ _ (c .before .before .loop .inv)) (c .before .loop-test .taken)
+
+mul-v-2 : tie.Need-mul-v-2 Inv-loop μ-loop
+mul-v-2 c = search needs
+
+slice-write-v : tie.Need-slice-write-v Inv-loop μ-loop
+slice-write-v c = rw (stored-length _ _ _ _ (c .before .before .loop .inv)) (c .before .loop-test .taken)
+
+add-i : tie.Need-add-i Inv-loop μ-loop
+add-i c = search needs
+
+loop-less : tie.Need-loop-less Inv-loop μ-loop
+loop-less c = search needs
+
+loop-again : tie.Need-loop-again Inv-loop μ-loop
+loop-again c = stored-more _ _ _ _ (c .before .before .loop .inv) (c .before .loop-test .taken)
+
+same-length : tie.Need-same-length Inv-loop μ-loop
+same-length c = stored-length _ _ _ _ (c .before .loop .inv)
+
+returns : tie.Need-returns Inv-loop μ-loop
+returns c = stored-done _ _ _ _ (c .before .loop .inv) (c .loop-test .left)
+
+pub store-scaled-spec : {M : Type 1} → statement M
+store-scaled-spec =
+    tie.close
+    (tie.spec
+    Inv-loop
+    μ-loop
+    loop-holds
+    mul-v
+    slice-read-v
+    mul-v-2
+    slice-write-v
+    add-i
+    loop-less
+    loop-again
+    same-length
+    returns)
