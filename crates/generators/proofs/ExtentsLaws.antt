@@ -1,14 +1,19 @@
 -- Laws of the loops over a map: the scan for (min, max), and the pass that stores a function of each value.
 use Prim.Native.Nat.{ℕ, zero, suc, _+_, _≤_, _<_}
 use mathlib.Core.Path.{_≡_, refl, sym, ap, _∙_}
+use mathlib.Core.Bool.{Bool, true, false}
 use mathlib.Core.List.{List, [], _∷_, _++_, map}
 use native.Mathlib.Numerals.{add-one}
 use native.Mathlib.Omega.{arith}
+use borrow.Author.Tests.{eq-eqb, ne-eqb}
 use lib.ListN.{length, getD, take, set, length-map, List·getD-map}
 use lib.Seq.{take-all, take-suc}
 use lib.Ieee.{Float, nan, binary32, ofBits}
+use lib.Ieee.Scale.{finite}
 use Rattle.lists.specs.Loops.{tabulate}
 use Rattle.lists.proofs.TableLaws.{filled, filled-none, filled-length, filled-more, filled-done, filled-ahead, tabulate-same, tabulate-getD}
+use Rattle.grid.specs.Heights.{firstNotFinite, allFinite, FiniteBelow}
+use Rattle.grid.proofs.HeightsLaws.{below-none, below-more, below-less, first-at, first-none}
 use Rattle.generators.specs.declared.MinMax.{MinMax}
 use Rattle.generators.specs.Extents.{widened, widenedBy, minMaxOf}
 
@@ -71,14 +76,16 @@ module _ (g : Float → Float) (old : List Float) where
   pub stored-length : (i : ℕ) (new : List Float) → Stored i new → length new ≡ length old
   stored-length i new s = ap length (s .held) ∙ filled-length (λ k. g (getD old k nan)) i old (s .within)
 
-  pub stored-more : (i : ℕ) (new : List Float) → Stored i new → i < length old → Stored (i + 1) (set new i (g (getD new i nan)))
-  stored-more i new s h = record {
-    within = omega arith;
-    held =
-        ap (λ (l : List Float). set l i (g (getD l i nan))) (s .held)
-        ∙ ap (λ (x : Float). set (filled f i old) i (g x)) (filled-ahead f i i old nan (omega arith))
-        ∙ filled-more f i old h;
-  }
+  pub stored-more : (i : ℕ) (new : List Float) (x : Float) → Stored i new → i < length old → x ≡ g (getD new i nan) → Stored (i + 1) (set new i x)
+  stored-more i new x s h e =
+      record {
+        within = omega arith;
+        held =
+            ap (set new i) e
+            ∙ ap (λ (l : List Float). set l i (g (getD l i nan))) (s .held)
+            ∙ ap (λ (x : Float). set (filled f i old) i (g x)) (filled-ahead f i i old nan (omega arith))
+            ∙ filled-more f i old h;
+      }
     where
       f : ℕ → Float
       f k = g (getD old k nan)
@@ -90,3 +97,37 @@ module _ (g : Float → Float) (old : List Float) where
     where
       f : ℕ → Float
       f k = g (getD old k nan)
+
+-- the place that the search for a bad value gives, and its test
+pub all-finite : (hs : List Float) (c : ℕ) → c ≡ firstNotFinite hs → c ≡ length hs → allFinite hs ≡ true
+unfolding allFinite
+all-finite hs c e h = eq-eqb _ _ (sym e ∙ h)
+
+pub not-all-finite : (hs : List Float) (c : ℕ) → c ≡ firstNotFinite hs → (c ≡ length hs → ⊥) → allFinite hs ≡ false
+unfolding allFinite
+not-all-finite hs c e h = ne-eqb _ _ (λ q. h (e ∙ q))
+
+-- the pass that tests g of each value, where each of the first i was finite
+module _ (g : Float → Float) where
+  map-at : (v : List Float) (i : ℕ) → i < length v → getD (map g v) i nan ≡ g (getD v i nan)
+  map-at [] i h = absurd (omega arith)
+  map-at (x ∷ xs) zero h = refl
+  map-at (x ∷ xs) (suc i) h = map-at xs i (omega arith)
+
+  pub record Tested (v : List Float) (i : ℕ) : Type 0 where
+    pub finites : FiniteBelow (map g v) i
+
+  pub test-none : (v : List Float) → Tested v 0
+  test-none v = record { finites = below-none (map g v) 0 (omega arith) }
+
+  module _ (v : List Float) (i : ℕ) (t : Tested v i) where
+    pub test-more : i < length v → finite (g (getD v i nan)) ≡ true → Tested v (i + 1)
+    test-more h e = record { finites = below-more (omega arith) (t .finites) (ap finite (map-at v i h) ∙ e) }
+
+    pub test-bad : i < length v → finite (g (getD v i nan)) ≡ false → allFinite (map g v) ≡ false
+    test-bad h e =
+        let l : i < length (map g v) = rw length-map h in
+        not-all-finite (map g v) i (sym (first-at (map g v) i l (t .finites) (ap finite (map-at v i h) ∙ e))) (λ q. omega arith)
+
+    pub test-done : length v ≤ i → allFinite (map g v) ≡ true
+    test-done h = all-finite (map g v) (length (map g v)) (sym (first-none (map g v) (below-less (rw length-map h) (t .finites)))) refl

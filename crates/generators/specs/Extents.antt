@@ -1,10 +1,12 @@
 -- `get_min_max` and `normalize` of document 01, on lists of any length.
 use Prim.Native.Nat.{ℕ}
+use mathlib.Core.Path.{_≡_}
 use mathlib.Core.Bool.{Bool, not, _||_, cond}
 use mathlib.Core.List.{List, [], _∷_, map}
 use lib.Ieee.{Float, binary32, ofBits, add, sub, mul, div, lt, eq}
 use lib.Ieee.Scale.{finite}
-use Rattle.answers.specs.Outcome.{Outcome, gives, refused, refusedAt, refusalOf}
+use Rattle.answers.specs.Outcome.{Outcome, gives, refused, refusedAt, refusalOf, answerOf}
+use Rattle.answers.specs.declared.Answer.{Answer}
 use Rattle.grid.specs.Heights.{firstNotFinite, allFinite}
 use Rattle.generators.specs.declared.MinMax.{MinMax}
 use Rattle.generators.specs.declared.Extent.{Extent}
@@ -46,13 +48,22 @@ unfoldable pub normalizedOf : List Float → Float → Float → List Float
 unfolding minMaxOf
 normalizedOf v lo hi = map (normalizedAt (minMaxOf v) lo hi) v
 
+-- refusal 4: a target not finite
+abbrev pub badTargets : Float → Float → Bool
+badTargets lo hi = not (finite lo) || not (finite hi)
+
 -- 4: a target not finite; 5: a height not finite; 22: a value of the result not finite
 abbrev pub normalizeAnswer : List Float → Float → Float → Outcome (Unit {0})
 normalizeAnswer v lo hi =
-    cond (not (finite lo) || not (finite hi)) (refused 4)
+    cond (badTargets lo hi) (refused 4)
     (cond (allFinite v) (cond (allFinite (normalizedOf v lo hi)) (gives tt) (refused 22)) (refusedAt 5 (firstNotFinite v)))
 
 -- what the slice holds at the end: the result, or on any refusal what it held
 abbrev pub normalizeHeights : List Float → Float → Float → List Float
 normalizeHeights v lo hi =
-    cond (not (finite lo) || not (finite hi)) v (cond (allFinite v) (cond (allFinite (normalizedOf v lo hi)) (normalizedOf v lo hi) v) v)
+    cond (badTargets lo hi) v (cond (allFinite v) (cond (allFinite (normalizedOf v lo hi)) (normalizedOf v lo hi) v) v)
+
+-- what `normalize` promises of its answer and of the slice after it
+pub record NormalizeMade (v : List Float) (lo hi : Float) (r : Answer) (after : List Float) : Type 0 where
+  pub answer : answerOf r ≡ normalizeAnswer v lo hi
+  pub heights : after ≡ normalizeHeights v lo hi

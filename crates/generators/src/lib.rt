@@ -2,12 +2,16 @@
 use answers::Answer;
 use answers::Refusal;
 use answers::outside;
+use floats::is_finite;
 use grid::Sides;
+use grid::first_not_finite;
 ghost use Prim.Native.Nat.{_-_, _^_, _<_};
 ghost use mathlib.Core.Path.{_≡_};
+ghost use mathlib.Core.Bool.{not};
 ghost use mathlib.Core.List.{map};
+ghost use Rattle.grid.specs.Heights.{allFinite};
 ghost use Rattle.generators.specs.Marks.{badReport, reportOf, ReportMade};
-ghost use Rattle.generators.specs.Extents.{widened, minMaxOf, slopeOf, scaledBy};
+ghost use Rattle.generators.specs.Extents.{widened, minMaxOf, extentOf, getMinMaxAnswer, slopeOf, scaledBy, badTargets, NormalizeMade};
 
 // Document 01's record of the stop marks: the last p asked at, the questions asked, and whether one got yes.
 pub struct Progress {
@@ -141,6 +145,18 @@ fn min_max(v: &[f32]) -> MinMax
     m
 }
 
+// (min, max) of a map of any length.
+pub fn get_min_max(v: &[f32]) -> Extent
+    ensures { λ r. ⌜ extentOf r ≡ getMinMaxAnswer (now (v .entry)) ⌝ }
+{
+    let n = v.len();
+    let bad = first_not_finite(Sides { w: n, h: 1 }, v);
+    if bad != n {
+        return Extent::Refused(Refusal::Height(bad));
+    }
+    Extent::Of(min_max(v))
+}
+
 // What a difference of heights is multiplied by: 0 where min and max are equal.
 fn slope(m: MinMax, lo: f32, hi: f32) -> f32
     ensures { λ r. ⌜ r ≡ slopeOf m lo hi ⌝ }
@@ -151,14 +167,67 @@ fn slope(m: MinMax, lo: f32, hi: f32) -> f32
     (hi - lo) / (m.max - m.min)
 }
 
-// Stores lo + (value - min) × slope for each value.
+// lo + (x - min) × slope, the value that is tested and stored.
+fn scaled(x: f32, min: f32, lo: f32, slope: f32) -> f32
+    ensures { λ r. ⌜ r ≡ scaledBy min lo slope x ⌝ }
+{
+    lo + (x - min) * slope
+}
+
+// Whether a scaled value of v is not finite; nothing is stored.
+fn runs_off(v: &[f32], min: f32, lo: f32, slope: f32) -> bool
+    ensures { λ r. ⌜ r ≡ not (allFinite (map (scaledBy min lo slope) (now (v .entry)))) ⌝ }
+{
+    let n = v.len();
+    let mut i: usize = 0;
+    while i < n {
+        if !is_finite(scaled(v[i], min, lo, slope)) {
+            return true;
+        }
+        i += 1;
+    }
+    false
+}
+
+// Stores the scaled value of each value.
 fn store_scaled(v: &mut [f32], min: f32, lo: f32, slope: f32)
     ensures { λ _. ⌜ now (v .exit) ≡ map (scaledBy min lo slope) (now (v .entry)) ⌝ }
 {
     let n = v.len();
     let mut i: usize = 0;
     while i < n {
-        v[i] = lo + (v[i] - min) * slope;
+        v[i] = scaled(v[i], min, lo, slope);
         i += 1;
     }
+}
+
+// Refusal 4 of `normalize`: a target that is not finite.
+fn bad_targets(lo: f32, hi: f32) -> bool
+    ensures { λ r. ⌜ r ≡ badTargets lo hi ⌝ }
+{
+    if is_finite(lo) {
+        return !is_finite(hi);
+    }
+    true
+}
+
+// Stretches a map of any length to target_min … target_max. On a refusal the slice is as it came: every result is tested before the first is stored.
+pub fn normalize(v: &mut [f32], target_min: f32, target_max: f32) -> Answer
+    ensures { λ r. ⌜ NormalizeMade (now (v .entry)) «target_min» «target_max» r (now (v .exit)) ⌝ }
+{
+    if bad_targets(target_min, target_max) {
+        return Answer::Refused(Refusal::Setting);
+    }
+    let n = v.len();
+    let bad = first_not_finite(Sides { w: n, h: 1 }, v);
+    if bad != n {
+        return Answer::Refused(Refusal::Height(bad));
+    }
+    let m = min_max(v);
+    let k = slope(m, target_min, target_max);
+    if runs_off(v, m.min, target_min, k) {
+        return Answer::Refused(Refusal::RunOff);
+    }
+    store_scaled(v, m.min, target_min, k);
+    Answer::Done
 }

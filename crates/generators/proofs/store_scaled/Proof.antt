@@ -1,8 +1,10 @@
 use Prim.Native.Nat.{_-_}
-use mathlib.Core.Path.{_≡_}
+use mathlib.Core.Path.{_≡_, ap, _∙_, subst}
+use mathlib.Core.List.{List}
 use native.Mathlib.Omega.{arith}
 use borrow.Author.Needs.{needs}
-use lib.ListN.{length}
+use lib.ListN.{length, set}
+use lib.Ieee.{Float}
 use Rattle.generators.specs.Extents.{scaledBy}
 use Rattle.generators.proofs.ExtentsLaws.{Stored, stored-none, stored-length, stored-more, stored-done}
 use Rattle.generators.proofs.store_scaled.Statement.{statement}
@@ -17,17 +19,20 @@ abbrev μ-loop : tie.MeasureT-loop
 loop-holds : tie.Need-loop-holds Inv-loop μ-loop
 loop-holds c = stored-none _ _
 
+mul-scaled : tie.Need-mul-scaled Inv-loop μ-loop
+mul-scaled c = search needs
+
+slice-read-scaled : tie.Need-slice-read-scaled Inv-loop μ-loop
+slice-read-scaled c = rw (stored-length _ _ _ _ (c .before .before .loop .inv)) (c .before .loop-test .taken)
+
+scaled-requires : tie.Need-scaled-requires Inv-loop μ-loop
+scaled-requires c κs = search needs
+
 mul-v : tie.Need-mul-v Inv-loop μ-loop
 mul-v c = search needs
 
-slice-read-v : tie.Need-slice-read-v Inv-loop μ-loop
-slice-read-v c = rw (stored-length _ _ _ _ (c .before .before .loop .inv)) (c .before .loop-test .taken)
-
-mul-v-2 : tie.Need-mul-v-2 Inv-loop μ-loop
-mul-v-2 c = search needs
-
 slice-write-v : tie.Need-slice-write-v Inv-loop μ-loop
-slice-write-v c = rw (stored-length _ _ _ _ (c .before .before .loop .inv)) (c .before .loop-test .taken)
+slice-write-v c = rw (stored-length _ _ _ _ (c .before .before .before .loop .inv)) (c .before .before .loop-test .taken)
 
 add-i : tie.Need-add-i Inv-loop μ-loop
 add-i c = search needs
@@ -36,7 +41,7 @@ loop-less : tie.Need-loop-less Inv-loop μ-loop
 loop-less c = search needs
 
 loop-again : tie.Need-loop-again Inv-loop μ-loop
-loop-again c = stored-more _ _ _ _ (c .before .before .loop .inv) (c .before .loop-test .taken)
+loop-again c = stored-more _ _ _ _ _ (c .before .before .before .loop .inv) (c .before .before .loop-test .taken) (c .scaled .ensures)
 
 same-length : tie.Need-same-length Inv-loop μ-loop
 same-length c = stored-length _ _ _ _ (c .before .loop .inv)
@@ -51,9 +56,10 @@ store-scaled-spec =
     Inv-loop
     μ-loop
     loop-holds
+    mul-scaled
+    slice-read-scaled
+    scaled-requires
     mul-v
-    slice-read-v
-    mul-v-2
     slice-write-v
     add-i
     loop-less
