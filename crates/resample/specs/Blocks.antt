@@ -1,7 +1,8 @@
 -- `downsample`: the average of each block of cells. Column x of a side lies in block x × reduced / side, cut to a whole number, so a block is the
 -- run of columns from `firstOf` of the block up to that of the next (proofs/BlockLaws.antt has that law); its sum starts at +0 and adds the
 -- block's cells in number order.
-use Prim.Native.Nat.{ℕ, zero, suc, _+_, _-_, _*_, _/_, _%_}
+use Prim.Native.Nat.{ℕ, zero, suc, _+_, _-_, _*_, _/_, _%_, _≤_, _<_}
+use mathlib.Core.Path.{_≡_}
 use mathlib.Core.Bool.{Bool, not, _||_, cond}
 use mathlib.Core.List.{List}
 use lib.ListN.{length, getD}
@@ -20,6 +21,15 @@ blockOf side reduced x = x * reduced / side
 -- the first column (or row) of block b
 abbrev pub firstOf : ℕ → ℕ → ℕ → ℕ
 firstOf side reduced b = (b * side + (reduced - 1)) / reduced
+
+-- The blocks are the source's, for any reduced side from 1 to the full one: the columns from the first of block b up to the first of the next are those
+-- that the source sends to b; every block has a column, and together they are the whole side. Proved in proofs/BlockLaws.antt.
+pub record SourceBlocks (side reduced : ℕ) : Type 0 where
+  pub sent : (x b : ℕ) → blockOf side reduced x ≡ b → (firstOf side reduced b ≤ x) × (x < firstOf side reduced (b + 1))
+  pub taken : (x b : ℕ) → firstOf side reduced b ≤ x → x < firstOf side reduced (b + 1) → blockOf side reduced x ≡ b
+  pub nonempty : (b : ℕ) → firstOf side reduced b < firstOf side reduced (b + 1)
+  pub begins : firstOf side reduced 0 ≡ 0
+  pub ends : firstOf side reduced reduced ≡ side
 
 abbrev pub countOf : ℕ → ℕ → ℕ → ℕ
 countOf side reduced b = firstOf side reduced (b + 1) - firstOf side reduced b

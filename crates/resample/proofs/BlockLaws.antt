@@ -1,0 +1,56 @@
+-- The blocks of a side are the source's. With s the side and r the reduced side, block b starts at the least x with b × s ≤ x × r.
+use Prim.Native.Nat.{ℕ, suc, _+_, _-_, _*_, _/_, _≤_, _<_}
+use mathlib.Core.Path.{_≡_, refl, sym, ap, _∙_, subst}
+use native.Mathlib.Nat.{div-lt-iff-lt-mul, le-div-iff-mul-le, div-eq-of-lt-le, mul-comm, lt-div-mul-add, mul-div-cancel}
+use native.Mathlib.Omega.{arith}
+use Rattle.resample.specs.Blocks.{blockOf, firstOf, SourceBlocks}
+
+module _ (s r : ℕ) (low : 1 ≤ r) where
+  -- at or past the first column of block b
+  past : (x b : ℕ) → firstOf s r b ≤ x → b * s ≤ x * r
+  past x b h =
+      let q : firstOf s r b < x + 1 = omega arith in
+      let p : b * s + (r - 1) < (x + 1) * r = div-lt-iff-lt-mul low .0 q in
+      omega arith
+
+  reaches : (x b : ℕ) → b * s ≤ x * r → firstOf s r b ≤ x
+  reaches x b h =
+      let p : b * s + (r - 1) < (x + 1) * r = omega arith in
+      let q : firstOf s r b < x + 1 = div-lt-iff-lt-mul low .1 p in
+      omega arith
+
+  -- before it
+  short : (x b : ℕ) → x < firstOf s r b → x * r < b * s
+  short x b h =
+      let q : x + 1 ≤ firstOf s r b = omega arith in
+      let p : (x + 1) * r ≤ b * s + (r - 1) = le-div-iff-mul-le low .0 q in
+      omega arith
+
+  stops : (x b : ℕ) → x * r < b * s → x < firstOf s r b
+  stops x b h =
+      let p : (x + 1) * r ≤ b * s + (r - 1) = omega arith in
+      let q : x + 1 ≤ firstOf s r b = le-div-iff-mul-le low .1 p in
+      omega arith
+
+  pub source-blocks : r ≤ s → SourceBlocks s r
+  source-blocks high = record {
+    sent = λ x b e. (
+      reaches x b (subst (λ (k : ℕ). k * s ≤ x * r) e (le-div-iff-mul-le (omega arith) .0 (omega arith))),
+      stops x (b + 1) (subst (λ (k : ℕ). x * r < (k + 1) * s) e (let l : x * r < x * r / s * s + s = lt-div-mul-add (omega arith) in omega arith)),
+    );
+    taken = λ x b l u. div-eq-of-lt-le s (past x b l) (short x (b + 1) u);
+    nonempty = λ b. stops (firstOf s r b) (b + 1) (next b);
+    begins = let z : firstOf s r 0 ≤ 0 = reaches 0 0 (omega arith) in omega arith;
+    ends = all;
+  }
+    where
+      next : (b : ℕ) → firstOf s r b * r < (b + 1) * s
+      next b =
+          let l : firstOf s r b * r ≤ b * s + (r - 1) = le-div-iff-mul-le low .0 (omega arith) in
+          omega arith
+
+      all : firstOf s r r ≡ s
+      all =
+          let a : firstOf s r r ≤ s = reaches s r (omega (arith, mul-comm r s)) in
+          let b : s ≤ firstOf s r r = le-div-iff-mul-le low .1 (omega (arith, mul-comm r s)) in
+          omega arith
