@@ -1,1 +1,4 @@
+-- Laws of the definitions in specs/.
+pub mod RefusalLaws
 pub mod BlockLaws
+pub mod WorkLaws

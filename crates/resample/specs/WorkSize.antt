@@ -1,6 +1,7 @@
 -- The working grid of a map: the map's own sides where the longest fits, else both scaled by max_res / longest in binary32, never below 1.
-use Prim.Native.Nat.{ℕ, max}
-use mathlib.Core.Bool.{cond}
+use Prim.Native.Nat.{ℕ, max, _≤_}
+use mathlib.Core.Path.{_≡_}
+use mathlib.Core.Bool.{false, cond}
 use lib.IntN.{pos}
 use lib.Dec.{leb}
 use lib.Ieee.{Float, binary32, ofInt, mul, div, toUnsigned}
@@ -31,3 +32,17 @@ workOf (Work.Refused r) = refusalOf r
 -- 1: a side outside 1 to 4,096
 abbrev pub workAnswer : ℕ → ℕ → ℕ → Outcome Sides
 workAnswer w h res = cond (badSides w h) (refused 1) (gives (workSize w h res))
+
+-- a reduced grid within a full one whose sides are at most 4,096
+pub record Within (w h dw dh : ℕ) : Type 0 where
+  pub wide : w ≤ 4096
+  pub high : h ≤ 4096
+  pub dw-low : 1 ≤ dw
+  pub dw-high : dw ≤ w
+  pub dh-low : 1 ≤ dh
+  pub dh-high : dh ≤ h
+
+-- For sides 1 to 4,096 the working sides are at least 1 and at most the full ones, whatever the working side asked for.
+-- Proved in proofs/WorkLaws.antt.
+abbrev pub WorkWithin : Type 0
+WorkWithin = (w h res : ℕ) → badSides w h ≡ false → Within w h (workSize w h res .w) (workSize w h res .h)
