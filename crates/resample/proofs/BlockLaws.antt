@@ -1,8 +1,13 @@
 -- The blocks of a side are the source's. With s the side and r the reduced side, block b starts at the least x with b × s ≤ x × r.
-use Prim.Native.Nat.{ℕ, suc, _+_, _-_, _*_, _/_, _≤_, _<_}
+use Prim.Native.Nat.{ℕ, suc, _+_, _-_, _*_, _/_, _^_, _≤_, _<_}
 use mathlib.Core.Path.{_≡_, refl, sym, ap, _∙_, subst}
-use native.Mathlib.Nat.{div-lt-iff-lt-mul, le-div-iff-mul-le, div-eq-of-lt-le, mul-comm, lt-div-mul-add, mul-div-cancel}
+use native.Mathlib.Nat.{div-lt-iff-lt-mul, le-div-iff-mul-le, div-eq-of-lt-le, mul-comm, lt-div-mul-add, mul-le-mul, mul-le-mul-right}
 use native.Mathlib.Omega.{arith}
+use lib.Dec.{T, le→leb}
+use lib.IntN.{pos}
+use lib.Ieee.{binary32, inFloat}
+use Rattle.resample.specs.WorkSize.{Within}
+use Rattle.resample.specs.Places.{Part}
 use Rattle.resample.specs.Blocks.{blockOf, firstOf, SourceBlocks}
 
 module _ (s r : ℕ) (low : 1 ≤ r) where
@@ -54,3 +59,32 @@ module _ (s r : ℕ) (low : 1 ≤ r) where
           let a : firstOf s r r ≤ s = reaches s r (omega (arith, mul-comm r s)) in
           let b : s ≤ firstOf s r r = le-div-iff-mul-le low .1 (omega (arith, mul-comm r s)) in
           omega arith
+
+-- block b from its first column x up to e, the next one's
+pub run-of : (s r b x e : ℕ) → 1 ≤ r → r ≤ s → b < r → x ≡ firstOf s r b → e ≡ firstOf s r (b + 1) → (x < e) × (e ≤ s)
+run-of s r b x e low high l p q =
+    let m : (b + 1) * s ≤ r * s = mul-le-mul-right s (omega arith) in
+    omega (arith, source-blocks s r low high .nonempty b, reaches s r low s (b + 1) (omega (arith, mul-comm r s)))
+
+module _ {w h dw dh : ℕ} (in-grid : Within w h dw dh) (x e y f : ℕ) (across : (x < e) × (e ≤ w)) (along : (y < f) × (f ≤ h)) where
+  -- a block is a part of the source
+  pub block-part : (len : ℕ) → len ≡ w * h → Part len w x (e - x) y (f - y)
+  block-part len size = record {
+    wide = in-grid .wide;
+    right = omega arith;
+    high = omega (arith, in-grid .high);
+    bottom =
+        let a : y + (f - y) ≡ f = omega arith in
+        let b : f * w ≤ h * w = mul-le-mul-right w (along .1) in
+        subst (λ (k : ℕ). k * w ≤ len) (sym a) (omega (arith, mul-comm w h));
+  }
+
+  pub block-cells : (e - x) * (f - y) ≤ 2 ^ 24
+  block-cells =
+      let a : e - x ≤ 4096 = omega (arith, in-grid .wide) in
+      let b : f - y ≤ 4096 = omega (arith, in-grid .high) in
+      mul-le-mul a b
+
+  pub block-float : T (inFloat binary32 (pos ((e - x) * (f - y))))
+  unfolding inFloat
+  block-float = le→leb _ _ block-cells

@@ -2,3 +2,5 @@
 pub mod RefusalLaws
 pub mod BlockLaws
 pub mod WorkLaws
+pub mod SumLaws
+pub mod FillLaws

@@ -2,3 +2,4 @@
 pub mod WorkSize
 pub mod Blocks
 pub mod Samples
+pub mod Places
