@@ -5,8 +5,11 @@ use mathlib.Core.Bool.{Bool, true, false, _||_}
 use mathlib.Core.List.{List}
 use native.Mathlib.Nat.{zero-mod}
 use lib.Dec.{eqb}
-use lib.Ieee.{Float}
+use lib.ListN.{getD}
+use lib.Ieee.{Float, nan, le}
+use Rattle.grid.specs.Sides.{cellOf}
 use Rattle.grid.specs.Base.{onBorder, baseOf}
+use Rattle.grid.proofs.SidesLaws.{column-cell, row-cell}
 
 or-swap : (a b c d : Bool) → (a || b || c || d) ≡ (a || c || (b || d))
 or-swap true b c d = refl
@@ -21,3 +24,7 @@ border-ends w h x y = or-swap (eqb x 0) (eqb y 0) (eqb x (w - 1)) (eqb y (h - 1)
 -- cell 0 is a corner
 pub base-first : (w h : ℕ) (water : Float) (hs : List Float) → baseOf w h water hs 0 ≡ true
 base-first w h water hs = rw (zero-mod w)
+
+-- base level of a cell from its column and row, as `is_base` has it
+pub base-cell : (w h x y : ℕ) (water : Float) (hs : List Float) → x < w → (onBorder w h x y || le (getD hs (cellOf w x y) nan) water) ≡ baseOf w h water hs (cellOf w x y)
+base-cell w h x y water hs l = rw (column-cell w x y l, row-cell w x y l)

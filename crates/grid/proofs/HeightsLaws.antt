@@ -1,16 +1,18 @@
 -- 'All heights are finite': what the first bad cell says of the heights before it, and that it is the only such cell.
-use Prim.Native.Nat.{ℕ, zero, suc, _≤_, _<_}
+use Prim.Native.Nat.{ℕ, zero, suc, _+_, min, _≤_, _<_}
 use native.Mathlib.Omega.{arith}
-use native.Mathlib.Decide.{decLt}
-use mathlib.Core.Path.{_≡_, refl, sym, _∙_, ap, subst}
-use mathlib.Core.Bool.{Bool, true, false, cond, true≢false}
-use mathlib.Core.List.{List, [], _∷_}
-use lib.ListN.{length, getD}
-use lib.Dec.{eqb}
+use native.Mathlib.Decide.{decLt, ℕ-discrete}
+use mathlib.Core.Path.{_≡_, refl, sym, _∙_, ap}
+use mathlib.Core.Bool.{Bool, true, false, cond, _&&_, and-assoc}
+use mathlib.Core.List.{List, [], _∷_, _++_}
+use lib.ListN.{length, getD, take, set, length-set}
+use lib.Seq.{getD-set-same, getD-set-other}
+use lib.Dec.{eqb, eqb·suc-suc, eqb·zero-suc}
 use lib.Ieee.{Float, nan}
 use lib.Ieee.Scale.{finite}
-use borrow.Author.Tests.{eq-eqb, eqb-true}
-use Rattle.grid.specs.Heights.{firstNotFinite, allFinite, FiniteBelow}
+use borrow.Author.Tests.{eq-eqb, eqb-true, eqb-false}
+use lib.Arith.{lt-of-le-ne}
+use Rattle.grid.specs.Heights.{firstNotFinite, allFinite, FiniteBelow, FirstBad}
 
 pub below-none : (hs : List Float) (n : ℕ) → n ≤ 0 → FiniteBelow hs n
 below-none hs n h = record { each = λ i l. absurd (omega arith) }
@@ -27,17 +29,136 @@ below-more {hs} {n} {m} h p e = record { each = λ i l. go i l (decLt i n) }
         let same : i ≡ n = omega arith in
         ap (λ (k : ℕ). finite (getD hs k nan)) same ∙ e
 
-below-tail : {x : Float} {xs : List Float} {n : ℕ} → FiniteBelow (x ∷ xs) (suc n) → FiniteBelow xs n
+pub below-cons : {x : Float} {xs : List Float} {n : ℕ} → finite x ≡ true → FiniteBelow xs n → FiniteBelow (x ∷ xs) (suc n)
+below-cons {x} {xs} {n} e p = record { each = go }
+  where
+    go : (i : ℕ) → i < suc n → finite (getD (x ∷ xs) i nan) ≡ true
+    go zero l = e
+    go (suc i) l = p .each i (omega arith)
+
+pub below-tail : {x : Float} {xs : List Float} {n : ℕ} → FiniteBelow (x ∷ xs) (suc n) → FiniteBelow xs n
 below-tail p = record { each = λ i l. p .each (suc i) (omega arith) }
 
--- the only cell that is not finite and has none such before it
-pub first-at : (hs : List Float) (c : ℕ) → c < length hs → FiniteBelow hs c → finite (getD hs c nan) ≡ false → firstNotFinite hs ≡ c
+cons-finite : (x : Float) (xs : List Float) → finite x ≡ true → firstNotFinite (x ∷ xs) ≡ suc (firstNotFinite xs)
 unfolding firstNotFinite
-first-at [] c l p e = absurd (omega arith)
-first-at (x ∷ xs) zero l p e = rw e
-first-at (x ∷ xs) (suc c) l p e = rw (p .each 0 (omega arith)) (ap suc (first-at xs c (omega arith) (below-tail p) e))
+cons-finite x xs e = rw e
+
+cons-bad : (x : Float) (xs : List Float) → finite x ≡ false → firstNotFinite (x ∷ xs) ≡ 0
+unfolding firstNotFinite
+cons-bad x xs e = rw e
+
+-- the only place that is not finite and has none such before it
+pub first-at : {hs : List Float} {c : ℕ} → FirstBad hs c → firstNotFinite hs ≡ c
+first-at {hs} {c} f = go hs c (f .place) (f .bad) (f .earlier)
+  where
+    go : (l : List Float) (c : ℕ) → c < length l → finite (getD l c nan) ≡ false → FiniteBelow l c → firstNotFinite l ≡ c
+    go [] c l e p = absurd (omega arith)
+    go (x ∷ xs) zero l e p = cons-bad x xs e
+    go (x ∷ xs) (suc c) l e p = cons-finite x xs (p .each 0 (omega arith)) ∙ ap suc (go xs c (omega arith) e (below-tail p))
 
 pub first-none : (hs : List Float) → FiniteBelow hs (length hs) → firstNotFinite hs ≡ length hs
 unfolding firstNotFinite
 first-none [] p = refl
-first-none (x ∷ xs) p = rw (p .each 0 (omega arith)) (ap suc (first-none xs (below-tail p)))
+first-none (x ∷ xs) p = cons-finite x xs (p .each 0 (omega arith)) ∙ ap suc (first-none xs (below-tail p))
+
+pub first-le : (hs : List Float) → firstNotFinite hs ≤ length hs
+unfolding firstNotFinite
+first-le [] = omega arith
+first-le (x ∷ xs) = go (finite x) (first-le xs)
+  where
+    go : (b : Bool) → firstNotFinite xs ≤ length xs → cond b (suc (firstNotFinite xs)) 0 ≤ suc (length xs)
+    go true h = omega arith
+    go false h = omega arith
+
+-- every height before the first bad one is finite
+pub first-below : (hs : List Float) → FiniteBelow hs (firstNotFinite hs)
+unfolding firstNotFinite
+first-below [] = below-none [] 0 (omega arith)
+first-below (x ∷ xs) = go (finite x) refl (first-below xs)
+  where
+    go : (b : Bool) → finite x ≡ b → FiniteBelow xs (firstNotFinite xs) → FiniteBelow (x ∷ xs) (cond b (suc (firstNotFinite xs)) 0)
+    go true e p = below-cons e p
+    go false e p = below-none (x ∷ xs) 0 (omega arith)
+
+bad-at : (hs : List Float) → firstNotFinite hs < length hs → finite (getD hs (firstNotFinite hs) nan) ≡ false
+unfolding firstNotFinite
+bad-at [] l = absurd (omega arith)
+bad-at (x ∷ xs) l = go (finite x) refl (bad-at xs) l
+  where
+    go : (b : Bool) → finite x ≡ b → (firstNotFinite xs < length xs → finite (getD xs (firstNotFinite xs) nan) ≡ false)
+        → cond b (suc (firstNotFinite xs)) 0 < suc (length xs) → finite (getD (x ∷ xs) (cond b (suc (firstNotFinite xs)) 0) nan) ≡ false
+    go true e r l = r (omega arith)
+    go false e r l = e
+
+pub first-bad : (hs : List Float) → firstNotFinite hs < length hs → FirstBad hs (firstNotFinite hs)
+first-bad hs l = record { place = l; bad = bad-at hs l; earlier = first-below hs }
+
+-- of a part at the front, and of two parts
+pub first-take : (n : ℕ) (hs : List Float) → firstNotFinite (take n hs) ≡ min n (firstNotFinite hs)
+unfolding firstNotFinite
+first-take zero hs = omega arith
+first-take (suc n) [] = omega arith
+first-take (suc n) (x ∷ xs) = go (finite x) (first-take n xs)
+  where
+    go : (b : Bool) → firstNotFinite (take n xs) ≡ min n (firstNotFinite xs)
+        → cond b (suc (firstNotFinite (take n xs))) 0 ≡ min (suc n) (cond b (suc (firstNotFinite xs)) 0)
+    go true e = omega arith
+    go false e = omega arith
+
+pub first-append-finite : (xs ys : List Float) → FiniteBelow xs (length xs) → firstNotFinite (xs ++ ys) ≡ length xs + firstNotFinite ys
+first-append-finite [] ys p = omega arith
+first-append-finite (x ∷ xs) ys p =
+    let e : firstNotFinite (xs ++ ys) ≡ length xs + firstNotFinite ys = first-append-finite xs ys (below-tail p) in
+    let f : firstNotFinite (x ∷ xs ++ ys) ≡ suc (firstNotFinite (xs ++ ys)) = cons-finite x (xs ++ ys) (p .each 0 (omega arith)) in
+    omega arith
+
+pub first-append-bad : (xs ys : List Float) → firstNotFinite xs < length xs → firstNotFinite (xs ++ ys) ≡ firstNotFinite xs
+unfolding firstNotFinite
+first-append-bad [] ys l = absurd (omega arith)
+first-append-bad (x ∷ xs) ys l = go (finite x) (first-append-bad xs ys) l
+  where
+    go : (b : Bool) → (firstNotFinite xs < length xs → firstNotFinite (xs ++ ys) ≡ firstNotFinite xs)
+        → cond b (suc (firstNotFinite xs)) 0 < suc (length xs) → cond b (suc (firstNotFinite (xs ++ ys))) 0 ≡ cond b (suc (firstNotFinite xs)) 0
+    go true r l = ap suc (r (omega arith))
+    go false r l = refl
+
+-- all heights are finite exactly if none is the first bad one
+pub below-all : {hs : List Float} → FiniteBelow hs (length hs) → allFinite hs ≡ true
+unfolding allFinite
+below-all {hs} p = eq-eqb _ _ (first-none hs p)
+
+pub all-below : (hs : List Float) → allFinite hs ≡ true → FiniteBelow hs (length hs)
+unfolding allFinite
+all-below hs e = below-less (omega (arith, eqb-true (firstNotFinite hs) (length hs) e)) (first-below hs)
+
+pub all-at : (hs : List Float) → allFinite hs ≡ true → (i : ℕ) → i < length hs → finite (getD hs i nan) ≡ true
+all-at hs e = all-below hs e .each
+
+pub not-all : (hs : List Float) → allFinite hs ≡ false → FirstBad hs (firstNotFinite hs)
+unfolding allFinite
+not-all hs e = first-bad hs (lt-of-le-ne (first-le hs) (eqb-false (firstNotFinite hs) (length hs) e))
+
+pub all-cons : (x : Float) (xs : List Float) → allFinite (x ∷ xs) ≡ (finite x && allFinite xs)
+unfolding allFinite firstNotFinite
+all-cons x xs = go (finite x)
+  where
+    go : (b : Bool) → eqb (cond b (suc (firstNotFinite xs)) 0) (suc (length xs)) ≡ (b && eqb (firstNotFinite xs) (length xs))
+    go true = eqb·suc-suc (firstNotFinite xs) (length xs)
+    go false = eqb·zero-suc (length xs)
+
+pub all-append : (xs ys : List Float) → allFinite (xs ++ ys) ≡ (allFinite xs && allFinite ys)
+unfolding allFinite firstNotFinite
+all-append [] ys = refl
+all-append (x ∷ xs) ys =
+    all-cons x (xs ++ ys)
+    ∙ ap (λ (b : Bool). finite x && b) (all-append xs ys)
+    ∙ sym (and-assoc (finite x) (allFinite xs) (allFinite ys))
+    ∙ ap (λ (b : Bool). b && allFinite ys) (sym (all-cons x xs))
+
+-- a finite height put in keeps them so
+pub all-set : (hs : List Float) (j : ℕ) (v : Float) → allFinite hs ≡ true → finite v ≡ true → allFinite (set hs j v) ≡ true
+all-set hs j v e f = below-all (record { each = λ i l. go i (rw length-set at l) (ℕ-discrete i j) })
+  where
+    go : (i : ℕ) → i < length hs → Dec (i ≡ j) → finite (getD (set hs j v) i nan) ≡ true
+    go i l (yes s) = rw s (ap finite (getD-set-same hs j v nan (rw s at l)) ∙ f)
+    go i l (no d) = ap finite (getD-set-other hs j i v nan d) ∙ all-at hs e i l

@@ -8,9 +8,9 @@ use mathlib.Core.Bool.{Bool, true, false, cond, _&&_, true≢false}
 use lib.IntN.{ℤ, pos, negsuc, negℤ}
 use lib.ListN.{getD}
 use lib.Dec.{ltb}
-use borrow.Author.Tests.{lt-ltb, le-ltb, ltb-true, ltb-false}
+use borrow.Author.Tests.{lt-ltb, le-ltb, ltb-true}
 use Rattle.grid.specs.Sides.{cellOf, columnOf, rowOf}
-use Rattle.grid.specs.Directions.{dirX, dirY, shiftedOf, neighbourOf, neighbourAt, Adjacent}
+use Rattle.grid.specs.Directions.{dirX, dirY, shiftedOf, neighbourOf, neighbourAt}
 use Rattle.grid.specs.Joined.{Mutual, Apart}
 use Rattle.grid.proofs.SidesLaws.{cell-lt, column-cell, row-cell, column-lt, row-lt, cell-back}
 
@@ -136,6 +136,10 @@ outside-or-beside w h x y d = go (decLt nx w) (decLt ny h)
     go (yes p) (yes q) = inr (record { column = refl; row = refl; columns = p; rows = q })
     go (yes p) (no q) = inl (past-row w h x y d nx refl ny refl p (omega arith))
     go (no p) q = inl (past-column w h x y d nx refl (omega arith))
+
+-- the neighbour of a cell from its column and row, as `neighbour` has it
+pub neighbour-cell : (w h x y d : ℕ) → x < w → neighbourOf w h x y d ≡ neighbourAt w h (cellOf w x y) d
+neighbour-cell w h x y d l = rw (column-cell w x y l, row-cell w x y l)
 
 pub neighbour-le : (w h c d : ℕ) → neighbourAt w h c d ≤ w * h
 neighbour-le w h c d = go (outside-or-beside w h (columnOf w c) (rowOf w c) d)

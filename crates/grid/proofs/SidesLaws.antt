@@ -2,11 +2,16 @@
 use Prim.Native.Nat.{ℕ, zero, suc, _+_, _*_, _^_, _≤_, _<_}
 use native.Mathlib.Nat.{mul-comm, mul-le-mul, mod-lt, mod-add-div', div-lt-iff-lt-mul, zero-mul}
 use native.Mathlib.Omega.{arith}
-use mathlib.Core.Path.{_≡_, _∙_, ap}
+use mathlib.Core.Path.{_≡_, refl, _∙_, ap}
+use mathlib.Core.Logic.{_≢_}
+use mathlib.Core.Bool.{Bool, true, false, _||_, true≢false}
 use lib.Arith.{digits-lt, digits-div, digits-mod}
+use lib.Dec.{eqb, ltb}
+use borrow.Author.Tests.{eqb-false, ltb-false, ne-eqb, le-ltb}
 use mir.Syntax.{w64}
 use mir.Val.{Fits}
-use Rattle.grid.specs.Sides.{cellOf, columnOf, rowOf, Coordinates}
+use Rattle.grid.specs.Sides.{cellOf, columnOf, rowOf, Coordinates, badSide, badSides, InRange}
+use Rattle.grid.specs.Directions.{Place}
 
 module _ (w x y : ℕ) (hx : x < w) where
   swapped : cellOf w x y ≡ y * w + x
@@ -53,3 +58,31 @@ coordinates w h =
       columns = column-lt w h;
       rows = row-lt w h;
     }
+
+-- what refusal 1 leaves, both ways
+neither : (a b : Bool) → (a || b) ≡ false → (a ≡ false) × (b ≡ false)
+neither true b e = absurd (true≢false e)
+neither false b e = (refl, e)
+
+good-side : (s : ℕ) → badSide s ≡ false → (1 ≤ s) × (s ≤ 4096)
+good-side s e =
+    let t = neither (eqb s 0) (ltb 4096 s) e in
+    let p : s ≢ 0 = eqb-false s 0 (t .0) in
+    (omega arith, ltb-false 4096 s (t .1))
+
+side-in : (s : ℕ) → 1 ≤ s → s ≤ 4096 → badSide s ≡ false
+side-in s lo hi = rw (ne-eqb s 0 (omega arith)) (le-ltb 4096 s hi)
+
+pub good-sides : (w h : ℕ) → badSides w h ≡ false → InRange w h
+good-sides w h e =
+    let t = neither (badSide w) (badSide h) e in
+    let a = good-side w (t .0) in
+    let b = good-side h (t .1) in
+    record { columns = a .0; rows = b .0; wide = a .1; high = b .1 }
+
+pub in-range : {w h : ℕ} → InRange w h → badSides w h ≡ false
+in-range {w} {h} r = rw (side-in w (r .columns) (r .wide)) (side-in h (r .rows) (r .high))
+
+-- each cell of a grid in range has a place
+pub place-of : {w h : ℕ} → InRange w h → (c : ℕ) → c < w * h → Place w h (columnOf w c) (rowOf w c)
+place-of {w} {h} r c l = record { column = column-lt w h c l; row = row-lt w h c l; wide = r .wide; high = r .high }

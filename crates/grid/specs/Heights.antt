@@ -1,7 +1,7 @@
 -- 'All heights are finite', for refusal 5 and for every 22: one definition over the list of heights.
 use Prim.Native.Nat.{ℕ, suc, _<_}
 use mathlib.Core.Path.{_≡_}
-use mathlib.Core.Bool.{Bool, true, cond}
+use mathlib.Core.Bool.{Bool, true, false, cond}
 use mathlib.Core.List.{List, [], _∷_}
 use lib.ListN.{length, getD}
 use lib.Dec.{eqb}
@@ -20,3 +20,9 @@ allFinite hs = eqb (firstNotFinite hs) (length hs)
 -- every height below place n is finite
 pub record FiniteBelow (hs : List Float) (n : ℕ) : Type 0 where
   pub each : (i : ℕ) → i < n → finite (getD hs i nan) ≡ true
+
+-- c is the first place whose height is not finite
+pub record FirstBad (hs : List Float) (c : ℕ) : Type 0 where
+  pub place : c < length hs
+  pub bad : finite (getD hs c nan) ≡ false
+  pub earlier : FiniteBelow hs c

@@ -1,5 +1,5 @@
 -- Document 01: cells are numbered i = x + y × w, on a grid of w columns and h rows.
-use Prim.Native.Nat.{ℕ, _+_, _*_, _/_, _%_, _<_}
+use Prim.Native.Nat.{ℕ, _+_, _*_, _/_, _%_, _≤_, _<_}
 use mathlib.Core.Path.{_≡_}
 use mathlib.Core.Bool.{Bool, _||_}
 use lib.Dec.{eqb, ltb}
@@ -29,3 +29,10 @@ badSide s = eqb s 0 || ltb 4096 s
 
 abbrev pub badSides : ℕ → ℕ → Bool
 badSides w h = badSide w || badSide h
+
+-- both sides lie in 1 to 4,096
+pub record InRange (w h : ℕ) : Type 0 where
+  pub columns : 1 ≤ w
+  pub rows : 1 ≤ h
+  pub wide : w ≤ 4096
+  pub high : h ≤ 4096

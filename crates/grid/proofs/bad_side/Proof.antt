@@ -1,4 +1,3 @@
-use mathlib.Core.Path.{sym}
 use borrow.Author.Tests.{eq-eqb, ne-eqb}
 use Rattle.grid.proofs.bad_side.Statement.{statement}
 use Rattle.grid.proofs.bad_side.Tie as tie

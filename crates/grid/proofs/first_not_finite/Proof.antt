@@ -71,7 +71,10 @@ returns c =
     sym (first-none _ (below-less (omega (arith, n, mul-le-mul-right w (c .if1 .taken), mul-comm w (c .before .before .before .args .g .h))) (c .before .rows .inv .1)) ∙ n)
 
 returns-2 : tie.Need-returns-2 Inv-loop μ-loop Inv-rows μ-rows
-returns-2 c = sym (first-at _ _ (omega (arith, cell-lt _ _ _ (c .before .before .before .loop-test .taken) _ (c .before .before .before .before .before .if1 .left))) (c .before .before .before .before .loop .inv .1) (sym (c .before .is-finite .ensures) ∙ not-true _ (c .if2 .taken)))
+returns-2 c =
+    let l = cell-lt _ _ _ (c .before .before .before .loop-test .taken) _ (c .before .before .before .before .before .if1 .left) in
+    let bad = sym (c .before .is-finite .ensures) ∙ not-true _ (c .if2 .taken) in
+    sym (first-at (record { place = omega (arith, l); bad = bad; earlier = c .before .before .before .before .loop .inv .1 }))
 
 pub first-not-finite-spec : {M : Type 1} → statement M
 first-not-finite-spec =
