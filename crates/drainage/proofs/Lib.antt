@@ -1,2 +1,7 @@
 -- Theorems of the definitions in specs/.
 pub mod PlateLaws
+pub mod CountLaws
+pub mod TrailLaws
+pub mod WorkListLaws
+pub mod WayLaws
+pub mod AreaLaws
