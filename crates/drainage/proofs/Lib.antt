@@ -1,4 +1,6 @@
 -- Theorems of the definitions in specs/.
+pub mod LeastLaws
+pub mod FloodLaws
 pub mod PlateLaws
 pub mod CountLaws
 pub mod TrailLaws
