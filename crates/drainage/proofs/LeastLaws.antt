@@ -3,11 +3,12 @@ use Prim.Native.Nat.{ℕ, zero, suc, _+_, _*_, _^_, _≤_, _<_}
 use mathlib.Core.Path.{_≡_, refl, sym, _∙_, subst}
 use mathlib.Core.Bool.{Bool, true, false, not, _&&_, _||_, cond}
 use mathlib.Core.Logic.{_⊎_, inl, inr}
-use native.Mathlib.Nat.{eq-or-lt-of-le, le-of-suc-le-suc}
+use native.Mathlib.Nat.{eq-or-lt-of-le}
 use native.Mathlib.Omega.{arith}
 use borrow.Author.Tests.{ltb-true, ltb-false}
 use lib.Dec.{T, ltb}
 use Rattle.lists.specs.Loops.{turns}
+use Rattle.drainage.proofs.TallyLaws.{below-suc}
 
 -- after i turns of a scan over n cells, `best` is the waiting cell below i with the least place, or n
 pub record Least (n : ℕ) (waits : ℕ → Bool) (place : ℕ → ℕ) (i best : ℕ) : Type 0 where
@@ -22,10 +23,6 @@ clash t f = subst T (sym t ∙ f) tt
 module _ (n : ℕ) (waits : ℕ → Bool) (place : ℕ → ℕ) where
   abbrev taken : ℕ → ℕ → ℕ
   taken c best = cond (waits c && (not (ltb best n) || ltb (place c) (place best))) c best
-
-  -- what holds of every cell below i and of cell i
-  below-suc : (P : ℕ → Type 0) (i : ℕ) → ((c : ℕ) → c < i → P c) → P i → (c : ℕ) → c < suc i → P c
-  below-suc P i h p c l = elim (eq-or-lt-of-le (le-of-suc-le-suc l)) [ inl e ↦ subst P (sym e) p | inr m ↦ h c m ]
 
   least-none : Least n waits place 0 n
   least-none = record {

@@ -1,4 +1,8 @@
 -- Theorems of the definitions in specs/.
+pub mod TallyLaws
+pub mod InvariantLaws
+pub mod LeaveLaws
+pub mod PushLaws
 pub mod LeastLaws
 pub mod FloodLaws
 pub mod PlateLaws

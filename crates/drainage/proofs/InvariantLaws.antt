@@ -1,0 +1,116 @@
+-- What holds of the flood between any two pushes, over bare functions: status (0 not pushed yet, 1 waiting, 2 left), the numbers of heights and
+-- spill heights, finders, and the order so far. `leaver` left last, and `handled` of its eight directions are done. The two changes of a flood,
+-- a push and a leaving, keep it.
+use Prim.Native.Nat.{ℕ, zero, suc, _+_, _≤_, _<_, max}
+use mathlib.Core.Path.{_≡_, refl, sym, ap, ap₂, _∙_, subst}
+use mathlib.Core.Bool.{Bool, true, false}
+use mathlib.Core.Logic.{_⊎_, inl, inr}
+use mathlib.Core.List.{List, [], _∷_, _++_}
+use native.Mathlib.Omega.{arith}
+use native.Mathlib.Decide.{decLt}
+use lib.Dec.{eqb}
+use lib.ListN.{length}
+use borrow.Author.Tests.{eq-eqb, ne-eqb}
+use Rattle.drainage.specs.Ground.{Ground}
+use Rattle.drainage.specs.Ways.{one, times, countBelow}
+use Rattle.drainage.specs.Chains.{Near, Chain, ends, onward, crest}
+use Rattle.drainage.specs.Theorems.{Joined}
+use Rattle.drainage.proofs.TallyLaws.{same-or-not, one-same, one-other, one-eq, count-same, count-more, times-append, times-last, Earlier, Last, split-last}
+
+lower-or-not : (a b : ℕ) → (a < b) ⊎ (b ≤ a)
+lower-or-not a b = elim (decLt a b) [ yes l ↦ inl l | no n ↦ inr (omega arith) ]
+
+-- a flood as functions
+pub record View : Type 0 where
+  pub status : ℕ → ℕ
+  pub number : ℕ → ℕ
+  pub finder : ℕ → ℕ
+  pub order : List ℕ
+
+module _ (g : Ground) (height : ℕ → ℕ) where
+  -- f has left and found c, which lies level with the greater of its own height and f
+  pub record Found (s : View) (c f : ℕ) : Type 0 where
+    pub inside : f < g .cells
+    pub left : s .status f ≡ 2
+    pub near : Near g c f
+    pub level : s .number c ≡ max (height c) (s .number f)
+
+  -- m is pushed, and no higher than a leads to
+  pub record Reached (s : View) (a m : ℕ) : Type 0 where
+    pub pushed : 1 ≤ s .status m
+    pub level : s .number m ≤ max (height m) (s .number a)
+
+  -- a chain from c whose crest is the number of c
+  pub record Way (s : View) (c : ℕ) : Type 0 where
+    pub chain : Chain g c
+    pub level : crest height chain ≡ s .number c
+
+  -- c left after its finder and after every pushed cell that is lower
+  pub record After (s : View) (before : List ℕ) (c : ℕ) : Type 0 where
+    pub finder : (s .finder c ≡ c → ⊥) → 0 < times (s .finder c) before
+    pub lower : (m : ℕ) → m < g .cells → 1 ≤ s .status m → s .number m < s .number c → 0 < times m before
+
+  pub record Flooding (s : View) (leaver handled : ℕ) : Type 0 where
+    pub known : (c : ℕ) → c < g .cells → s .status c ≤ 2
+    pub base-pushed : (c : ℕ) → c < g .cells → g .base c ≡ true → 1 ≤ s .status c
+    pub base-number : (c : ℕ) → c < g .cells → g .base c ≡ true → s .number c ≡ height c
+    pub base-finder : (c : ℕ) → c < g .cells → g .base c ≡ true → s .finder c ≡ c
+    pub found : (c : ℕ) → c < g .cells → 1 ≤ s .status c → g .base c ≡ false → Found s c (s .finder c)
+    pub reached :
+        (a e : ℕ) → a < g .cells → s .status a ≡ 2 → 1 ≤ e → e ≤ 8 → g .near a e < g .cells → (a ≡ leaver → e ≤ handled)
+        → Reached s a (g .near a e)
+    pub rising : (a b : ℕ) → a < g .cells → b < g .cells → s .status a ≡ 2 → s .status b ≡ 1 → s .number a ≤ s .number b
+    pub top : (a : ℕ) → a < g .cells → s .status a ≡ 2 → s .number a ≤ s .number leaver
+    pub once : (c : ℕ) → c < g .cells → times c (s .order) ≡ one (s .status c) 2
+    pub only : (c : ℕ) → g .cells ≤ c → times c (s .order) ≡ 0
+    pub count : countBelow (g .cells) (λ c. eqb (s .status c) 2) ≡ length (s .order)
+    pub after : (before : List ℕ) (c : ℕ) (rest : List ℕ) → s .order ≡ before ++ (c ∷ rest) → After s before c
+    pub way : (c : ℕ) → c < g .cells → 1 ≤ s .status c → Way s c
+
+  -- c leaves: t is the flood s after it
+  pub record Leaves (s t : View) (c : ℕ) : Type 0 where
+    pub here : t .status c ≡ 2
+    pub elsewhere : (j : ℕ) → (j ≡ c → ⊥) → t .status j ≡ s .status j
+    pub same-number : (j : ℕ) → t .number j ≡ s .number j
+    pub same-finder : (j : ℕ) → t .finder j ≡ s .finder j
+    pub more : t .order ≡ s .order ++ (c ∷ [])
+
+  -- c pushes m: t is the flood s after it
+  pub record Pushes (s t : View) (c m : ℕ) : Type 0 where
+    pub here : t .status m ≡ 1
+    pub here-number : t .number m ≡ max (height m) (s .number c)
+    pub here-finder : t .finder m ≡ c
+    pub elsewhere : (j : ℕ) → (j ≡ m → ⊥) → t .status j ≡ s .status j
+    pub else-number : (j : ℕ) → (j ≡ m → ⊥) → t .number j ≡ s .number j
+    pub else-finder : (j : ℕ) → (j ≡ m → ⊥) → t .finder j ≡ s .finder j
+    pub same-order : t .order ≡ s .order
+
+  -- a cell of the order has left
+  pub in-order :
+      (s : View) (leaver handled : ℕ) → Flooding s leaver handled → (before : List ℕ) (c : ℕ) (rest : List ℕ) → s .order ≡ before ++ (c ∷ rest)
+      → (c < g .cells) × (s .status c ≡ 2)
+  unfolding times
+  in-order s leaver handled f before c rest e = elim (lower-or-not c (g .cells)) [
+    | inl l ↦ (l, one-eq (s .status c) 2 (omega (arith, f .once c l, stands)))
+    | inr l ↦ let z : ⊥ = omega (arith, f .only c l, stands) in absurd z
+  ]
+    where
+      stands : 0 < times c (s .order)
+      stands = omega (arith, ap (times c) e, times-append c before (c ∷ rest), one-same c c refl)
+
+  -- a cell that has left stands in the order
+  pub left-once :
+      (s : View) (leaver handled : ℕ) → Flooding s leaver handled → (c : ℕ) → c < g .cells → s .status c ≡ 2 → 0 < times c (s .order)
+  left-once s leaver handled f c l e = omega (arith, f .once c l, one-same (s .status c) 2 e)
+
+  -- a pushed cell lies no higher than the last leaver leads to, if it is near it
+  pub pushed-level :
+      (s : View) (leaver handled : ℕ) → Flooding s leaver handled → (m : ℕ) → m < g .cells → 1 ≤ s .status m
+      → s .number m ≤ max (height m) (s .number leaver)
+  pushed-level s leaver handled f m l p = go (g .base m) refl
+    where
+      go : (b : Bool) → g .base m ≡ b → s .number m ≤ max (height m) (s .number leaver)
+      go true e = omega (arith, f .base-number m l e)
+      go false e =
+          let d : Found s m (s .finder m) = f .found m l p e in
+          omega (arith, d .level, f .top (s .finder m) (d .inside) (d .left))

@@ -1,0 +1,136 @@
+-- Counting cells that a test holds of, and how often a cell stands in a list.
+use Prim.Native.Nat.{ℕ, zero, suc, _+_, _≤_, _<_}
+use mathlib.Core.Path.{_≡_, refl, sym, ap, ap₂, _∙_, subst}
+use mathlib.Core.Bool.{Bool, true, false, cond}
+use mathlib.Core.Logic.{_⊎_, inl, inr}
+use mathlib.Core.List.{List, [], _∷_, _++_, head-eq-of-cons-eq, tail-eq-of-cons-eq, cons-ne-nil}
+use native.Mathlib.Nat.{eq-or-lt-of-le, le-of-suc-le-suc}
+use native.Mathlib.Decide.{ℕ-discrete}
+use native.Mathlib.Omega.{arith}
+use lib.Dec.{eqb}
+use borrow.Author.Tests.{eq-eqb, ne-eqb}
+use Rattle.drainage.specs.Ways.{one, times, countBelow}
+
+pub same-or-not : (a b : ℕ) → (a ≡ b) ⊎ (a ≡ b → ⊥)
+same-or-not a b = elim (ℕ-discrete a b) [ yes e ↦ inl e | no d ↦ inr d ]
+
+-- what holds of every cell below i and of cell i
+pub below-suc : (P : ℕ → Type 0) (i : ℕ) → ((c : ℕ) → c < i → P c) → P i → (c : ℕ) → c < suc i → P c
+below-suc P i h p c l = elim (eq-or-lt-of-le (le-of-suc-le-suc l)) [ inl e ↦ subst P (sym e) p | inr m ↦ h c m ]
+
+-- `one` counts 0 or 1
+pub one-same : (a b : ℕ) → a ≡ b → one a b ≡ 1
+one-same a b e = ap (λ t. cond t 1 0) (eq-eqb a b e)
+
+pub one-other : (a b : ℕ) → (a ≡ b → ⊥) → one a b ≡ 0
+one-other a b d = ap (λ t. cond t 1 0) (ne-eqb a b d)
+
+pub one-bound : (a b : ℕ) → one a b ≤ 1
+one-bound a b = elim (same-or-not a b) [ inl e ↦ omega (arith, one-same a b e) | inr d ↦ omega (arith, one-other a b d) ]
+
+pub one-eq : (a b : ℕ) → 0 < one a b → a ≡ b
+one-eq a b h = elim (same-or-not a b) [ inl e ↦ e | inr d ↦ absurd (none (one-other a b d)) ]
+  where
+    none : one a b ≡ 0 → ⊥
+    none e = omega arith
+
+-- a test as 0 or 1
+on : (b : Bool) → b ≡ true → _≡_ {A = ℕ} (cond b 1 0) 1
+on b e = ap (λ t. cond t 1 0) e
+
+off : (b : Bool) → b ≡ false → _≡_ {A = ℕ} (cond b 1 0) 0
+off b e = ap (λ t. cond t 1 0) e
+
+module _ (p q : ℕ → Bool) where
+  pub count-same : (n : ℕ) → ((c : ℕ) → c < n → p c ≡ q c) → countBelow n p ≡ countBelow n q
+  unfolding countBelow
+  count-same zero h = refl
+  count-same (suc n) h = ap₂ (λ t k. cond t 1 0 + k) (h n (omega arith)) (count-same n (λ c l. h c (omega arith)))
+
+  -- one more cell passes the test
+  pub count-more :
+      (n j : ℕ) → j < n → p j ≡ false → q j ≡ true → ((c : ℕ) → (c ≡ j → ⊥) → p c ≡ q c) → countBelow n q ≡ suc (countBelow n p)
+  unfolding countBelow
+  count-more zero j l e f h = omega arith
+  count-more (suc n) j l e f h = elim (eq-or-lt-of-le (le-of-suc-le-suc l)) [
+    | inl i ↦ omega (arith, off (p n) (subst (λ c. p c ≡ false) i e), on (q n) (subst (λ c. q c ≡ true) i f), count-same n (λ c m. h c (below c m i)))
+    | inr m ↦ omega (arith, ap {B = ℕ} (λ t. cond t 1 0) (h n (above m)), count-more n j m e f h)
+  ]
+    where
+      below : (c : ℕ) → c < n → j ≡ n → c ≡ j → ⊥
+      below c m i k = omega arith
+      above : j < n → n ≡ j → ⊥
+      above m k = omega arith
+
+  -- no cell passes both tests
+  pub count-apart : (n : ℕ) → ((c : ℕ) → c < n → p c ≡ true → q c ≡ false) → countBelow n p + countBelow n q ≤ n
+  unfolding countBelow
+  count-apart zero h = omega arith
+  count-apart (suc n) h = go (p n) (q n) (h n (omega arith)) (count-apart n (λ c l. h c (omega arith)))
+    where
+      go : (a b : Bool) → (a ≡ true → b ≡ false) → countBelow n p + countBelow n q ≤ n → cond a 1 0 + countBelow n p + (cond b 1 0 + countBelow n q) ≤ suc n
+      go true b d l = omega (arith, off b (d refl))
+      go false true d l = omega arith
+      go false false d l = omega arith
+
+module _ (p : ℕ → Bool) where
+  pub count-bound : (n : ℕ) → countBelow n p ≤ n
+  unfolding countBelow
+  count-bound zero = omega arith
+  count-bound (suc n) = go (p n) (count-bound n)
+    where
+      go : (a : Bool) → countBelow n p ≤ n → cond a 1 0 + countBelow n p ≤ suc n
+      go true h = omega arith
+      go false h = omega arith
+
+  pub count-all : (n : ℕ) → countBelow n p ≡ n → (c : ℕ) → c < n → p c ≡ true
+  unfolding countBelow
+  count-all zero h = λ c l. let f : ⊥ = omega arith in absurd f
+  count-all (suc n) h = go (p n) refl (count-bound n) (count-all n) h
+    where
+      go :
+          (a : Bool) → p n ≡ a → countBelow n p ≤ n → (countBelow n p ≡ n → (c : ℕ) → c < n → p c ≡ true)
+          → cond a 1 0 + countBelow n p ≡ suc n → (c : ℕ) → c < suc n → p c ≡ true
+      go true e b r h = below-suc (λ c. p c ≡ true) n (r (omega arith)) e
+      go false e b r h = let f : ⊥ = omega arith in absurd f
+
+  pub count-full : (n : ℕ) → ((c : ℕ) → c < n → p c ≡ true) → countBelow n p ≡ n
+  unfolding countBelow
+  count-full zero h = refl
+  count-full (suc n) h = omega (arith, on (p n) (h n (omega arith)), count-full n (λ c l. h c (omega arith)))
+
+  pub count-some : (n c : ℕ) → c < n → p c ≡ true → 0 < countBelow n p
+  unfolding countBelow
+  count-some zero c l e = omega arith
+  count-some (suc n) c l e = elim (eq-or-lt-of-le (le-of-suc-le-suc l)) [
+    | inl i ↦ omega (arith, on (p n) (subst (λ c. p c ≡ true) i e))
+    | inr m ↦ omega (arith, count-some n c m e)
+  ]
+
+pub times-append : (c : ℕ) (a b : List ℕ) → times c (a ++ b) ≡ times c a + times c b
+unfolding times
+times-append c [] b = omega arith
+times-append c (x ∷ a) b = omega (arith, times-append c a b)
+
+pub times-last : (c a : ℕ) (l : List ℕ) → times c (l ++ (a ∷ [])) ≡ times c l + one a c
+unfolding times
+times-last c a l = times-append c l (a ∷ []) ∙ omega arith
+
+-- a list with one cell more, split at a cell: at that last one, or earlier
+pub record Earlier (l before : List ℕ) (c : ℕ) : Type 0 where
+  pub rest : List ℕ
+  pub splits : l ≡ before ++ (c ∷ rest)
+
+pub record Last (l before : List ℕ) (a c : ℕ) : Type 0 where
+  pub cell : c ≡ a
+  pub whole : before ≡ l
+
+pub split-last : (l : List ℕ) (a : ℕ) (before : List ℕ) (c : ℕ) (rest : List ℕ) → l ++ (a ∷ []) ≡ before ++ (c ∷ rest) → Last l before a c ⊎ Earlier l before c
+split-last [] a [] c rest e = inl (record { cell = sym (head-eq-of-cons-eq e); whole = refl })
+split-last [] a (b ∷ []) c rest e = absurd (cons-ne-nil c rest (sym (tail-eq-of-cons-eq e)))
+split-last [] a (b ∷ d ∷ before) c rest e = absurd (cons-ne-nil d (before ++ (c ∷ rest)) (sym (tail-eq-of-cons-eq e)))
+split-last (x ∷ l) a [] c rest e = inr (record { rest = l; splits = ap (λ k. k ∷ l) (head-eq-of-cons-eq e) })
+split-last (x ∷ l) a (b ∷ before) c rest e = elim (split-last l a before c rest (tail-eq-of-cons-eq e)) [
+  | inl h ↦ inl (record { cell = h .cell; whole = ap₂ _∷_ (sym (head-eq-of-cons-eq e)) (h .whole) })
+  | inr h ↦ inr (record { rest = h .rest; splits = ap₂ _∷_ (head-eq-of-cons-eq e) (h .splits) })
+]
