@@ -7,7 +7,6 @@ use mathlib.Core.Bool.{Bool, true, false}
 use mathlib.Core.Logic.{_⊎_, inl, inr}
 use mathlib.Core.List.{List, [], _∷_, _++_}
 use native.Mathlib.Omega.{arith}
-use native.Mathlib.Decide.{decLt}
 use lib.Dec.{eqb}
 use lib.ListN.{length}
 use borrow.Author.Tests.{eq-eqb, ne-eqb}
@@ -15,10 +14,7 @@ use Rattle.drainage.specs.Ground.{Ground}
 use Rattle.drainage.specs.Ways.{one, times, countBelow}
 use Rattle.drainage.specs.Chains.{Near, Chain, ends, onward, crest}
 use Rattle.drainage.specs.Theorems.{Joined}
-use Rattle.drainage.proofs.TallyLaws.{same-or-not, one-same, one-other, one-eq, count-same, count-more, times-append, times-last, Earlier, Last, split-last}
-
-lower-or-not : (a b : ℕ) → (a < b) ⊎ (b ≤ a)
-lower-or-not a b = elim (decLt a b) [ yes l ↦ inl l | no n ↦ inr (omega arith) ]
+use Rattle.drainage.proofs.TallyLaws.{same-or-not, lower-or-not, one-same, one-other, one-eq, count-same, count-more, times-append, times-last, Earlier, Last, split-last}
 
 -- a flood as functions
 pub record View : Type 0 where

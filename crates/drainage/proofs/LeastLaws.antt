@@ -3,11 +3,14 @@ use Prim.Native.Nat.{ℕ, zero, suc, _+_, _*_, _^_, _≤_, _<_}
 use mathlib.Core.Path.{_≡_, refl, sym, _∙_, subst}
 use mathlib.Core.Bool.{Bool, true, false, not, _&&_, _||_, cond}
 use mathlib.Core.Logic.{_⊎_, inl, inr}
+use mathlib.Core.List.{List}
 use native.Mathlib.Nat.{eq-or-lt-of-le}
 use native.Mathlib.Omega.{arith}
 use borrow.Author.Tests.{ltb-true, ltb-false}
 use lib.Dec.{T, ltb}
 use Rattle.lists.specs.Loops.{turns}
+use Rattle.drainage.specs.Ground.{Ground, Kind}
+use Rattle.drainage.specs.Flood.{Flood, place, waits, leastWaiting}
 use Rattle.drainage.proofs.TallyLaws.{below-suc}
 
 -- after i turns of a scan over n cells, `best` is the waiting cell below i with the least place, or n
@@ -106,3 +109,20 @@ place-apart x y a b h l e = omega arith
 -- a place that is not above has a key that is not above
 pub place-key : (x y a b : ℕ) → b < 2 ^ 32 → x * 2 ^ 32 + a ≤ y * 2 ^ 32 + b → x ≤ y
 place-key x y a b l e = omega arith
+
+module _ {H : Type 0} (k : Kind H) (g : Ground) (hs : List H) (s : Flood H) where
+  -- the cell that leaves next
+  pub leastWaiting-found : Least (g .cells) (waits k g hs s) (place k g hs s) (g .cells) (leastWaiting k g hs s)
+  unfolding leastWaiting
+  leastWaiting-found = least-found (g .cells) (waits k g hs s) (place k g hs s)
+
+  -- a waiting cell whose place no waiting cell is below leaves next
+  pub leastWaiting-is :
+      g .cells ≤ 2 ^ 32 → (c : ℕ) → c < g .cells → waits k g hs s c ≡ true
+      → ((b : ℕ) → b < g .cells → waits k g hs s b ≡ true → place k g hs s c ≤ place k g hs s b) → leastWaiting k g hs s ≡ c
+  unfolding leastWaiting
+  leastWaiting-is few = least-is (g .cells) (waits k g hs s) (place k g hs s) (λ a b h l e. place-apart _ _ a b (omega arith) (omega arith) e)
+
+  pub leastWaiting-nobody : ((c : ℕ) → c < g .cells → waits k g hs s c ≡ true → ⊥) → leastWaiting k g hs s ≡ g .cells
+  unfolding leastWaiting
+  leastWaiting-nobody = least-nobody (g .cells) (waits k g hs s) (place k g hs s)

@@ -4,6 +4,7 @@ pub mod InvariantLaws
 pub mod LeaveLaws
 pub mod PushLaws
 pub mod LeastLaws
+pub mod KeptLaws
 pub mod FloodLaws
 pub mod PlateLaws
 pub mod CountLaws
