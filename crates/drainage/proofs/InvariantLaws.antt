@@ -3,18 +3,18 @@
 -- a push and a leaving, keep it.
 use Prim.Native.Nat.{ℕ, zero, suc, _+_, _≤_, _<_, max}
 use mathlib.Core.Path.{_≡_, refl, sym, ap, ap₂, _∙_, subst}
-use mathlib.Core.Bool.{Bool, true, false}
+use mathlib.Core.Bool.{Bool, true, false, cond}
 use mathlib.Core.Logic.{_⊎_, inl, inr}
 use mathlib.Core.List.{List, [], _∷_, _++_}
 use native.Mathlib.Omega.{arith}
 use lib.Dec.{eqb}
-use lib.ListN.{length}
+use lib.ListN.{length, length-append}
 use borrow.Author.Tests.{eq-eqb, ne-eqb}
 use Rattle.drainage.specs.Ground.{Ground}
 use Rattle.drainage.specs.Ways.{one, times, countBelow}
 use Rattle.drainage.specs.Chains.{Near, Chain, ends, onward, crest}
 use Rattle.drainage.specs.Theorems.{Joined}
-use Rattle.drainage.proofs.TallyLaws.{same-or-not, lower-or-not, one-same, one-other, one-eq, count-same, count-more, times-append, times-last, Earlier, Last, split-last}
+use Rattle.drainage.proofs.TallyLaws.{lower-or-not, one-same, one-other, one-eq, count-none, times-append}
 
 -- a flood as functions
 pub record View : Type 0 where
@@ -22,6 +22,14 @@ pub record View : Type 0 where
   pub number : ℕ → ℕ
   pub finder : ℕ → ℕ
   pub order : List ℕ
+
+times-nil : (c : ℕ) → times c [] ≡ 0
+unfolding times
+times-nil c = refl
+
+-- status of a cell at the start
+abbrev pub one-of : Bool → ℕ
+one-of base = cond base 1 0
 
 module _ (g : Ground) (height : ℕ → ℕ) where
   -- f has left and found c, which lies level with the greater of its own height and f
@@ -81,6 +89,10 @@ module _ (g : Ground) (height : ℕ → ℕ) where
     pub else-finder : (j : ℕ) → (j ≡ m → ⊥) → t .finder j ≡ s .finder j
     pub same-order : t .order ≡ s .order
 
+  ends-crest : (c : ℕ) (e : g .base c ≡ true) → crest {g = g} height (ends c e) ≡ height c
+  unfolding crest
+  ends-crest c e = refl
+
   -- a cell of the order has left
   pub in-order :
       (s : View) (leaver handled : ℕ) → Flooding s leaver handled → (before : List ℕ) (c : ℕ) (rest : List ℕ) → s .order ≡ before ++ (c ∷ rest)
@@ -110,3 +122,55 @@ module _ (g : Ground) (height : ℕ → ℕ) where
       go false e =
           let d : Found s m (s .finder m) = f .found m l p e in
           omega (arith, d .level, f .top (s .finder m) (d .inside) (d .left))
+
+  -- a flood begins: base cells wait with their own heights and are their own finders
+  pub record Begins (s : View) : Type 0 where
+    pub status : (c : ℕ) → c < g .cells → s .status c ≡ one-of (g .base c)
+    pub number : (c : ℕ) → s .number c ≡ height c
+    pub finder : (c : ℕ) → c < g .cells → s .finder c ≡ c
+    pub order : s .order ≡ []
+
+  module _ (s : View) (b : Begins s) where
+    begins-waits : (c : ℕ) → c < g .cells → g .base c ≡ true → s .status c ≡ 1
+    begins-waits c l e = b .status c l ∙ ap one-of e
+
+    begins-not : (c : ℕ) → c < g .cells → g .base c ≡ false → s .status c ≡ 0
+    begins-not c l e = b .status c l ∙ ap one-of e
+
+    begins-low : (c : ℕ) → c < g .cells → s .status c ≤ 1
+    begins-low c l = go (g .base c) refl
+      where
+        go : (t : Bool) → g .base c ≡ t → s .status c ≤ 1
+        go true e = omega (arith, begins-waits c l e)
+        go false e = omega (arith, begins-not c l e)
+
+    begins-none : (c : ℕ) → c < g .cells → s .status c ≡ 2 → ⊥
+    begins-none c l e = omega (arith, begins-low c l)
+
+    begins-way : (c : ℕ) → c < g .cells → 1 ≤ s .status c → Way s c
+    begins-way c l p = go (g .base c) refl
+      where
+        go : (t : Bool) → g .base c ≡ t → Way s c
+        go true e = record { chain = ends c e; level = ends-crest c e ∙ sym (b .number c) }
+        go false e = let z : ⊥ = omega (arith, begins-not c l e) in absurd z
+
+    pub begins : Flooding s 0 8
+    begins = record {
+      known = λ c l. omega (arith, begins-low c l);
+      base-pushed = λ c l e. omega (arith, begins-waits c l e);
+      base-number = λ c l e. b .number c;
+      base-finder = λ c l e. b .finder c l;
+      found = λ c l p e. let z : ⊥ = omega (arith, begins-not c l e) in absurd z;
+      reached = λ a e l p lo hi inn d. absurd (begins-none a l p);
+      rising = λ a c l m p q. absurd (begins-none a l p);
+      top = λ a l p. absurd (begins-none a l p);
+      once = λ c l. nowhere c ∙ sym (one-other (s .status c) 2 (begins-none c l));
+      only = λ c l. nowhere c;
+      count =
+          count-none (λ c. eqb (s .status c) 2) (g .cells) (λ c l. ne-eqb (s .status c) 2 (begins-none c l)) ∙ ap length (sym (b .order));
+      after = λ before c rest e. let z : ⊥ = omega (arith, ap length (sym (b .order) ∙ e), length-append before (c ∷ rest)) in absurd z;
+      way = begins-way;
+    }
+      where
+        nowhere : (c : ℕ) → times c (s .order) ≡ 0
+        nowhere c = ap (times c) (b .order) ∙ times-nil c

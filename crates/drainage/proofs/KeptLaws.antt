@@ -88,7 +88,7 @@ module _ {H : Type 0} (k : Kind H) (g : Ground) (hs : List H) where
           yes-push (inside i) (sym (same (inside i)) ∙ i)
       go false e = no-push (waited false e)
 
-  push-sized : (c m : ℕ) (s : Flood H) → Sized (g .cells) s → Sized (g .cells) (push k g hs c m s)
+  pub push-sized : (c m : ℕ) (s : Flood H) → Sized (g .cells) s → Sized (g .cells) (push k g hs c m s)
   push-sized c m s z = push-cases (Sized (g .cells)) c m s z
       (λ _ _. record {
         status = length-set (s .status) m 1 ∙ z .status;
@@ -128,6 +128,13 @@ module _ {H : Type 0} (k : Kind H) (g : Ground) (hs : List H) where
   pushedTo-later c zero s z = later-same (k .absent) s
   pushedTo-later c (suc d) s z =
       later-more (pushedTo-later c d s z) (push-later c (g .near c (suc d)) (pushedTo c d s) (pushedTo-sized c d s z))
+
+  pub pushedTo-order : (c d : ℕ) (s : Flood H) → Sized (g .cells) s → pushedTo c d s .order ≡ s .order
+  unfolding turns
+  pushedTo-order c zero s z = refl
+  pushedTo-order c (suc d) s z =
+      push-cases (λ t. t .order ≡ s .order) c (g .near c (suc d)) (pushedTo c d s) (pushedTo-sized c d s z) (λ _ _. pushedTo-order c d s z)
+      (λ _. pushedTo-order c d s z)
 
   pub leave-sized : (c : ℕ) (s : Flood H) → Sized (g .cells) s → Sized (g .cells) (leave k g hs c s)
   leave-sized c s z = record { status = length-set (s .status) c 2 ∙ z .status; spill = z .spill; finder = z .finder }
@@ -181,7 +188,7 @@ module _ {H : Type 0} (k : Kind H) (g : Ground) (hs : List H) where
   floodAfter-more i = refl
 
   module _ (many : length hs ≡ g .cells) where
-    start-sized : Sized (g .cells) (start k g hs)
+    pub start-sized : Sized (g .cells) (start k g hs)
     unfolding start
     start-sized = record { status = length-tabulate _ (g .cells); spill = many; finder = length-tabulate _ (g .cells) }
 

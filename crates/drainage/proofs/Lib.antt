@@ -5,6 +5,7 @@ pub mod LeaveLaws
 pub mod PushLaws
 pub mod LeastLaws
 pub mod KeptLaws
+pub mod StateLaws
 pub mod FloodLaws
 pub mod PlateLaws
 pub mod CountLaws

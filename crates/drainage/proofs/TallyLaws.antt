@@ -21,6 +21,11 @@ lower-or-not a b = elim (decLt a b) [ yes l ↦ inl l | no n ↦ inr (omega arit
 pub below-suc : (P : ℕ → Type 0) (i : ℕ) → ((c : ℕ) → c < i → P c) → P i → (c : ℕ) → c < suc i → P c
 below-suc P i h p c l = elim (eq-or-lt-of-le (le-of-suc-le-suc l)) [ inl e ↦ subst P (sym e) p | inr m ↦ h c m ]
 
+-- counting up to n
+pub up-to : (P : ℕ → Type 0) (n : ℕ) → P 0 → ((i : ℕ) → i < n → P i → P (suc i)) → (i : ℕ) → i ≤ n → P i
+up-to P n p k zero l = p
+up-to P n p k (suc i) l = k i l (up-to P n p k i (omega arith))
+
 -- `one` counts 0 or 1
 pub one-same : (a b : ℕ) → a ≡ b → one a b ≡ 1
 one-same a b e = ap (λ t. cond t 1 0) (eq-eqb a b e)
@@ -101,6 +106,11 @@ module _ (p : ℕ → Bool) where
   unfolding countBelow
   count-full zero h = refl
   count-full (suc n) h = omega (arith, on (p n) (h n (omega arith)), count-full n (λ c l. h c (omega arith)))
+
+  pub count-none : (n : ℕ) → ((c : ℕ) → c < n → p c ≡ false) → countBelow n p ≡ 0
+  unfolding countBelow
+  count-none zero h = refl
+  count-none (suc n) h = omega (arith, off (p n) (h n (omega arith)), count-none n (λ c l. h c (omega arith)))
 
   pub count-some : (n c : ℕ) → c < n → p c ≡ true → 0 < countBelow n p
   unfolding countBelow
