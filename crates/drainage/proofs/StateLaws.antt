@@ -180,7 +180,7 @@ module _ {H : Type 0} (k : Kind H) (g : Ground) (hs : List H) (Good : H → Type
         reach c n l p i = h .flooding .reached c (n .direction) l p (n .first) (n .last) i (λ _. n .last) .pushed
 
     -- while some cell has not left, one waits
-    some-waits : (s : Flood H) (last : ℕ) → Holds s last 8 → length (s .order) < g .cells → leastWaiting k g hs s ≡ g .cells → ⊥
+    pub some-waits : (s : Flood H) (last : ℕ) → Holds s last 8 → length (s .order) < g .cells → leastWaiting k g hs s ≡ g .cells → ⊥
     some-waits s last h few e = omega (arith, count-full (λ c. eqb (getD (s .status) c 0) 2) (g .cells) left, h .flooding .count)
       where
         none : (c : ℕ) → c < g .cells → getD (s .status) c 0 ≡ 1 → ⊥
