@@ -53,12 +53,14 @@ module _ {H : Type 0} (k : Kind H) (g : Ground) (hs : List H) where
       where
         s : Flood H
         s = floodAfter k g hs i
+
         not-both : (c : ℕ) → c < g .cells → waits k g hs s c ≡ true → eqb (getD (s .status) c 0) 2 ≡ false
         not-both c l w = ne-eqb (getD (s .status) c 0) 2 (λ e. unlike (eqb-true (getD (s .status) c 0) 1 w) e)
           where
             unlike : {a : ℕ} → a ≡ 1 → a ≡ 2 → ⊥
             unlike p q = omega arith
-        of : Stands k g hs Good number joined numbers many fine i s → Stage Good i s
+
+        of : Stands k g hs Good number i s → Stage Good i s
         of h = record {
           sized = h .holds .sized;
           good = h .holds .good;
@@ -71,7 +73,7 @@ module _ {H : Type 0} (k : Kind H) (g : Ground) (hs : List H) where
                 arith,
                 count-apart (waits k g hs s) (λ c. eqb (getD (s .status) c 0) 2) (g .cells) not-both,
                 h .holds .flooding .count,
-                h .left
+                h .left,
               );
           next = λ l. elim (eq-or-lt-of-le (leastWaiting-found k g hs s .bound)) [
             | inl e ↦ absurd (some-waits k g hs Good number joined numbers many fine s (h .leaver) (h .holds) (omega (arith, h .left)) e)

@@ -75,13 +75,16 @@ module _ {H : Type 0} (k : Kind H) (g : Ground) (hs : List H) where
         | inl l ↦ l
         | inr l ↦ let f : ⊥ = omega (arith, List·getD-eq-default (s .status) 1 {n = m} (omega (arith, z .status))) in absurd f
       ]
+
       same : m < g .cells → getD (s .status) m 1 ≡ getD (s .status) m 0
       same l = getD-inside (s .status) m 1 0 (omega (arith, z .status))
+
       waited : (b : Bool) → eqb (getD (s .status) m 1) 0 ≡ false → m < g .cells → 1 ≤ getD (s .status) m 0
       waited b e l = elim (same-or-not (getD (s .status) m 0) 0) [
         | inl i ↦ absurd (eqb-false (getD (s .status) m 1) 0 e (same l ∙ i))
         | inr n ↦ omega arith
       ]
+
       go : (b : Bool) → eqb (getD (s .status) m 1) 0 ≡ b → P (cond b (pushed c m s) s)
       go true e =
           let i : getD (s .status) m 1 ≡ 0 = eqb-true (getD (s .status) m 1) 0 e in
@@ -175,7 +178,7 @@ module _ {H : Type 0} (k : Kind H) (g : Ground) (hs : List H) where
   step-later s z =
       step-cases (Later (k .absent) s) s
       (λ c e l.
-        later-more (leave-later c s z l (omega (arith, next-waits s c e l))) (pushedTo-later c 8 (leave k g hs c s) (leave-sized c s z)))
+      later-more (leave-later c s z l (omega (arith, next-waits s c e l))) (pushedTo-later c 8 (leave k g hs c s) (leave-sized c s z)))
       (λ _. later-same (k .absent) s)
 
   -- the first state, and one more

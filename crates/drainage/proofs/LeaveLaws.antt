@@ -74,6 +74,7 @@ module _ (g : Ground) (height : ℕ → ℕ) where
       where
         apart : b ≡ c → ⊥
         apart i = omega (arith, ap (t .status) i, ch .here)
+
         was : s .status b ≡ 1
         was = sym (ch .elsewhere b apart) ∙ q
 
@@ -84,7 +85,7 @@ module _ (g : Ground) (height : ℕ → ℕ) where
         f .once a l,
         one-other (s .status a) 2 (unlike i),
         one-same c a (sym i),
-        one-same (t .status a) 2 (ap (t .status) i ∙ ch .here)
+        one-same (t .status a) 2 (ap (t .status) i ∙ ch .here),
       )
       | inr d ↦ omega (arith, f .once a l, one-other c a (λ i. d (sym i)), ap (λ n. one n 2) (ch .elsewhere a d))
     ]
@@ -118,6 +119,7 @@ module _ (g : Ground) (height : ℕ → ℕ) where
         finder-left false b d =
             let r : Found g height s c (s .finder c) = f .found c inside (omega arith) b in
             left-once g height s last 8 f (s .finder c) (r .inside) (r .left)
+
         lower-left : (m : ℕ) → m < g .cells → 1 ≤ s .status m → s .number m < s .number c → s .status m ≡ 2
         lower-left m l p h = elim (same-or-not (s .status m) 1) [
           | inl i ↦ let z : ⊥ = omega (arith, least m l i) in absurd z

@@ -7,6 +7,7 @@ pub mod LeastLaws
 pub mod KeptLaws
 pub mod StateLaws
 pub mod FloodLaws
+pub mod NetworkLaws
 pub mod PlateLaws
 pub mod CountLaws
 pub mod TrailLaws

@@ -139,14 +139,19 @@ module _ (g : Ground) (height : ℕ → ℕ) where
       where
         was : s .order ≡ before ++ (a ∷ rest)
         was = sym (ch .same-order) ∙ e
+
         had : (a < g .cells) × (s .status a ≡ 2)
         had = in-order g height s c d f before a rest was
+
         h : After g height s before a
         h = f .after before a rest was
+
         away : a ≡ m → ⊥
         away = apart a (omega (arith, had .1))
+
         same : t .number a ≡ s .number a
         same = ch .else-number a away
+
         same-finder : t .finder a ≡ s .finder a
         same-finder = ch .else-finder a away
 

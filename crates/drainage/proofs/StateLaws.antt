@@ -58,6 +58,12 @@ module _ {H : Type 0} (k : Kind H) (g : Ground) (hs : List H) (Good : H → Type
     pub good : (c : ℕ) → c < g .cells → Good (getD (s .spill) c (k .absent))
     pub flooding : Flooding g heightOf (viewOf s) leaver handled
 
+  -- the state once i cells have left
+  pub record Stands (i : ℕ) (s : Flood H) : Type 0 where
+    pub leaver : ℕ
+    pub holds : Holds s leaver 8
+    pub left : length (s .order) ≡ i
+
   module _ (joined : Joined g) (numbers : Numbers k Good number) (many : length hs ≡ g .cells)
       (fine : (c : ℕ) → c < g .cells → Good (getD hs c (k .absent))) where
     -- a place that is not above has a number that is not above
@@ -69,6 +75,7 @@ module _ {H : Type 0} (k : Kind H) (g : Ground) (hs : List H) (Good : H → Type
       where
         narrow : (b : ℕ) → b < g .cells → b < 2 ^ 32
         narrow b m = omega (arith, joined .few)
+
         clash : viewOf s .number b < viewOf s .number a → ⊥
         clash lo =
             let low : k .key (getD (s .spill) b (k .absent)) < k .key (getD (s .spill) a (k .absent)) = numbers .key-follows _ _ (h .good b m) (h .good a l) lo in
@@ -119,8 +126,10 @@ module _ {H : Type 0} (k : Kind H) (g : Ground) (hs : List H) (Good : H → Type
       where
         m : ℕ
         m = g .near c (suc d)
+
         raised : H
         raised = k .raised (getD hs m (k .absent)) (getD (s .spill) c (k .absent))
+
         here : getD (set (s .spill) m raised) m (k .absent) ≡ raised
         here = getD-set-same (s .spill) m raised (k .absent) (omega (arith, h .sized .spill))
 
@@ -174,6 +183,7 @@ module _ {H : Type 0} (k : Kind H) (g : Ground) (hs : List H) (Good : H → Type
           | inl e ↦ absurd (none c l e)
           | inr d ↦ omega (arith, h .flooding .known c l)
         ]
+
         reach :
             (c : ℕ) {m : ℕ} (n : Near g c m) → c < g .cells → getD (s .status) c 0 ≡ 2 → g .near c (n .direction) < g .cells
             → 1 ≤ getD (s .status) (g .near c (n .direction)) 0
@@ -185,14 +195,9 @@ module _ {H : Type 0} (k : Kind H) (g : Ground) (hs : List H) (Good : H → Type
       where
         none : (c : ℕ) → c < g .cells → getD (s .status) c 0 ≡ 1 → ⊥
         none c l w = leastWaiting-found k g hs s .nobody (omega arith) c l (eq-eqb (getD (s .status) c 0) 1 w)
+
         left : (c : ℕ) → c < g .cells → eqb (getD (s .status) c 0) 2 ≡ true
         left c l = eq-eqb (getD (s .status) c 0) 2 (all-left s last h none c l)
-
-    -- the state once i cells have left
-    pub record Stands (i : ℕ) (s : Flood H) : Type 0 where
-      pub leaver : ℕ
-      pub holds : Holds s leaver 8
-      pub left : length (s .order) ≡ i
 
     step-stands : (i : ℕ) (s : Flood H) → i < g .cells → Stands i s → Stands (suc i) (step k g hs s)
     step-stands i s l h =

@@ -67,6 +67,7 @@ module _ (p q : ℕ → Bool) where
     where
       below : (c : ℕ) → c < n → j ≡ n → c ≡ j → ⊥
       below c m i k = omega arith
+
       above : j < n → n ≡ j → ⊥
       above m k = omega arith
 
