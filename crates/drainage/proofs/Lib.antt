@@ -8,6 +8,7 @@ pub mod KeptLaws
 pub mod StateLaws
 pub mod FloodLaws
 pub mod NetworkLaws
+pub mod GroundLaws
 pub mod PlateLaws
 pub mod CountLaws
 pub mod TrailLaws

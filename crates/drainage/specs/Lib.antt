@@ -5,3 +5,4 @@ pub mod Receivers
 pub mod Ways
 pub mod Chains
 pub mod Theorems
+pub mod Grids

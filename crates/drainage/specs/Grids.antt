@@ -1,0 +1,24 @@
+-- The theorems' premises for the grids that document 01 accepts: sides 1 to 4,096 and finite binary32 heights. Heights compare as their ranks.
+use Prim.Native.Nat.{ℕ, _*_}
+use mathlib.Core.Path.{_≡_}
+use mathlib.Core.Bool.{true}
+use mathlib.Core.List.{List}
+use lib.Dec.{T}
+use lib.ListN.{length}
+use lib.Ieee.{Float, binary32, fits}
+use lib.Ieee.Scale.{finite}
+use Rattle.float_order.specs.Order.{rank}
+use Rattle.float_order.specs.Fit.{Fit}
+use Rattle.grid.specs.Sides.{InRange}
+use Rattle.grid.specs.Heights.{allFinite}
+use Rattle.drainage.specs.Ground.{floats, gridGround}
+use Rattle.drainage.specs.Theorems.{Network}
+
+-- a height that document 01 accepts
+pub record Height (x : Float) : Type 0 where
+  pub fit : T (fits binary32 x)
+  pub real : T (finite x)
+
+-- Every routing that document 01 accepts is a network.
+abbrev pub GridNetworks : Type 0
+GridNetworks = (w h : ℕ) (water : Float) (hs : List Float) → InRange w h → length hs ≡ w * h → Fit hs → allFinite hs ≡ true → Network floats (gridGround w h water hs) hs rank
