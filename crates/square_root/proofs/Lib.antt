@@ -1,0 +1,5 @@
+pub mod WholeLaws
+pub mod NewtonLaws
+pub mod BitsLaws
+pub mod RootLaws
+pub mod FloatLaws

@@ -1,0 +1,116 @@
+// The square root of document 01, worked out from a float's bits: its 24 digits are scaled to a whole number n of 47 or 48, the whole root of n comes
+// from three of Newton's steps, the first of them from a constant, and the result's bits are one sum.
+ghost use mathlib.Core.Path.{_≡_};
+ghost use Prim.Native.Nat.{_+_, _*_, _/_, _^_, _≤_, _<_};
+ghost use lib.Ieee.{binary32, ofBits};
+ghost use Rattle.square_root.specs.Root.{nearestRoot, rootOf};
+ghost use Rattle.square_root.specs.Rooted.{Rooted};
+ghost use Rattle.square_root.specs.Inner.{Over, scaledTo, bitsOf};
+
+// One of Newton's steps from g to the root of n.
+fn newton(n: u64, g: u64) -> u64
+    requires { ⌜ (n < 2 ^ 48) × (0 < g) × (g < 2 ^ 32) ⌝ }
+    ensures { λ r. ⌜ r ≡ (g + n / g) / 2 ⌝ }
+{
+    (g + n / g) / 2
+}
+
+// The step from the middle of the roots of 47 digits, or from that of 48.
+fn first_step(n: u64) -> u64
+    requires { ⌜ (2 ^ 46 ≤ n) × (n < 2 ^ 48) ⌝ }
+    ensures { λ r. ⌜ Over n 250000 r ⌝ }
+{
+    if n < 0x8000_0000_0000 {
+        return newton(n, 0xa0_0000);
+    }
+    newton(n, 0xd8_0000)
+}
+
+// The whole root of n, or one above it.
+fn whole_root(n: u64) -> u64
+    requires { ⌜ (2 ^ 46 ≤ n) × (n < 2 ^ 48) ⌝ }
+    ensures { λ r. ⌜ Over n 1 r ⌝ }
+{
+    let a = first_step(n);
+    let b = newton(n, a);
+    newton(n, b)
+}
+
+// The whole number nearest to the root of n.
+fn nearest_root(n: u64) -> u64
+    requires { ⌜ (2 ^ 46 ≤ n) × (n < 2 ^ 48) ⌝ }
+    ensures { λ r. ⌜ r ≡ nearestRoot n ⌝ }
+{
+    let s = whole_root(n);
+    let square = s * s;
+    if n + s <= square {
+        return s - 1;
+    }
+    if square + s < n {
+        return s + 1;
+    }
+    s
+}
+
+// sig × 2^p as a number of 47 or 48 digits times an even power of two.
+fn scaled(sig: u64, p: u64) -> u64
+    requires { ⌜ sig < 2 ^ 24 ⌝ }
+    ensures { λ r. ⌜ r ≡ scaledTo sig p ⌝ }
+{
+    if p % 2 == 0 {
+        return sig * 0x100_0000;
+    }
+    sig * 0x80_0000
+}
+
+// The bits of the root of sig × 2^p / 2^214.
+fn root_bits(sig: u64, p: u64) -> u32
+    requires { ⌜ (2 ^ 23 ≤ sig) × (sig < 2 ^ 24) × (p ≤ 318) ⌝ }
+    ensures { λ r. ⌜ r ≡ bitsOf sig p ⌝ }
+{
+    let q = nearest_root(scaled(sig, p));
+    (((p + 63) / 2 - 1) * 0x80_0000 + q) as u32
+}
+
+// The root of the positive finite float with the bits b.
+fn positive_root(b: u32) -> f32
+    requires { ⌜ (0 < b) × (b < 255 * 2 ^ 23) ⌝ }
+    ensures { λ r. ⌜ r ≡ rootOf (ofBits binary32 b) ⌝ }
+{
+    if b < 0x80_0000 {
+        let h = u32::leading_zeros(b) - 8;
+        return f32::from_bits(root_bits((b << h) as u64, (65 - h) as u64));
+    }
+    f32::from_bits(root_bits(
+        (0x80_0000 + b % 0x80_0000) as u64,
+        (b / 0x80_0000 + 64) as u64,
+    ))
+}
+
+// squareRoot of IEEE 754, on every float.
+pub fn root_of(x: f32) -> f32
+    ensures { λ r. ⌜ r ≡ rootOf x ⌝ }
+{
+    if x > 0.0 {
+        if x < f32::from_bits(0x7f80_0000) {
+            return positive_root(f32::to_bits(x));
+        }
+        return x;
+    }
+    if x == 0.0 {
+        return x;
+    }
+    0.0 / 0.0
+}
+
+// The root of a finite x that is not below 0; any other x is refused by 4.
+pub fn root(x: f32) -> answers::Value
+    ensures { λ r. ⌜ Rooted x r ⌝ }
+{
+    if floats::is_finite(x) {
+        if x >= 0.0 {
+            return answers::Value::Given(root_of(x));
+        }
+    }
+    answers::Value::Refused(answers::Refusal::Setting)
+}
