@@ -6,7 +6,7 @@ use mathlib.Core.Logic.{_⊎_, inl, inr}
 use native.Mathlib.Nat.{le-refl}
 use native.Mathlib.Omega.{arith}
 use borrow.Author.Tests.{eqb-true, ltb-false}
-use lib.Dec.{eqb, ltb}
+use lib.Dec.{eqb}
 use lib.Ieee.{Float, binary32, ofBits, neg}
 use Rattle.answers.specs.Outcome.{gives, outsideOf}
 use Rattle.answers.specs.declared.Refusal.{Refusal}
@@ -50,6 +50,14 @@ module _ (m : Progress) (p : Float) (s : ℕ) where
 
   pub report-last : (reportOf m p s .last ≡ p) ⊎ (reportOf m p s .last ≡ m .last)
   report-last = report-cases (λ r. (r .last ≡ p) ⊎ (r .last ≡ m .last)) (inr refl) (inl refl)
+
+  -- a record that goes on had not stopped
+  pub report-on : reportOf m p s .stopped ≡ false → m .stopped ≡ false
+  report-on h = go (m .stopped) refl
+    where
+      go : (b : Bool) → m .stopped ≡ b → m .stopped ≡ false
+      go true e = sym (ap (λ (r : Progress). r .stopped) (report-stopped e)) ∙ h
+      go false e = e
 
   -- a report that stops has asked the s-th question
   pub report-stop : m .stopped ≡ false → reportOf m p s .stopped ≡ true → reportOf m p s .asked ≡ s

@@ -1,6 +1,6 @@
 -- The four ends of `normalize`, each with its answer and the slice after it.
 use Prim.Native.Nat.{ℕ}
-use mathlib.Core.Path.{_≡_, refl, sym, ap, _∙_}
+use mathlib.Core.Path.{_≡_, sym, ap, _∙_}
 use mathlib.Core.Bool.{Bool, true, false, not}
 use mathlib.Core.List.{List, map}
 use borrow.Author.Tests.{not-true, not-false}

@@ -1,5 +1,4 @@
 -- `get_min_max` and `normalize` of document 01, on lists of any length.
-use Prim.Native.Nat.{ℕ}
 use mathlib.Core.Path.{_≡_}
 use mathlib.Core.Bool.{Bool, not, _||_, cond}
 use mathlib.Core.List.{List, [], _∷_, map}

@@ -53,7 +53,8 @@ pub fn ask(m: Progress, p: f32, stop: u32) -> Progress
         return m;
     }
     if p - m.last >= 0.01 {
-        let asked = m.asked + 1;
+        let had = m.asked;
+        let asked = had + 1;
         return Progress {
             last: p,
             asked: asked,
@@ -87,25 +88,27 @@ impl Progress {
                 progress: self,
             };
         }
-        let m = ask(self, p, stop);
-        if m.stopped {
+        let after = ask(self, p, stop);
+        if after.stopped {
             return Reported {
                 go: Go::Stop,
-                progress: m,
+                progress: after,
             };
         }
         Reported {
             go: Go::On,
-            progress: m,
+            progress: after,
         }
     }
 }
 
+// The least and the greatest value of a map.
 pub struct MinMax {
     pub min: f32,
     pub max: f32,
 }
 
+// The answer of `get_min_max`.
 pub enum Extent {
     Of(MinMax),
     Refused(Refusal),

@@ -11,7 +11,7 @@ add-asked : tie.Need-add-asked
 add-asked c = search needs
 
 returns-2 : tie.Need-returns-2
-returns-2 c = sym (report-asks _ _ _ (c .before .before .before .if1 .left) (c .before .if2 .taken))
+returns-2 c = sym (report-asks _ _ _ (c .before .before .if1 .left) (c .if2 .taken))
 
 returns-3 : tie.Need-returns-3
 returns-3 c = sym (report-quiet _ _ _ (c .before .before .if1 .left) (c .if2 .left))

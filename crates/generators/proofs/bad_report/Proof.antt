@@ -1,5 +1,4 @@
-use mathlib.Core.Path.{_≡_, sym, _∙_}
-use mathlib.Core.Bool.{true, false}
+use mathlib.Core.Path.{sym, _∙_}
 use borrow.Author.Needs.{needs}
 use Rattle.generators.proofs.bad_report.Statement.{statement}
 use Rattle.generators.proofs.bad_report.Tie as tie
@@ -17,7 +16,11 @@ returns-2 : tie.Need-returns-2
 returns-2 c = rw (sym (c .before .before .before .outside .ensures) ∙ c .before .before .if1 .left, sym (c .before .outside2 .ensures) ∙ c .if2 .taken)
 
 returns-3 : tie.Need-returns-3
-returns-3 c = rw (sym (c .before .before .before .before .outside .ensures) ∙ c .before .before .before .if1 .left, sym (c .before .before .outside2 .ensures) ∙ c .before .if2 .left)
+returns-3 c =
+    rw (
+      sym (c .before .before .before .before .outside .ensures) ∙ c .before .before .before .if1 .left,
+      sym (c .before .before .outside2 .ensures) ∙ c .before .if2 .left,
+    )
 
 pub bad-report-spec : {M : Type 1} → statement M
 bad-report-spec =

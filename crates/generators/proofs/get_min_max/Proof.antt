@@ -1,4 +1,4 @@
-use mathlib.Core.Path.{sym, ap, _∙_}
+use mathlib.Core.Path.{ap}
 use borrow.Author.Needs.{needs}
 use Rattle.answers.specs.Outcome.{gives, refusedAt}
 use Rattle.generators.proofs.ExtentsLaws.{all-finite, not-all-finite}

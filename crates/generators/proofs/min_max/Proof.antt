@@ -1,5 +1,4 @@
 use Prim.Native.Nat.{_-_}
-use native.Mathlib.Omega.{arith}
 use borrow.Author.Needs.{needs}
 use lib.ListN.{length}
 use Rattle.generators.proofs.ExtentsLaws.{Scanned, scan-none, scan-first, scan-more, scan-done}

@@ -5,7 +5,9 @@ use Rattle.generators.proofs.NormalizeLaws.{Accepted, normalize-setting
 use Rattle.generators.proofs.normalize.Statement.{statement}
 use Rattle.generators.proofs.normalize.Tie as tie
 
-accepted : (c : tie.After-slope) → Accepted (c .before .before .before .before .before .before .before .before .before .args .v .now) (c .before .before .before .before .before .before .before .before .before .args .target-min) (c .before .before .before .before .before .before .before .before .before .args .target-max) (c .before .min-max .result) (c .slope .result)
+-- what is known where the slope has been computed, for both ends that follow
+accepted : (c : tie.After-slope)
+    → let a = c .before .before .before .before .before .before .before .before .before .args in Accepted (a .v .now) (a .target-min) (a .target-max) (c .before .min-max .result) (c .slope .result)
 accepted c = record {
   targets = sym (c .before .before .before .before .before .before .before .bad-targets .ensures) ∙ c .before .before .before .before .before .before .if1 .left;
   finites = all-finite _ _ (c .before .before .before .before .first-not-finite .ensures) (c .before .before .before .if2 .left);
@@ -27,7 +29,8 @@ same-length c = search needs
 
 returns-2 : tie.Need-returns-2
 returns-2 c =
-    normalize-height _ _ _ _ (sym (c .before .before .before .before .bad-targets .ensures) ∙ c .before .before .before .if1 .left) (c .before .first-not-finite .ensures) (c .if2 .taken)
+    normalize-height _ _ _ _ (sym (c .before .before .before .before .bad-targets .ensures) ∙ c .before .before .before .if1 .left)
+    (c .before .first-not-finite .ensures) (c .if2 .taken)
 
 min-max-requires : tie.Need-min-max-requires
 min-max-requires c κs = search needs
@@ -52,7 +55,8 @@ same-length-3 c = search needs
 
 returns-4 : tie.Need-returns-4
 returns-4 c =
-    normalize-done _ _ _ _ _ (accepted (c .before .before .before .before .before .before .before)) _ (c .before .before .before .before .before .runs-off .ensures) _ (c .before .before .before .before .if3 .left) (c .before .before .store-scaled .ensures)
+    normalize-done _ _ _ _ _ (accepted (c .before .before .before .before .before .before .before)) _
+    (c .before .before .before .before .before .runs-off .ensures) _ (c .before .before .before .before .if3 .left) (c .before .before .store-scaled .ensures)
 
 pub normalize-spec : {M : Type 1} → statement M
 normalize-spec =

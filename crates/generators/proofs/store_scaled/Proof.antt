@@ -1,10 +1,6 @@
 use Prim.Native.Nat.{_-_}
-use mathlib.Core.Path.{_≡_, ap, _∙_, subst}
-use mathlib.Core.List.{List}
-use native.Mathlib.Omega.{arith}
 use borrow.Author.Needs.{needs}
-use lib.ListN.{length, set}
-use lib.Ieee.{Float}
+use lib.ListN.{length}
 use Rattle.generators.specs.Extents.{scaledBy}
 use Rattle.generators.proofs.ExtentsLaws.{Stored, stored-none, stored-length, stored-more, stored-done}
 use Rattle.generators.proofs.store_scaled.Statement.{statement}
