@@ -12,8 +12,8 @@ use lib.Ieee.{Float, nan, binary32, ofBits}
 use lib.Ieee.Scale.{finite}
 use Rattle.lists.specs.Loops.{tabulate}
 use Rattle.lists.proofs.TableLaws.{filled, filled-none, filled-length, filled-more, filled-done, filled-ahead, tabulate-same, tabulate-getD}
-use Rattle.grid.specs.Heights.{firstNotFinite, allFinite, FiniteBelow}
-use Rattle.grid.proofs.HeightsLaws.{below-none, below-more, below-less, first-at, first-none}
+use Rattle.grid.specs.Heights.{firstNotFinite, allFinite, FiniteBelow, FirstBad}
+use Rattle.grid.proofs.HeightsLaws.{below-none, below-more, below-less, below-all, first-at}
 use Rattle.generators.specs.declared.MinMax.{MinMax}
 use Rattle.generators.specs.Extents.{widened, widenedBy, minMaxOf}
 
@@ -127,7 +127,8 @@ module _ (g : Float → Float) where
     pub test-bad : i < length v → finite (g (getD v i nan)) ≡ false → allFinite (map g v) ≡ false
     test-bad h e =
         let l : i < length (map g v) = rw length-map h in
-        not-all-finite (map g v) i (sym (first-at (map g v) i l (t .finites) (ap finite (map-at v i h) ∙ e))) (λ q. omega arith)
+        let f : FirstBad (map g v) i = record { place = l; bad = ap finite (map-at v i h) ∙ e; earlier = t .finites } in
+        not-all-finite (map g v) i (sym (first-at f)) (λ q. omega arith)
 
     pub test-done : length v ≤ i → allFinite (map g v) ≡ true
-    test-done h = all-finite (map g v) (length (map g v)) (sym (first-none (map g v) (below-less (rw length-map h) (t .finites)))) refl
+    test-done h = below-all (below-less (rw length-map h) (t .finites))
