@@ -14,7 +14,7 @@ use borrow.Author.Tests.{ltb-true, ltb-false, eqb-true, eqb-false, lt-ltb, le-lt
 use Rattle.lists.specs.Loops.{turns, tabulate}
 use Rattle.lists.proofs.TableLaws.{length-tabulate}
 use Rattle.drainage.specs.Ground.{Ground, Kind}
-use Rattle.drainage.specs.Flood.{Flood, start, push, pushAll, leave, waits, place, leastWaiting, step, floodAfter}
+use Rattle.drainage.specs.Flood.{Flood, start, pushed, push, pushAll, leave, waits, place, leastWaiting, step, floodAfter}
 use Rattle.drainage.proofs.TallyLaws.{same-or-not, lower-or-not}
 use Rattle.drainage.proofs.LeastLaws.{leastWaiting-found}
 
@@ -56,18 +56,10 @@ later-more {s} {t} {u} a b = record {
 }
 
 module _ {H : Type 0} (k : Kind H) (g : Ground) (hs : List H) where
-  abbrev pub pushed : ℕ → ℕ → Flood H → Flood H
-  pushed c m s = record {
-    status = set (s .status) m 1;
-    spill = set (s .spill) m (k .raised (getD hs m (k .absent)) (getD (s .spill) c (k .absent)));
-    finder = set (s .finder) m c;
-    order = s .order;
-  }
-
   -- a push is one of two things: a cell not pushed yet waits from now on, or nothing happens
   pub push-cases :
       (P : Flood H → Type 0) (c m : ℕ) (s : Flood H) → Sized (g .cells) s
-      → (m < g .cells → getD (s .status) m 0 ≡ 0 → P (pushed c m s)) → ((m < g .cells → 1 ≤ getD (s .status) m 0) → P s) → P (push k g hs c m s)
+      → (m < g .cells → getD (s .status) m 0 ≡ 0 → P (pushed k g hs c m s)) → ((m < g .cells → 1 ≤ getD (s .status) m 0) → P s) → P (push k g hs c m s)
   push-cases P c m s z yes-push no-push = go (eqb (getD (s .status) m 1) 0) refl
     where
       inside : getD (s .status) m 1 ≡ 0 → m < g .cells
@@ -85,7 +77,7 @@ module _ {H : Type 0} (k : Kind H) (g : Ground) (hs : List H) where
         | inr n ↦ omega arith
       ]
 
-      go : (b : Bool) → eqb (getD (s .status) m 1) 0 ≡ b → P (cond b (pushed c m s) s)
+      go : (b : Bool) → eqb (getD (s .status) m 1) 0 ≡ b → P (cond b (pushed k g hs c m s) s)
       go true e =
           let i : getD (s .status) m 1 ≡ 0 = eqb-true (getD (s .status) m 1) 0 e in
           yes-push (inside i) (sym (same (inside i)) ∙ i)
@@ -94,9 +86,9 @@ module _ {H : Type 0} (k : Kind H) (g : Ground) (hs : List H) where
   pub push-sized : (c m : ℕ) (s : Flood H) → Sized (g .cells) s → Sized (g .cells) (push k g hs c m s)
   push-sized c m s z = push-cases (Sized (g .cells)) c m s z
       (λ _ _. record {
-        status = length-set (s .status) m 1 ∙ z .status;
+        status = simp length-set (z .status);
         spill = simp length-set (z .spill);
-        finder = length-set (s .finder) m c ∙ z .finder;
+        finder = simp length-set (z .finder);
       })
       (λ _. z)
 
@@ -108,7 +100,7 @@ module _ {H : Type 0} (k : Kind H) (g : Ground) (hs : List H) where
           | inr n ↦ omega (arith, getD-set-other (s .status) m j 1 0 n)
         ];
         spill = λ j p. getD-set-other (s .spill) m j _ (k .absent) (apart e j p);
-        finder = λ j p. getD-set-other (s .finder) m j c 0 (apart e j p);
+        finder = λ j p. getD-set-other (s .finder) m j _ 0 (apart e j p);
         rest = [];
         order = sym (append-nil (s .order));
       })

@@ -12,7 +12,7 @@ use borrow.Author.Tests.{eq-eqb, eqb-true, ne-eqb}
 use Rattle.lists.specs.Loops.{turns, tabulate}
 use Rattle.lists.proofs.TableLaws.{getD-tabulate}
 use Rattle.drainage.specs.Ground.{Ground, Kind}
-use Rattle.drainage.specs.Flood.{Flood, start, push, leave, place, waits, leastWaiting, step, floodAfter, flooded}
+use Rattle.drainage.specs.Flood.{Flood, start, pushed, push, leave, place, waits, leastWaiting, step, floodAfter, flooded}
 use Rattle.drainage.specs.Ways.{one, times, countBelow}
 use Rattle.drainage.specs.Chains.{Near, ends, crest}
 use Rattle.drainage.specs.Theorems.{Joined, Numbers}
@@ -24,7 +24,6 @@ use Rattle.drainage.proofs.PushLaws.{passes-by, pushes}
 use Rattle.drainage.proofs.KeptLaws.{
   Sized,
   Later,
-  pushed,
   push-cases,
   push-sized,
   pushedTo,
@@ -109,8 +108,8 @@ module _ {H : Type 0} (k : Kind H) (g : Ground) (hs : List H) (Good : H → Type
     new-holds s c d w h l left inn new z = record {
       sized = z;
       good = λ j i. elim (same-or-not j m) [
-        | inl e ↦ subst Good (sym (ap (λ j. getD (set (s .spill) m raised) j (k .absent)) e ∙ here)) (numbers .raised-good _ _ (fine m inn) (h .good c l))
-        | inr n ↦ subst Good (sym (getD-set-other (s .spill) m j raised (k .absent) n)) (h .good j i)
+        | inl e ↦ subst Good (sym (ap at e ∙ here)) (numbers .raised-good _ _ (fine m inn) (h .good c l))
+        | inr n ↦ subst Good (sym (getD-set-other (s .spill) m j _ (k .absent) n)) (h .good j i)
       ];
       flooding =
           pushes g heightOf joined (viewOf s) (viewOf (pushed k g hs c m s)) c d (h .flooding) w l (omega (arith, h .flooding .known c l)) inn new (record {
@@ -118,8 +117,8 @@ module _ {H : Type 0} (k : Kind H) (g : Ground) (hs : List H) (Good : H → Type
             here-number = ap number here ∙ numbers .raised-number _ _ (fine m inn) (h .good c l);
             here-finder = getD-set-same (s .finder) m c 0 (omega (arith, h .sized .finder));
             elsewhere = λ j n. getD-set-other (s .status) m j 1 0 n;
-            else-number = λ j n. ap number (getD-set-other (s .spill) m j raised (k .absent) n);
-            else-finder = λ j n. getD-set-other (s .finder) m j c 0 n;
+            else-number = λ j n. ap number (getD-set-other (s .spill) m j _ (k .absent) n);
+            else-finder = λ j n. getD-set-other (s .finder) m j _ 0 n;
             same-order = refl;
           });
     }
@@ -127,11 +126,11 @@ module _ {H : Type 0} (k : Kind H) (g : Ground) (hs : List H) (Good : H → Type
         m : ℕ
         m = g .near c (suc d)
 
-        raised : H
-        raised = k .raised (getD hs m (k .absent)) (getD (s .spill) c (k .absent))
+        at : ℕ → H
+        at j = getD (pushed k g hs c m s .spill) j (k .absent)
 
-        here : getD (set (s .spill) m raised) m (k .absent) ≡ raised
-        here = getD-set-same (s .spill) m raised (k .absent) (omega (arith, h .sized .spill))
+        here : at m ≡ k .raised (getD hs m (k .absent)) (getD (s .spill) c (k .absent))
+        here = getD-set-same (s .spill) m _ (k .absent) (omega (arith, h .sized .spill))
 
     push-holds :
         (s : Flood H) (c d : ℕ) → d < 8 → Holds s c d → c < g .cells → 2 ≤ getD (s .status) c 0

@@ -34,17 +34,19 @@ module _ {H : Type 0} (k : Kind H) (g : Ground) (hs : List H) where
   leastWaiting s =
       turns (g .cells) (λ c best. cond (waits s c && (not (ltb best (g .cells)) || ltb (place s c) (place s best))) c best) (g .cells)
 
-  -- cell c reaches cell m: a cell not yet pushed waits from now on
-  abbrev pub push : ℕ → ℕ → Flood H → Flood H
-  push c m s =
-      cond (eqb (getD (s .status) m 1) 0)
-      (record {
+  -- cell c pushes cell m, which waits from now on
+  abbrev pub pushed : ℕ → ℕ → Flood H → Flood H
+  pushed c m s =
+      record {
         status = set (s .status) m 1;
         spill = set (s .spill) m (k .raised (getD hs m (k .absent)) (getD (s .spill) c (k .absent)));
         finder = set (s .finder) m c;
         order = s .order;
-      })
-      s
+      }
+
+  -- cell c reaches cell m: it pushes a cell that was not pushed yet
+  abbrev pub push : ℕ → ℕ → Flood H → Flood H
+  push c m s = cond (eqb (getD (s .status) m 1) 0) (pushed c m s) s
 
   -- the neighbours of c are pushed in scan order, directions 1 to 8
   unfoldable pub pushAll : ℕ → Flood H → Flood H
