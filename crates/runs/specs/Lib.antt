@@ -2,3 +2,5 @@
 pub mod Plan
 pub mod Machine
 pub mod Run
+pub mod Refusals
+pub mod Demand3

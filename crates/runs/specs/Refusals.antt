@@ -1,0 +1,38 @@
+-- What whole runs refuse: 1 a side, 3 a length, 4 a setting, 5 a height.
+use Prim.Native.Nat.{ℕ, _*_}
+use mathlib.Core.Bool.{Bool, not, _||_, cond}
+use mathlib.Core.List.{List}
+use lib.ListN.{length}
+use lib.Dec.{eqb, ltb}
+use lib.Ieee.{Float, binary32, ofBits, neg}
+use lib.Ieee.Scale.{finite}
+use Rattle.answers.specs.Outcome.{outsideOf}
+use Rattle.grid.specs.Sides.{badSides}
+use Rattle.grid.specs.Heights.{allFinite}
+use Rattle.runs.specs.declared.FluvialSettings.{FluvialSettings}
+use Rattle.runs.specs.declared.ThermalSettings.{ThermalSettings}
+
+-- outside 0 to 1
+abbrev pub notShare : Float → Bool
+notShare x = outsideOf x (ofBits binary32 0) (ofBits binary32 0x3f80_0000)
+
+-- water level finite, strength and talus 0 to 1, uplift -1 to 1, iterations 0 to 4,096
+abbrev pub badFluvial : FluvialSettings → Bool
+badFluvial s =
+    not (finite (s .«water_level»))
+    || (notShare (s .strength)
+    || (notShare (s .talus) || (outsideOf (s .uplift) (neg (ofBits binary32 0x3f80_0000)) (ofBits binary32 0x3f80_0000) || ltb 4096 (s .iterations))))
+
+abbrev pub badThermal : ThermalSettings → Bool
+badThermal s = not (finite (s .«water_level»)) || (notShare (s .talus) || (notShare (s .strength) || ltb 4096 (s .iterations)))
+
+-- the number of the refusal, 0 if there is none
+abbrev pub refusalBy : ℕ → ℕ → Bool → List Float → ℕ
+refusalBy w h badSetting map =
+    cond (badSides w h) 1 (cond (not (eqb (length map) (w * h))) 3 (cond badSetting 4 (cond (allFinite map) 0 5)))
+
+abbrev pub fluvialRefusal : ℕ → ℕ → FluvialSettings → List Float → ℕ
+fluvialRefusal w h s map = refusalBy w h (badFluvial s) map
+
+abbrev pub thermalRefusal : ℕ → ℕ → ThermalSettings → List Float → ℕ
+thermalRefusal w h s map = refusalBy w h (badThermal s) map
