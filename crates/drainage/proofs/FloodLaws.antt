@@ -1,9 +1,9 @@
 -- What code that computes the flood needs to know of it: which cell leaves next (LeastLaws), what a step is, and what holds after i steps.
-use Prim.Native.Nat.{ℕ, zero, suc, _+_, _≤_, _<_}
-use mathlib.Core.Path.{_≡_, refl, sym, ap, _∙_, subst}
-use mathlib.Core.Bool.{Bool, true, false, cond}
-use mathlib.Core.Logic.{_⊎_, inl, inr}
-use mathlib.Core.List.{List, _++_}
+use Prim.Native.Nat.{ℕ, _+_, _≤_, _<_}
+use mathlib.Core.Path.{_≡_, ap, _∙_}
+use mathlib.Core.Bool.{true, false, cond}
+use mathlib.Core.Logic.{inl, inr}
+use mathlib.Core.List.{List}
 use native.Mathlib.Nat.{eq-or-lt-of-le}
 use native.Mathlib.Omega.{arith}
 use lib.Dec.{eqb, ltb}
@@ -11,11 +11,11 @@ use lib.ListN.{length, getD, take}
 use lib.Seq.{take-at}
 use borrow.Author.Tests.{eqb-true, ne-eqb, lt-ltb, le-ltb}
 use Rattle.drainage.specs.Ground.{Ground, Kind}
-use Rattle.drainage.specs.Flood.{Flood, start, pushAll, leave, place, waits, leastWaiting, step, floodAfter, flooded}
+use Rattle.drainage.specs.Flood.{Flood, pushAll, leave, waits, leastWaiting, step, floodAfter}
 use Rattle.drainage.specs.Ways.{one, times, countBelow}
 use Rattle.drainage.specs.Theorems.{Joined, Numbers}
 use Rattle.drainage.proofs.TallyLaws.{count-apart}
-use Rattle.drainage.proofs.StateLaws.{Holds, Stands, floodAfter-stands, some-waits}
+use Rattle.drainage.proofs.StateLaws.{Stands, floodAfter-stands, some-waits}
 pub use Rattle.drainage.proofs.LeastLaws.{Least, leastWaiting-found, leastWaiting-is, leastWaiting-nobody}
 pub use Rattle.drainage.proofs.KeptLaws.{Sized, Later, floodAfter-none, floodAfter-more, floodAfter-sized, floodAfter-later}
 

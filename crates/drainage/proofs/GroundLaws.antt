@@ -1,5 +1,5 @@
 -- The grids that document 01 accepts meet the theorems' premises, and so every accepted routing is a network.
-use Prim.Native.Nat.{ℕ, suc, _*_, _≤_, _<_}
+use Prim.Native.Nat.{ℕ, _*_, _≤_, _<_}
 use mathlib.Core.Path.{_≡_, sym, subst}
 use mathlib.Core.Bool.{Bool, true}
 use mathlib.Core.List.{List}
@@ -8,8 +8,6 @@ use native.Mathlib.Omega.{arith}
 use lib.Dec.{T}
 use lib.ListN.{length, getD}
 use lib.Ieee.{Float, nan}
-use lib.Ieee.Scale.{finite}
-use Rattle.floats.specs.Stand.{maxOf}
 use Rattle.float_order.specs.Order.{Number, rank}
 use Rattle.float_order.specs.Fit.{Fit}
 use Rattle.float_order.proofs.OrderLaws.{lt-is}
@@ -26,7 +24,7 @@ use Rattle.grid.proofs.HeightsLaws.{all-at}
 use Rattle.drainage.specs.Ground.{Ground, floats, gridGround}
 use Rattle.drainage.specs.Flood.{floodAfter}
 use Rattle.drainage.specs.Chains.{Near}
-use Rattle.drainage.specs.Theorems.{Joined, Numbers, Network}
+use Rattle.drainage.specs.Theorems.{Joined, Numbers}
 use Rattle.drainage.specs.Grids.{Height, GridNetworks}
 use Rattle.drainage.proofs.FloodLaws.{Stage, floodAfter-stage}
 use Rattle.drainage.proofs.NetworkLaws.{network}

@@ -1,19 +1,18 @@
 -- What holds of the flood between any two pushes, over bare functions: status (0 not pushed yet, 1 waiting, 2 left), the numbers of heights and
 -- spill heights, finders, and the order so far. `leaver` left last, and `handled` of its eight directions are done. The two changes of a flood,
 -- a push and a leaving, keep it.
-use Prim.Native.Nat.{ℕ, zero, suc, _+_, _≤_, _<_, max}
-use mathlib.Core.Path.{_≡_, refl, sym, ap, ap₂, _∙_, subst}
+use Prim.Native.Nat.{ℕ, _≤_, _<_, max}
+use mathlib.Core.Path.{_≡_, refl, sym, ap, _∙_}
 use mathlib.Core.Bool.{Bool, true, false, cond}
-use mathlib.Core.Logic.{_⊎_, inl, inr}
+use mathlib.Core.Logic.{inl, inr}
 use mathlib.Core.List.{List, [], _∷_, _++_}
 use native.Mathlib.Omega.{arith}
 use lib.Dec.{eqb}
 use lib.ListN.{length, length-append}
-use borrow.Author.Tests.{eq-eqb, ne-eqb}
+use borrow.Author.Tests.{ne-eqb}
 use Rattle.drainage.specs.Ground.{Ground}
 use Rattle.drainage.specs.Ways.{one, times, countBelow}
-use Rattle.drainage.specs.Chains.{Near, Chain, ends, onward, crest}
-use Rattle.drainage.specs.Theorems.{Joined}
+use Rattle.drainage.specs.Chains.{Near, Chain, ends, crest}
 use Rattle.drainage.proofs.TallyLaws.{lower-or-not, one-same, one-other, one-eq, count-none, times-append}
 
 -- a flood as functions

@@ -1,6 +1,6 @@
 -- A cell that leaves keeps what holds of a flood.
-use Prim.Native.Nat.{ℕ, zero, suc, _+_, _≤_, _<_, max}
-use mathlib.Core.Path.{_≡_, refl, sym, ap, ap₂, _∙_, subst, subst₂}
+use Prim.Native.Nat.{ℕ, _≤_, _<_, max}
+use mathlib.Core.Path.{_≡_, refl, sym, ap, _∙_, subst, subst₂}
 use mathlib.Core.Bool.{Bool, true, false}
 use mathlib.Core.Logic.{_⊎_, inl, inr}
 use mathlib.Core.List.{List, [], _∷_, _++_}
@@ -10,22 +10,8 @@ use lib.ListN.{length, length-append}
 use borrow.Author.Tests.{eq-eqb, ne-eqb}
 use Rattle.drainage.specs.Ground.{Ground}
 use Rattle.drainage.specs.Ways.{one, times, countBelow}
-use Rattle.drainage.specs.Chains.{Near, Chain, ends, onward, crest}
-use Rattle.drainage.specs.Theorems.{Joined}
-use Rattle.drainage.proofs.TallyLaws.{
-  same-or-not,
-  one-same,
-  one-other,
-  one-eq,
-  count-same,
-  count-more,
-  times-append,
-  times-last,
-  Earlier,
-  Last,
-  split-last,
-}
-use Rattle.drainage.proofs.InvariantLaws.{View, Found, Reached, Way, After, Flooding, Leaves, Pushes, in-order, left-once, pushed-level}
+use Rattle.drainage.proofs.TallyLaws.{same-or-not, one-same, one-other, count-more, times-last, split-last}
+use Rattle.drainage.proofs.InvariantLaws.{View, Found, Reached, Way, After, Flooding, Leaves, left-once}
 
 module _ (g : Ground) (height : ℕ → ℕ) where
   module _ (s t : View) (last c : ℕ) (f : Flooding g height s last 8) (inside : c < g .cells) (waiting : s .status c ≡ 1)

@@ -1,26 +1,25 @@
 -- Every routing is a network: its order is a work list of its receivers, own receivers are base level, and spill heights are least crests.
-use Prim.Native.Nat.{ℕ, zero, suc, _+_, _≤_, _<_, max}
+use Prim.Native.Nat.{ℕ, suc, _≤_, _<_, max}
 use mathlib.Core.Path.{_≡_, refl, sym, ap, _∙_, subst}
 use mathlib.Core.Bool.{Bool, true, false, _&&_, cond}
 use mathlib.Core.Logic.{_⊎_, inl, inr}
-use mathlib.Core.List.{List, [], _∷_, _++_}
+use mathlib.Core.List.{List, _∷_, _++_}
 use native.Mathlib.Omega.{arith}
-use lib.Dec.{eqb, ltb}
-use lib.Ieee.{Float, lt}
+use lib.Dec.{ltb}
+use lib.Ieee.{lt}
 use lib.ListN.{length, getD}
 use borrow.Author.Tests.{ltb-true, eq-eqb, ne-eqb}
-use Rattle.lists.specs.Loops.{turns, tabulate}
 use Rattle.lists.proofs.TurnLaws.{turns-keep}
 use Rattle.lists.proofs.TableLaws.{getD-tabulate}
 use Rattle.drainage.specs.Ground.{Ground, Kind}
-use Rattle.drainage.specs.Flood.{Flood, flooded}
-use Rattle.drainage.specs.Receivers.{Steepest, compared, steepestOf, receiverOf, receivers, distanceTo}
-use Rattle.drainage.specs.Ways.{one, times, WorkList}
-use Rattle.drainage.specs.Chains.{Near, Chain, ends, onward, crest, LeastCrest}
+use Rattle.drainage.specs.Flood.{flooded}
+use Rattle.drainage.specs.Receivers.{Steepest, compared, steepestOf, receiverOf, receivers}
+use Rattle.drainage.specs.Ways.{times}
+use Rattle.drainage.specs.Chains.{Near, Chain, ends, onward, crest}
 use Rattle.drainage.specs.Theorems.{Joined, Numbers, Network, receiversOf}
 use Rattle.drainage.proofs.TallyLaws.{one-same}
 use Rattle.drainage.proofs.InvariantLaws.{View, Found, Reached, After, Flooding, in-order}
-use Rattle.drainage.proofs.StateLaws.{heightOf, viewOf, Holds, Stands, floodAfter-stands, flooded-left}
+use Rattle.drainage.proofs.StateLaws.{heightOf, viewOf, Stands, floodAfter-stands, flooded-left}
 
 -- r is a neighbour of c that found it or lies lower
 pub record Drains (g : Ground) (s : View) (c r : ℕ) : Type 0 where

@@ -3,7 +3,7 @@ use Prim.Native.Nat.{ℕ}
 use mathlib.Core.Path.{_≡_, refl}
 use mathlib.Core.List.{List, [], _∷_, map}
 use lib.ListN.{getD}
-use lib.Ieee.{Float, nan, binary32, ofBits, toBits, round, add, sub, div, lt, le}
+use lib.Ieee.{Float, nan, binary32, ofBits, toBits, add, sub, div, lt, le}
 use Rattle.lists.specs.Loops.{turns, tabulate}
 use Rattle.grid.specs.Directions.{neighbourOf}
 use Rattle.drainage.specs.Ground.{floats, gridGround}

@@ -1,43 +1,26 @@
 -- The invariants hold of every state of the flood, and after i steps i cells have left.
-use Prim.Native.Nat.{ℕ, zero, suc, _+_, _^_, _≤_, _<_, max}
+use Prim.Native.Nat.{ℕ, zero, suc, _^_, _≤_, _<_}
 use mathlib.Core.Path.{_≡_, refl, sym, ap, _∙_, subst}
-use mathlib.Core.Bool.{Bool, true, false, cond}
-use mathlib.Core.Logic.{_⊎_, inl, inr}
-use mathlib.Core.List.{List, [], _∷_, _++_}
+use mathlib.Core.Bool.{true}
+use mathlib.Core.Logic.{inl, inr}
+use mathlib.Core.List.{List, [], _∷_}
 use native.Mathlib.Omega.{arith}
 use lib.Dec.{eqb}
-use lib.ListN.{length, getD, set, length-append}
+use lib.ListN.{length, getD, length-append}
 use lib.Seq.{getD-set-same, getD-set-other}
-use borrow.Author.Tests.{eq-eqb, eqb-true, ne-eqb}
-use Rattle.lists.specs.Loops.{turns, tabulate}
+use borrow.Author.Tests.{eq-eqb, eqb-true}
+use Rattle.lists.specs.Loops.{turns}
 use Rattle.lists.proofs.TableLaws.{getD-tabulate}
 use Rattle.drainage.specs.Ground.{Ground, Kind}
-use Rattle.drainage.specs.Flood.{Flood, start, pushed, push, leave, place, waits, leastWaiting, step, floodAfter, flooded}
-use Rattle.drainage.specs.Ways.{one, times, countBelow}
-use Rattle.drainage.specs.Chains.{Near, ends, crest}
+use Rattle.drainage.specs.Flood.{Flood, start, pushed, push, leave, place, leastWaiting, step, floodAfter, flooded}
+use Rattle.drainage.specs.Chains.{Near}
 use Rattle.drainage.specs.Theorems.{Joined, Numbers}
 use Rattle.drainage.proofs.TallyLaws.{same-or-not, lower-or-not, up-to, count-all, count-full}
 use Rattle.drainage.proofs.LeastLaws.{leastWaiting-found, place-key}
-use Rattle.drainage.proofs.InvariantLaws.{View, Flooding, Leaves, Pushes, one-of, begins}
+use Rattle.drainage.proofs.InvariantLaws.{View, Flooding, one-of, begins}
 use Rattle.drainage.proofs.LeaveLaws.{leaves}
 use Rattle.drainage.proofs.PushLaws.{passes-by, pushes}
-use Rattle.drainage.proofs.KeptLaws.{
-  Sized,
-  Later,
-  push-cases,
-  push-sized,
-  pushedTo,
-  pushedTo-sized,
-  pushedTo-later,
-  pushedTo-order,
-  leave-sized,
-  next-waits,
-  step-cases,
-  start-sized,
-  floodAfter-none,
-  floodAfter-more,
-  floodAfter-sized,
-}
+use Rattle.drainage.proofs.KeptLaws.{Sized, push-cases, push-sized, pushedTo, pushedTo-later, pushedTo-order, leave-sized, next-waits, step-cases, start-sized, floodAfter-none, floodAfter-more}
 
 module _ {H : Type 0} (k : Kind H) (g : Ground) (hs : List H) (Good : H → Type 0) (number : H → ℕ) where
   -- the number of a cell's height

@@ -7,7 +7,6 @@ use mathlib.Core.List.{List, [], _∷_, _++_, head-eq-of-cons-eq, tail-eq-of-con
 use native.Mathlib.Nat.{eq-or-lt-of-le, le-of-suc-le-suc}
 use native.Mathlib.Decide.{ℕ-discrete, decLt}
 use native.Mathlib.Omega.{arith}
-use lib.Dec.{eqb}
 use borrow.Author.Tests.{eq-eqb, ne-eqb}
 use Rattle.drainage.specs.Ways.{one, times, countBelow}
 
@@ -32,9 +31,6 @@ one-same a b e = ap (λ t. cond t 1 0) (eq-eqb a b e)
 
 pub one-other : (a b : ℕ) → (a ≡ b → ⊥) → one a b ≡ 0
 one-other a b d = ap (λ t. cond t 1 0) (ne-eqb a b d)
-
-pub one-bound : (a b : ℕ) → one a b ≤ 1
-one-bound a b = elim (same-or-not a b) [ inl e ↦ omega (arith, one-same a b e) | inr d ↦ omega (arith, one-other a b d) ]
 
 pub one-eq : (a b : ℕ) → 0 < one a b → a ≡ b
 one-eq a b h = elim (same-or-not a b) [ inl e ↦ e | inr d ↦ absurd (none (one-other a b d)) ]
