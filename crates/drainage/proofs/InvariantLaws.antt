@@ -13,7 +13,8 @@ use borrow.Author.Tests.{ne-eqb}
 use Rattle.drainage.specs.Ground.{Ground}
 use Rattle.drainage.specs.Ways.{one, times, countBelow}
 use Rattle.drainage.specs.Chains.{Near, Chain, ends, crest}
-use Rattle.drainage.proofs.TallyLaws.{lower-or-not, one-same, one-other, one-eq, count-none, times-append}
+use Rattle.drainage.proofs.CountLaws.{count-none, times-append}
+use Rattle.drainage.proofs.TallyLaws.{lower-or-not, one-same, one-other, one-eq}
 
 -- a flood as functions
 pub record View : Type 0 where
@@ -166,7 +167,7 @@ module _ (g : Ground) (height : ℕ → ℕ) where
       once = λ c l. nowhere c ∙ sym (one-other (s .status c) 2 (begins-none c l));
       only = λ c l. nowhere c;
       count =
-          count-none (λ c. eqb (s .status c) 2) (g .cells) (λ c l. ne-eqb (s .status c) 2 (begins-none c l)) ∙ ap length (sym (b .order));
+          count-none (g .cells) (λ c. eqb (s .status c) 2) (λ c l. ne-eqb (s .status c) 2 (begins-none c l)) ∙ ap length (sym (b .order));
       after = λ before c rest e. let z : ⊥ = omega (arith, ap length (sym (b .order) ∙ e), length-append before (c ∷ rest)) in absurd z;
       way = begins-way;
     }

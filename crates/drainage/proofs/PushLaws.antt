@@ -12,7 +12,8 @@ use Rattle.drainage.specs.Ground.{Ground}
 use Rattle.drainage.specs.Ways.{one, times, countBelow}
 use Rattle.drainage.specs.Chains.{Near, onward, crest}
 use Rattle.drainage.specs.Theorems.{Joined}
-use Rattle.drainage.proofs.TallyLaws.{same-or-not, one-other, count-same}
+use Rattle.drainage.proofs.CountLaws.{count-same}
+use Rattle.drainage.proofs.TallyLaws.{same-or-not, one-other}
 use Rattle.drainage.proofs.InvariantLaws.{View, Found, Reached, Way, After, Flooding, Pushes, in-order, pushed-level}
 
 module _ (g : Ground) (height : ℕ → ℕ) where
@@ -118,7 +119,7 @@ module _ (g : Ground) (height : ℕ → ℕ) where
 
     pushes-count : countBelow (g .cells) (λ a. eqb (t .status a) 2) ≡ length (t .order)
     pushes-count =
-        count-same (λ a. eqb (t .status a) 2) (λ a. eqb (s .status a) 2) (g .cells) (λ a l. elim (same-or-not a m) [
+        count-same (g .cells) (λ a. eqb (t .status a) 2) (λ a. eqb (s .status a) 2) (λ a l. elim (same-or-not a m) [
           | inl i ↦ ne-eqb (t .status a) 2 (λ e. apart-left a e i) ∙ sym (ne-eqb (s .status a) 2 (old a i))
           | inr n ↦ ap (λ k. eqb k 2) (ch .elsewhere a n)
         ])

@@ -1,7 +1,7 @@
 -- Counting cells that a test holds of, and how often a cell stands in a list.
 use Prim.Native.Nat.{ℕ, zero, suc, _+_, _≤_, _<_}
 use mathlib.Core.Path.{_≡_, refl, sym, ap, ap₂, _∙_, subst}
-use mathlib.Core.Bool.{Bool, true, false, cond}
+use mathlib.Core.Bool.{Bool, true, false, _&&_, _||_, cond}
 use mathlib.Core.Logic.{_⊎_, inl, inr}
 use mathlib.Core.List.{List, [], _∷_, _++_, head-eq-of-cons-eq, tail-eq-of-cons-eq, cons-ne-nil}
 use native.Mathlib.Nat.{eq-or-lt-of-le, le-of-suc-le-suc}
@@ -9,6 +9,7 @@ use native.Mathlib.Decide.{ℕ-discrete, decLt}
 use native.Mathlib.Omega.{arith}
 use borrow.Author.Tests.{eq-eqb, ne-eqb}
 use Rattle.drainage.specs.Ways.{one, times, countBelow}
+use Rattle.drainage.proofs.CountLaws.{bit, count-same, count-le, count-or, times-append}
 
 pub same-or-not : (a b : ℕ) → (a ≡ b) ⊎ (a ≡ b → ⊥)
 same-or-not a b = elim (ℕ-discrete a b) [ yes e ↦ inl e | no d ↦ inr d ]
@@ -38,27 +39,20 @@ one-eq a b h = elim (same-or-not a b) [ inl e ↦ e | inr d ↦ absurd (none (on
     none : one a b ≡ 0 → ⊥
     none e = omega arith
 
--- a test as 0 or 1
-on : (b : Bool) → b ≡ true → _≡_ {A = ℕ} (cond b 1 0) 1
-on b e = ap (λ t. cond t 1 0) e
-
-off : (b : Bool) → b ≡ false → _≡_ {A = ℕ} (cond b 1 0) 0
-off b e = ap (λ t. cond t 1 0) e
-
 module _ (p q : ℕ → Bool) where
-  pub count-same : (n : ℕ) → ((c : ℕ) → c < n → p c ≡ q c) → countBelow n p ≡ countBelow n q
-  unfolding countBelow
-  count-same zero h = refl
-  count-same (suc n) h = ap₂ (λ t k. cond t 1 0 + k) (h n (omega arith)) (count-same n (λ c l. h c (omega arith)))
-
   -- one more cell passes the test
   pub count-more :
       (n j : ℕ) → j < n → p j ≡ false → q j ≡ true → ((c : ℕ) → (c ≡ j → ⊥) → p c ≡ q c) → countBelow n q ≡ suc (countBelow n p)
   unfolding countBelow
   count-more zero j l e f h = omega arith
   count-more (suc n) j l e f h = elim (eq-or-lt-of-le (le-of-suc-le-suc l)) [
-    | inl i ↦ omega (arith, off (p n) (subst (λ c. p c ≡ false) i e), on (q n) (subst (λ c. q c ≡ true) i f), count-same n (λ c m. h c (below c m i)))
-    | inr m ↦ omega (arith, ap {B = ℕ} (λ t. cond t 1 0) (h n (above m)), count-more n j m e f h)
+    | inl i ↦ omega (
+      arith,
+      ap bit (subst (λ c. p c ≡ false) i e),
+      ap bit (subst (λ c. q c ≡ true) i f),
+      count-same n p q (λ c m. h c (below c m i)),
+    )
+    | inr m ↦ omega (arith, ap bit (h n (above m)), count-more n j m e f h)
   ]
     where
       below : (c : ℕ) → c < n → j ≡ n → c ≡ j → ⊥
@@ -69,29 +63,17 @@ module _ (p q : ℕ → Bool) where
 
   -- no cell passes both tests
   pub count-apart : (n : ℕ) → ((c : ℕ) → c < n → p c ≡ true → q c ≡ false) → countBelow n p + countBelow n q ≤ n
-  unfolding countBelow
-  count-apart zero h = omega arith
-  count-apart (suc n) h = go (p n) (q n) (h n (omega arith)) (count-apart n (λ c l. h c (omega arith)))
+  count-apart n h = omega (arith, count-or n p q (λ c l. never (p c) (q c) (h c l)), count-le n (λ c. p c || q c))
     where
-      go : (a b : Bool) → (a ≡ true → b ≡ false) → countBelow n p + countBelow n q ≤ n → cond a 1 0 + countBelow n p + (cond b 1 0 + countBelow n q) ≤ suc n
-      go true b d l = omega (arith, off b (d refl))
-      go false true d l = omega arith
-      go false false d l = omega arith
+      never : (a b : Bool) → (a ≡ true → b ≡ false) → a && b ≡ false
+      never true b d = d refl
+      never false b d = refl
 
 module _ (p : ℕ → Bool) where
-  pub count-bound : (n : ℕ) → countBelow n p ≤ n
-  unfolding countBelow
-  count-bound zero = omega arith
-  count-bound (suc n) = go (p n) (count-bound n)
-    where
-      go : (a : Bool) → countBelow n p ≤ n → cond a 1 0 + countBelow n p ≤ suc n
-      go true h = omega arith
-      go false h = omega arith
-
   pub count-all : (n : ℕ) → countBelow n p ≡ n → (c : ℕ) → c < n → p c ≡ true
   unfolding countBelow
   count-all zero h = λ c l. let f : ⊥ = omega arith in absurd f
-  count-all (suc n) h = go (p n) refl (count-bound n) (count-all n) h
+  count-all (suc n) h = go (p n) refl (count-le n p) (count-all n) h
     where
       go :
           (a : Bool) → p n ≡ a → countBelow n p ≤ n → (countBelow n p ≡ n → (c : ℕ) → c < n → p c ≡ true)
@@ -102,25 +84,15 @@ module _ (p : ℕ → Bool) where
   pub count-full : (n : ℕ) → ((c : ℕ) → c < n → p c ≡ true) → countBelow n p ≡ n
   unfolding countBelow
   count-full zero h = refl
-  count-full (suc n) h = omega (arith, on (p n) (h n (omega arith)), count-full n (λ c l. h c (omega arith)))
-
-  pub count-none : (n : ℕ) → ((c : ℕ) → c < n → p c ≡ false) → countBelow n p ≡ 0
-  unfolding countBelow
-  count-none zero h = refl
-  count-none (suc n) h = omega (arith, off (p n) (h n (omega arith)), count-none n (λ c l. h c (omega arith)))
+  count-full (suc n) h = omega (arith, ap bit (h n (omega arith)), count-full n (λ c l. h c (omega arith)))
 
   pub count-some : (n c : ℕ) → c < n → p c ≡ true → 0 < countBelow n p
   unfolding countBelow
   count-some zero c l e = omega arith
   count-some (suc n) c l e = elim (eq-or-lt-of-le (le-of-suc-le-suc l)) [
-    | inl i ↦ omega (arith, on (p n) (subst (λ c. p c ≡ true) i e))
+    | inl i ↦ omega (arith, ap bit (subst (λ c. p c ≡ true) i e))
     | inr m ↦ omega (arith, count-some n c m e)
   ]
-
-pub times-append : (c : ℕ) (a b : List ℕ) → times c (a ++ b) ≡ times c a + times c b
-unfolding times
-times-append c [] b = omega arith
-times-append c (x ∷ a) b = omega (arith, times-append c a b)
 
 pub times-last : (c a : ℕ) (l : List ℕ) → times c (l ++ (a ∷ [])) ≡ times c l + one a c
 unfolding times
