@@ -1,5 +1,5 @@
 -- What code that computes the flood needs to know of it: which cell leaves next (LeastLaws), what a step is, and what holds after i steps.
-use Prim.Native.Nat.{ℕ, _+_, _≤_, _<_}
+use Prim.Native.Nat.{ℕ, zero, suc, _+_, _≤_, _<_}
 use mathlib.Core.Path.{_≡_, ap, _∙_}
 use mathlib.Core.Bool.{true, false, cond}
 use mathlib.Core.Logic.{inl, inr}
@@ -11,11 +11,11 @@ use lib.ListN.{length, getD, take}
 use lib.Seq.{take-at}
 use borrow.Author.Tests.{eqb-true, ne-eqb, lt-ltb, le-ltb}
 use Rattle.drainage.specs.Ground.{Ground, Kind}
-use Rattle.drainage.specs.Flood.{Flood, pushAll, leave, waits, leastWaiting, step, floodAfter}
+use Rattle.drainage.specs.Flood.{Flood, pushAll, leave, waits, leastWaiting, step, floodAfter, flooded}
 use Rattle.drainage.specs.Ways.{one, times, countBelow}
 use Rattle.drainage.specs.Theorems.{Joined, Numbers}
 use Rattle.drainage.proofs.TallyLaws.{count-apart}
-use Rattle.drainage.proofs.StateLaws.{Stands, floodAfter-stands, some-waits}
+use Rattle.drainage.proofs.StateLaws.{Stands, floodAfter-stands, some-waits, flooded-left}
 pub use Rattle.drainage.proofs.LeastLaws.{Least, leastWaiting-found, leastWaiting-is, leastWaiting-nobody}
 pub use Rattle.drainage.proofs.KeptLaws.{Sized, Later, floodAfter-none, floodAfter-more, floodAfter-sized, floodAfter-later}
 
@@ -88,3 +88,27 @@ module _ {H : Type 0} (k : Kind H) (g : Ground) (hs : List H) where
       where
         later : Later (k .absent) (floodAfter k g hs i) (floodAfter k g hs (i + j))
         later = floodAfter-later k g hs many i j
+
+    -- in the end nobody waits, and further steps do nothing
+    pub flooded-nobody : leastWaiting k g hs (flooded k g hs) ≡ g .cells
+    flooded-nobody = leastWaiting-nobody k g hs (flooded k g hs) (λ c l w. unlike (eqb-true _ 1 w) (left c l))
+      where
+        left : (c : ℕ) → c < g .cells → getD (flooded k g hs .status) c 0 ≡ 2
+        left = flooded-left k g hs Good number joined numbers many fine
+
+        unlike : {a : ℕ} → a ≡ 1 → a ≡ 2 → ⊥
+        unlike p q = omega arith
+
+    pub floodAfter-ends : (j : ℕ) → floodAfter k g hs (g .cells + j) ≡ flooded k g hs
+    floodAfter-ends zero = ap (floodAfter k g hs) (none (g .cells))
+      where
+        none : (n : ℕ) → n + 0 ≡ n
+        none n = omega arith
+    floodAfter-ends (suc j) =
+        ap (floodAfter k g hs) (more (g .cells) j)
+        ∙ floodAfter-more k g hs (g .cells + j)
+        ∙ ap (step k g hs) (floodAfter-ends j)
+        ∙ step-stays (flooded k g hs) flooded-nobody
+      where
+        more : (n j : ℕ) → n + suc j ≡ suc (n + j)
+        more n j = omega arith
