@@ -19,6 +19,10 @@ use Rattle.drainage.proofs.StateLaws.{Stands, floodAfter-stands, some-w
 pub use Rattle.drainage.proofs.LeastLaws.{Least, leastWaiting-found, leastWaiting-is, leastWaiting-nobody}
 pub use Rattle.drainage.proofs.KeptLaws.{Sized, Later, floodAfter-none, floodAfter-more, floodAfter-sized, floodAfter-later}
 
+-- a waiting cell has not left
+unlike : {a : ℕ} → a ≡ 1 → a ≡ 2 → ⊥
+unlike p q = omega arith
+
 module _ {H : Type 0} (k : Kind H) (g : Ground) (hs : List H) where
   -- a step once the next leaver is known
   pub step-leaves : (s : Flood H) (c : ℕ) → leastWaiting k g hs s ≡ c → c < g .cells → step k g hs s ≡ pushAll k g hs c (leave k g hs c s)
@@ -56,9 +60,6 @@ module _ {H : Type 0} (k : Kind H) (g : Ground) (hs : List H) where
 
         not-both : (c : ℕ) → c < g .cells → waits k g hs s c ≡ true → eqb (getD (s .status) c 0) 2 ≡ false
         not-both c l w = ne-eqb (getD (s .status) c 0) 2 (λ e. unlike (eqb-true (getD (s .status) c 0) 1 w) e)
-          where
-            unlike : {a : ℕ} → a ≡ 1 → a ≡ 2 → ⊥
-            unlike p q = omega arith
 
         of : Stands k g hs Good number i s → Stage Good i s
         of h = record {
@@ -95,9 +96,6 @@ module _ {H : Type 0} (k : Kind H) (g : Ground) (hs : List H) where
       where
         left : (c : ℕ) → c < g .cells → getD (flooded k g hs .status) c 0 ≡ 2
         left = flooded-left k g hs Good number joined numbers many fine
-
-        unlike : {a : ℕ} → a ≡ 1 → a ≡ 2 → ⊥
-        unlike p q = omega arith
 
     pub floodAfter-ends : (j : ℕ) → floodAfter k g hs (g .cells + j) ≡ flooded k g hs
     floodAfter-ends zero = ap (floodAfter k g hs) (none (g .cells))
