@@ -1,14 +1,14 @@
 -- From the bits of a positive float to its value, and from a value of 24 digits to its bits.
 use mathlib.Core.Path.{_≡_, refl, sym, ap, _∙_, subst}
-use mathlib.Core.Bool.{Bool, true, false, not, cond}
-use Prim.Native.Nat.{ℕ, zero, suc, _+_, _-_, _*_, _/_, _%_, _^_, _≤_, _<_}
-use native.Mathlib.Nat.{mul-assoc, mul-comm, mul-right-comm, mul-one, mul-le-mul-right, mod-eq-of-lt, mul-div-cancel, eq-of-mul-eq-mul-right, le-antisymm, lt-of-lt-of-le, lt-of-not-le, not-le-of-lt, zero-add, le-of-eq, le-trans}
+use mathlib.Core.Bool.{Bool, false, not, cond}
+use Prim.Native.Nat.{ℕ, suc, _+_, _-_, _*_, _/_, _%_, _^_, _≤_, _<_}
+use native.Mathlib.Nat.{mul-assoc, mul-right-comm, mul-one, mul-le-mul-right, mod-eq-of-lt, mul-div-cancel, eq-of-mul-eq-mul-right, lt-of-lt-of-le, lt-of-not-le, not-le-of-lt, zero-add}
 use native.Mathlib.Omega.{arith}
 use borrow.Author.Tests.{lt-leb, le-ltb, ne-eqb}
 use lib.Dec.{T, eqb}
 use lib.Pow.{pow-add, pow-pos, pow-mono, shl-lt}
 use lib.Count.{leadingZeros, leading-top}
-use lib.Ieee.{Float, nan, inf, fin, binary32, up, down, size, odd, hid, top, ones, ofFields, nanBits, ofBits, toBits}
+use lib.Ieee.{Float, nan, inf, fin, binary32, up, down, size, odd, ofFields, nanBits, ofBits, toBits}
 use lib.Ieee.Bits.{nanBits-above}
 use lib.Ieee.Digits.{size-lt, size-le}
 use lib.Ieee.Fits.{down-pos}
@@ -16,10 +16,12 @@ use lib.Ieee.Exact.{HasValue, odd-sign}
 
 -- ---- powers and fractions
 
+pub gather : (s a b : ℕ) → s * 2 ^ a * 2 ^ b ≡ s * 2 ^ (a + b)
+gather s a b = mul-assoc s (2 ^ a) (2 ^ b) ∙ ap (λ (z : ℕ). s * z) (sym (pow-add 2 a b))
+
 -- two products with the same power of two in them
 pub pow-same : (s a b c d : ℕ) → a + b ≡ c + d → s * 2 ^ a * 2 ^ b ≡ s * 2 ^ c * 2 ^ d
-pow-same s a b c d e =
-    mul-assoc s (2 ^ a) (2 ^ b) ∙ ap (λ (z : ℕ). s * z) (sym (pow-add 2 a b) ∙ ap (λ (z : ℕ). 2 ^ z) e ∙ pow-add 2 c d) ∙ sym (mul-assoc s (2 ^ c) (2 ^ d))
+pow-same s a b c d e = gather s a b ∙ ap (λ (z : ℕ). s * 2 ^ z) e ∙ sym (gather s c d)
 
 -- a value as another fraction of the same size
 pub rescale : (x : Float) (w l a c : ℕ) → 0 < l → a * l ≡ w * c → HasValue x false w l → HasValue x false a c
@@ -65,7 +67,7 @@ normal-value b l h =
     (rescale (odd 24 false s e 149) (s * 2 ^ e) (2 ^ 149) (s * 2 ^ (b / 2 ^ 23 + 64)) (2 ^ 214) (pow-pos 149) (pow-same s (b / 2 ^ 23 + 64) 149 e 214 (omega arith))
     (odd-sign 24 false s e 149))
 
--- a smaller one, b units of 2 ^ -149, moved up by sh digits
+-- a smaller one, b units of 2 ^ -149, moved up by h digits
 pub low-value : (b h : ℕ) → b < 2 ^ 23 → h ≤ 65 → HasValue (ofBits binary32 b) false (b * 2 ^ h * 2 ^ (65 - h)) (2 ^ 214)
 low-value b h l k =
     let t : b % 2 ^ 23 ≡ b = mod-eq-of-lt l in
@@ -80,7 +82,6 @@ low-value b h l k =
 
 -- such a b moved up until it has 24 digits
 pub record Raised (b h : ℕ) : Type 0 where
-  pub some : 1 ≤ h
   pub few : h ≤ 23
   pub low : 2 ^ 23 ≤ b * 2 ^ h
   pub high : b * 2 ^ h < 2 ^ 24
@@ -94,7 +95,6 @@ raised b p l =
     let e : j + (z - 8) ≡ 23 = omega (arith, t .1) in (
       omega (arith, t .1),
       record {
-        some = omega (arith, t .1);
         few = omega (arith, t .1);
         low = subst (λ (w : ℕ). w ≤ b * 2 ^ (z - 8)) (sym (pow-add 2 j (z - 8)) ∙ ap (λ (w : ℕ). 2 ^ w) e) (mul-le-mul-right (2 ^ (z - 8)) (t .2));
         high = subst (λ (w : ℕ). b * 2 ^ (z - 8) < 2 ^ w) (ap suc e) (subst (λ (w : ℕ). b * 2 ^ (z - 8) < 2 ^ w) (suc-sum j (z - 8)) (shl-lt (suc j) (z - 8) (t .3)));
@@ -121,21 +121,18 @@ bits-of (fin s m e) a h =
     K : ℕ → ℕ
     K n = size n - 24
 
-pub size-between : (n k : ℕ) → 2 ^ k ≤ n → n < 2 ^ suc k → size n ≡ suc k
-size-between n k l h = le-antisymm (size-le n (suc k) h) (lt-of-not-le (λ (g : size n ≤ k). not-le-of-lt (lt-of-lt-of-le (size-lt n) (pow-mono g)) l))
+pub size-above : {k n : ℕ} → 2 ^ k ≤ n → k < size n
+size-above {k} {n} h = lt-of-not-le (λ (g : size n ≤ k). not-le-of-lt (lt-of-lt-of-le (size-lt n) (pow-mono g)) h)
 
 pub bits-at : (v : Float) (q k : ℕ) → HasValue v false (q * 2 ^ k) (2 ^ 149) → 2 ^ 23 ≤ q → q < 2 ^ 24 → toBits binary32 v ≡ k * 2 ^ 23 + q
 bits-at v q k h l g =
     bits-of v (q * 2 ^ k) h ∙ ap (λ (z : ℕ). z * 2 ^ 23 + q * 2 ^ k / 2 ^ z) K ∙ ap (λ (z : ℕ). k * 2 ^ 23 + z) (mul-div-cancel q (pow-pos k))
   where
-    drop : (z : ℕ) → z ≡ suc (23 + k) → z - 24 ≡ k
-    drop z e = omega arith
+    drop : (z : ℕ) → 23 + k < z → z ≤ 24 + k → z - 24 ≡ k
+    drop z a b = omega arith
 
     K : size (q * 2 ^ k) - 24 ≡ k
-    K = drop (size (q * 2 ^ k)) (size-between (q * 2 ^ k) (23 + k) (subst (λ (w : ℕ). w ≤ q * 2 ^ k) (sym (pow-add 2 23 k)) (mul-le-mul-right (2 ^ k) l)) (subst (λ (w : ℕ). q * 2 ^ k < 2 ^ w) (more k) (shl-lt 24 k g)))
-      where
-        more : (z : ℕ) → 24 + z ≡ suc (23 + z)
-        more z = omega arith
+    K = drop (size (q * 2 ^ k)) (size-above {k = 23 + k} (subst (λ (w : ℕ). w ≤ q * 2 ^ k) (sym (pow-add 2 23 k)) (mul-le-mul-right (2 ^ k) l))) (size-le (q * 2 ^ k) (24 + k) (shl-lt 24 k g))
 
 -- bits below those of the infinity are no NaN's
 pub no-nan : (b : ℕ) → b < 255 * 2 ^ 23 → T (not (nanBits binary32 b))

@@ -2,7 +2,7 @@
 use mathlib.Core.Path.{_≡_, refl, sym, ap, _∙_, subst}
 use mathlib.Core.Bool.{Bool, true, false, not, cond, _&&_, _||_, Bool·beq, true≢false, false≢true}
 use Prim.Native.Nat.{ℕ, zero, suc, _+_, _-_, _*_, _/_, _%_, _^_, _≤_, _<_}
-use native.Mathlib.Nat.{zero-mul, one-mul, mul-one, mul-pos, mul-right-comm, mul-le-mul-right, mul-lt-mul-of-pos-right, le-trans, lt-of-lt-of-le, lt-irrefl, zero-lt-suc, div-one, zero-add, le-div-iff-mul-le, div-lt-iff-lt-mul}
+use native.Mathlib.Nat.{zero-mul, one-mul, mul-one, mul-pos, mul-right-comm, mul-le-mul-right, mul-lt-mul-of-pos-right, le-trans, lt-irrefl, zero-lt-suc, div-one, le-div-iff-mul-le, div-lt-iff-lt-mul}
 use native.Mathlib.Omega.{arith}
 use borrow.Author.Tests.{ltb-true, ltb-false, lt-ltb}
 use lib.IntN.{ℤ, pos}
@@ -20,13 +20,13 @@ use Rattle.answers.specs.Outcome.{Outcome, gives, refused}
 use Rattle.square_root.specs.Root.{rootOf, rootAnswer}
 use Rattle.square_root.specs.Rooted.{NearestRoot, Rooted}
 use Rattle.square_root.specs.Inner.{bitsOf}
-use Rattle.square_root.proofs.BitsLaws.{normal-value, low-value, raised, Raised}
+use Rattle.square_root.proofs.BitsLaws.{normal-value, low-value, raised}
 use Rattle.square_root.proofs.RootLaws.{Found, found}
 
 abbrev nought : Float
 nought = fin false 0 (pos 0)
 
--- 0 below m * 2 ^ e says what it says of m
+-- both sides of a comparison of 0 with m * 2 ^ e
 zero-times : (d : ℕ) → 0 * 1 * d ≡ 0
 zero-times d = zero-mul d
 

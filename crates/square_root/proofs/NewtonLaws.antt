@@ -1,13 +1,11 @@
--- Newton's step in whole numbers: it never falls below the whole root r, and what lay d above r lies d * d / 2 ^ 24 above it afterwards.
-use mathlib.Core.Path.{_≡_}
-use mathlib.Core.Logic.{_⊎_, inl, inr}
-use Prim.Native.Nat.{ℕ, suc, _+_, _-_, _*_, _/_, _^_, _≤_, _<_}
-use native.Mathlib.Nat.{lt-div-mul-add, div-mul-le-self, mul-le-mul, mul-le-mul-left, lt-of-lt-of-le, le-trans}
+-- Newton's step in whole numbers: it never falls below the whole root r, and what lay d from r lies some d * d / 2 ^ 24 above it afterwards.
+use mathlib.Core.Path.{_≡_, sym, subst, subst₂}
+use Prim.Native.Nat.{ℕ, _+_, _-_, _*_, _/_, _^_, _≤_, _<_}
+use native.Mathlib.Nat.{lt-div-mul-add, div-mul-le-self, mul-le-mul-left, le-add-right, le-trans}
 use native.Mathlib.Omega.{arith}
 use native.Mathlib.Decide.{decLe}
-use lib.Dec.{lit≤}
 use Rattle.square_root.specs.Root.{wholeRoot}
-use Rattle.square_root.specs.Inner.{Over}
+use Rattle.square_root.specs.Inner.{Around, Over}
 use Rattle.square_root.proofs.WholeLaws.{not-above, square-mono, below-root, whole-bracket}
 
 abbrev pub step : ℕ → ℕ → ℕ
@@ -60,40 +58,53 @@ step-high n g r D E h a b c = not-above (λ (k : r + E < step n g). no (n / g) (
     no : (m : ℕ) → m * g ≤ n → g * g + r * r ≤ 2 * (g * r) + D * D → g * (2 * (r + E + 1)) ≤ g * (g + m) → ⊥
     no m x y z = omega arith
 
--- ---- what the code does: a first step from a constant, then two more
+-- ---- what the code does: a line, then two steps
 
-pub start : (n l D E : ℕ) → n < 2 ^ 48 → 0 < l → l * l ≤ n → n < (l + 2 * D + 1) * (l + 2 * D + 1) → D * D + 2 * (l + 2 * D) < 2 * ((E + 1) * (l + D)) → Over n E (step n (l + D))
-start n l D E s p h k e =
-    let w = whole-bracket n s in
-    let r = wholeRoot n in
-    let lo : l ≤ r = below-root l r n h (w .1) in
-    let hi : r ≤ l + 2 * D = below-root r (l + 2 * D) n (w .0) k in
-    record {
-      least = step-low n (l + D) r (omega arith) (w .0);
-      most = step-high n (l + D) r D E (w .1) (omega arith) (omega arith) (omega arith);
-    }
+pub over-around : {n e s : ℕ} → Over n e s → Around n e s
+over-around {n} {e} {s} o = record { least = le-trans (o .least) (le-add-right s e); most = o .most }
 
-pub further : (n D E s : ℕ) → 2 ^ 46 ≤ n → n < 2 ^ 48 → Over n D s → D * D < E * 2 ^ 24 → Over n E (step n s)
-further n D E s l h o e =
+pub further : (n D E s : ℕ) → 2 ^ 46 ≤ n → n < 2 ^ 48 → Around n D s → D < 2 ^ 23 → D * (D + 2 * (E + 1)) < E * 2 ^ 24 → Over n E (step n s)
+further n D E s l h o d e =
     let w = whole-bracket n h in
     let r = wholeRoot n in
     let big : 2 ^ 23 ≤ r = below-root (2 ^ 23) r n l (w .1) in
     record {
       least = step-low n s r (pos big (o .least)) (w .0);
-      most = step-high n s r D E (w .1) (o .most) (near (o .least)) (room big (mul-le-mul-left E big) (mul-le-mul-left E (o .least)) (o .least));
+      most = step-high n s r D E (w .1) (o .most) (o .least) (room r (mul-le-mul-left E big) (mul-le-mul-left (E + 1) (o .least)));
     }
   where
-    pos : {r : ℕ} → 2 ^ 23 ≤ r → r ≤ s → 0 < s
+    pos : {r : ℕ} → 2 ^ 23 ≤ r → r ≤ s + D → 0 < s
     pos a b = omega arith
 
-    near : {r : ℕ} → r ≤ s → r ≤ s + D
-    near b = omega arith
+    room : (r : ℕ) → E * 2 ^ 23 ≤ E * r → (E + 1) * r ≤ (E + 1) * (s + D) → D * D + 2 * r < 2 * ((E + 1) * s)
+    room r a b = omega arith
 
-    room : {r : ℕ} → 2 ^ 23 ≤ r → E * 2 ^ 23 ≤ E * r → E * r ≤ E * s → r ≤ s → D * D + 2 * r < 2 * ((E + 1) * s)
-    room a b c d = omega arith
+-- for roots from lo to hi: the root lies below its tangent at c, and above its chord but for what the whole root drops
+pub record Between (n lo hi c r : ℕ) : Type 0 where
+  pub low : lo ≤ r
+  pub high : r ≤ hi
+  pub tangent : 2 * c * r ≤ n + c * c
+  pub chord : n + lo * hi ≤ (lo + hi + 2) * r
 
--- so the roots of such numbers are small
-pub range : (n e s : ℕ) → 2 ^ 46 ≤ n → n < 2 ^ 48 → Over n e s → (2 ^ 23 ≤ s) × (s < 2 ^ 24 + e)
+pub between : (n lo hi c : ℕ) → n < 2 ^ 48 → lo * lo ≤ n → n < (hi + 1) * (hi + 1) → Between n lo hi c (wholeRoot n)
+between n lo hi c h a b =
+    let w = whole-bracket n h in
+    let r = wholeRoot n in
+    let l : lo ≤ r = below-root lo r n a (w .1) in
+    let g : r ≤ hi = below-root r hi n (w .0) b in
+    record { low = l; high = g; tangent = under r (w .0) (means r c); chord = over r (r - lo) (hi - r) (omega arith) (omega arith) (w .1) }
+  where
+    under : (r : ℕ) → r * r ≤ n → 4 * (r * c) ≤ (r + c) * (r + c) → 2 * c * r ≤ n + c * c
+    under r p q = omega arith
+
+    apart-by : (x y : ℕ) → n < (lo + x + 1) * (lo + x + 1) → n + lo * (lo + x + y) ≤ (lo + (lo + x + y) + 2) * (lo + x)
+    apart-by x y k = omega arith
+
+    over : (r x y : ℕ) → lo + x ≡ r → lo + x + y ≡ hi → n < (r + 1) * (r + 1) → n + lo * hi ≤ (lo + hi + 2) * r
+    over r x y p q k = subst₂ (λ (s t : ℕ). n + lo * t ≤ (lo + t + 2) * s) p q (apart-by x y (subst (λ (s : ℕ). n < (s + 1) * (s + 1)) (sym p) k))
+
+-- what lies near such a root has some 24 digits
+pub range : (n e s : ℕ) → 2 ^ 46 ≤ n → n < 2 ^ 48 → Around n e s → (2 ^ 23 ≤ s + e) × (s < 2 ^ 24 + e)
 range n e s l h o =
     let w = whole-bracket n h in
     let r = wholeRoot n in

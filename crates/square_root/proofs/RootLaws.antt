@@ -1,22 +1,22 @@
 -- The definition's root of a positive float: its value, its bits and its bracket.
-use mathlib.Core.Path.{_≡_, refl, sym, ap, _∙_, subst}
-use mathlib.Core.Bool.{Bool, true, false, true≢false}
+use mathlib.Core.Path.{_≡_, refl, sym, ap, ap₂, _∙_, subst}
+use mathlib.Core.Bool.{true, false, true≢false}
 use mathlib.Core.Logic.{_⊎_, inl, inr}
 use Prim.Native.Nat.{ℕ, zero, suc, _+_, _-_, _*_, _/_, _%_, _^_, _≤_, _<_}
-use native.Mathlib.Nat.{mul-assoc, mul-le-mul, mul-le-mul-right, mul-lt-mul-of-pos-right, mul-div-cancel, mul-pos, zero-mul, pow-suc, one-le-pow, eq-or-lt-of-le, lt-of-lt-of-le, lt-of-not-le, not-le-of-lt, lt-irrefl}
+use native.Mathlib.Nat.{sub-le, lt-of-le-of-lt, mul-assoc, mul-le-mul, mul-le-mul-left, mul-le-mul-right, mul-lt-mul-of-pos-right, mul-div-cancel, mul-pos, zero-mul, pow-suc, one-le-pow, eq-or-lt-of-le, lt-of-lt-of-le, lt-irrefl}
 use native.Mathlib.Omega.{arith}
 use lib.Dec.{lit<}
 use lib.Pow.{pow-add, pow-pos, pow-mono, shl-lt}
 use lib.Ieee.{Float, nan, inf, fin, binary32, up, down, size, round, ofBits}
-use lib.Ieee.Digits.{size-lt, size-le}
+use lib.Ieee.Digits.{size-le}
 use lib.Ieee.Fits.{round-fits, down-pos}
 use lib.Ieee.Bits.{ofBits-toBits}
 use lib.Ieee.Exact.{HasValue, round-exact}
-use Rattle.square_root.specs.Root.{rootOf, rootOfPositive, nearestRoot}
+use Rattle.square_root.specs.Root.{rootOf, nearestRoot}
 use Rattle.square_root.specs.Rooted.{NearestRoot}
 use Rattle.square_root.specs.Inner.{scaledTo, bitsOf}
 use Rattle.square_root.proofs.WholeLaws.{Near, nearest-near, near-low, near-high}
-use Rattle.square_root.proofs.BitsLaws.{pow-same, rescale, bits-at}
+use Rattle.square_root.proofs.BitsLaws.{gather, pow-same, rescale, size-above, bits-at}
 
 -- ---- q * 2 ^ (k + 1) in units of 2 ^ -150, rounded: nothing is lost, and the bits are a sum
 
@@ -77,13 +77,10 @@ four-pow (suc f) = pow-suc 4 f ∙ ap (λ (z : ℕ). z * 4) (four-pow f) ∙ sym
     two-more z = omega arith
 
 place-is : (n f : ℕ) → 2 ^ 46 ≤ n → n < 2 ^ 48 → (size (n * 4 ^ f) - 47) / 2 ≡ f
-place-is n f l h = subst (λ (z : ℕ). (size (n * z) - 47) / 2 ≡ f) (sym (four-pow f)) (half (size (n * 2 ^ (2 * f))) (above lo) (size-le (n * 2 ^ (2 * f)) (48 + 2 * f) (shl-lt 48 (2 * f) h)))
+place-is n f l h = subst (λ (z : ℕ). (size (n * z) - 47) / 2 ≡ f) (sym (four-pow f)) (half (size (n * 2 ^ (2 * f))) (size-above lo) (size-le (n * 2 ^ (2 * f)) (48 + 2 * f) (shl-lt 48 (2 * f) h)))
   where
     lo : 2 ^ (46 + 2 * f) ≤ n * 2 ^ (2 * f)
     lo = subst (λ (z : ℕ). z ≤ n * 2 ^ (2 * f)) (sym (pow-add 2 46 (2 * f))) (mul-le-mul-right (2 ^ (2 * f)) l)
-
-    above : {a m : ℕ} → 2 ^ a ≤ m → a < size m
-    above {a} {m} g = lt-of-not-le (λ (k : size m ≤ a). not-le-of-lt (lt-of-lt-of-le (size-lt m) (pow-mono k)) g)
 
     half : (z : ℕ) → 46 + 2 * f < z → z ≤ 48 + 2 * f → (z - 47) / 2 ≡ f
     half z a b = omega arith
@@ -95,7 +92,7 @@ above-zero : (n : ℕ) → 2 ^ 46 ≤ n → 0 < n
 above-zero n l = omega arith
 
 root-is : (x : Float) (n f : ℕ) → HasValue x false (n * 4 ^ f) (2 ^ 300) → 2 ^ 46 ≤ n → n < 2 ^ 48 → rootOf x ≡ round binary32 false (nearestRoot n * 2 ^ f) (2 ^ 150)
-unfolding rootOf rootOfPositive
+unfolding rootOf
 root-is nan n f v l h = absurd v
 root-is (inf s) n f v l h = absurd v
 root-is (fin s zero e) n f v l h = absurd (lt-irrefl 0 (subst (λ (z : ℕ). 0 < z) (sym (v .1) ∙ ap (λ (z : ℕ). z * 2 ^ 300) (zero-mul (up e)) ∙ zero-mul (2 ^ 300)) (mul-pos (mul-pos (above-zero n l) (four-pos f)) (down-pos e))))
@@ -150,16 +147,32 @@ at-scale x n k v l h s =
     half-above : (q : ℕ) → n ≤ q * q + q → 4 * n < (2 * q + 1) * (2 * q + 1)
     half-above q a = omega arith
 
+-- twice, or once
+factor : (p : ℕ) → 2 - p % 2 ≡ 2 ^ (1 - p % 2)
+factor p = go (p % 2) (omega arith)
+  where
+    go : (r : ℕ) → r < 2 → 2 - r ≡ 2 ^ (1 - r)
+    go zero h = refl
+    go (suc zero) h = refl
+    go (suc (suc r)) h = absurd (no h)
+      where
+        no : suc (suc r) < 2 → ⊥
+        no g = omega arith
+
 pub scaled-low : (s p : ℕ) → 2 ^ 23 ≤ s → 2 ^ 46 ≤ scaledTo s p
-scaled-low s p g = mul-le-mul g (pow-mono {i = 23} {j = 24 - p % 2} (omega arith))
+scaled-low s p g = mul-le-mul {n₁ = 2 ^ 46} {m₁ = 1} (mul-le-mul-right (2 ^ 23) g) (omega arith)
 
 pub scaled-high : (s p : ℕ) → s < 2 ^ 24 → scaledTo s p < 2 ^ 48
-scaled-high s p g = lt-of-lt-of-le (shl-lt 24 (24 - p % 2) g) (pow-mono {i = 24 + (24 - p % 2)} {j = 48} (omega arith))
+scaled-high s p g = lt-of-le-of-lt (mul-le-mul-left (s * 2 ^ 23) (sub-le 2 (p % 2))) (omega arith)
 
 pub found : (x : Float) (sig p : ℕ) → HasValue x false (sig * 2 ^ p) (2 ^ 214) → 2 ^ 23 ≤ sig → sig < 2 ^ 24 → p ≤ 318 → Found x (bitsOf sig p)
 found x sig p v l h s =
     let n = scaledTo sig p in
     let k = (p + 63) / 2 - 1 in
-    let d = 24 - p % 2 in
-    let e : sig * 2 ^ d * 4 ^ suc k * 2 ^ 214 ≡ sig * 2 ^ p * 2 ^ 300 = ap (λ (z : ℕ). sig * 2 ^ d * z * 2 ^ 214) (four-pow (suc k)) ∙ ap (λ (z : ℕ). z * 2 ^ 214) (pow-same sig d (2 * suc k) p 86 (omega arith)) ∙ mul-assoc (sig * 2 ^ p) (2 ^ 86) (2 ^ 214) in
+    let d = 1 - p % 2 in
+    let e : n * 4 ^ suc k * 2 ^ 214 ≡ sig * 2 ^ p * 2 ^ 300 =
+    ap₂ (λ (y z : ℕ). sig * 2 ^ 23 * y * z * 2 ^ 214) (factor p) (four-pow (suc k))
+    ∙ ap (λ (z : ℕ). z * 2 ^ (2 * suc k) * 2 ^ 214) (gather sig 23 d)
+    ∙ ap (λ (z : ℕ). z * 2 ^ 214) (gather sig (23 + d) (2 * suc k))
+    ∙ pow-same sig (23 + d + 2 * suc k) 214 p 300 (omega arith) in
     at-scale x n k (rescale x (sig * 2 ^ p) (2 ^ 214) (n * 4 ^ suc k) (2 ^ 300) (pow-pos 214) e v) (scaled-low sig p l) (scaled-high sig p h) (omega arith)

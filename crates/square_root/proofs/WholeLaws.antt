@@ -1,5 +1,5 @@
 -- The whole root of n by its digits, and the nearest whole root, each fixed by squares.
-use mathlib.Core.Path.{_≡_, sym, ap, subst}
+use mathlib.Core.Path.{_≡_, subst}
 use mathlib.Core.Bool.{Bool, true, false, not, cond}
 use Prim.Native.Nat.{ℕ, zero, suc, _+_, _-_, _*_, _^_, _≤_, _<_, zero-le}
 use native.Mathlib.Nat.{mul-le-mul, mul-le-mul-right, le-antisymm, le-of-suc-le-suc, lt-of-not-le, pow-succ'}
@@ -64,13 +64,15 @@ near-le n (suc t) q a b = not-above (λ (g : q < suc t). no (mul-le-mul (le-of-s
 near-unique : (n p q : ℕ) → Near n p → Near n q → p ≡ q
 near-unique n p q a b = le-antisymm (near-le n p q a b) (near-le n q p b a)
 
+either-near : (n : ℕ) (b : Bool) (x y : ℕ) → (T b → Near n x) → (T (not b) → Near n y) → Near n (cond b x y)
+either-near n true x y f g = f tt
+either-near n false x y f g = g tt
+
 pub nearest-near : (n : ℕ) → 0 < n → n < 2 ^ 48 → Near n (nearestRoot n)
 unfolding nearestRoot
-nearest-near n p h = go (wholeRoot n) (whole-bracket n h) (ltb (4 * n) ((2 * wholeRoot n + 1) * (2 * wholeRoot n + 1))) (ltb→lt _ _) (nltb→le _ _)
-  where
-    go : (s : ℕ) → Bracket n s → (b : Bool) → (T b → 4 * n < (2 * s + 1) * (2 * s + 1)) → (T (not b) → (2 * s + 1) * (2 * s + 1) ≤ 4 * n) → Near n (cond b s (suc s))
-    go s w true y z = let f : 4 * n < (2 * s + 1) * (2 * s + 1) = y tt in (omega arith, short n s p (w .0))
-    go s w false y z = let f : (2 * s + 1) * (2 * s + 1) ≤ 4 * n = z tt in omega arith
+nearest-near n p h =
+    let w = whole-bracket n h in
+    either-near n (ltb (4 * n) ((2 * wholeRoot n + 1) * (2 * wholeRoot n + 1))) _ _ (λ t. (omega (arith, ltb→lt), short n (wholeRoot n) p (w .0))) (λ t. omega (arith, nltb→le, w))
 
 -- what is near is the nearest
 pub nearest-is : (n q : ℕ) → 0 < n → n < 2 ^ 48 → Near n q → q ≡ nearestRoot n

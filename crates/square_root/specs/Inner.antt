@@ -2,15 +2,20 @@
 use Prim.Native.Nat.{ℕ, _+_, _-_, _*_, _/_, _%_, _^_, _≤_}
 use Rattle.square_root.specs.Root.{wholeRoot, nearestRoot}
 
+-- s is at most e away from the whole root of n
+pub record Around (n e s : ℕ) : Type 0 where
+  pub least : wholeRoot n ≤ s + e
+  pub most : s ≤ wholeRoot n + e
+
 -- s is the whole root of n, or up to e above it
 pub record Over (n e s : ℕ) : Type 0 where
   pub least : wholeRoot n ≤ s
   pub most : s ≤ wholeRoot n + e
 
--- sig * 2 ^ p, for a sig of 24 digits, as a number of 47 or 48 digits times an even power of two
+-- sig * 2 ^ p, for a sig of 24 digits, as a number of 47 or 48 digits times an even power of two: twice sig where p is even
 abbrev pub scaledTo : ℕ → ℕ → ℕ
-scaledTo sig p = sig * 2 ^ (24 - p % 2)
+scaledTo sig p = sig * 2 ^ 23 * (2 - p % 2)
 
--- the bits of the root of sig * 2 ^ p / 2 ^ 214: the exponent's field is one higher than the factor says, by q's leading digit
+-- the bits of the root of sig * 2 ^ p / 2 ^ 214: the nearest root's leading digit adds one to the exponent's field, and 2 ^ 24 adds two
 abbrev pub bitsOf : ℕ → ℕ → ℕ
 bitsOf sig p = ((p + 63) / 2 - 1) * 2 ^ 23 + nearestRoot (scaledTo sig p)

@@ -20,23 +20,19 @@ wholeRoot n = digits 24 0 n
 unfoldable pub nearestRoot : ℕ → ℕ
 nearestRoot n = let s = wholeRoot n in cond (ltb (4 * n) ((2 * s + 1) * (2 * s + 1))) s (suc s)
 
--- the root of m * 2 ^ e, for m above 0: X is that number in units of 4 ^ -150, and X / 4 ^ j, which is exact, has 47 or 48 digits,
--- so its nearest whole root has the 24 digits of a binary32
-unfoldable pub rootOfPositive : ℕ → ℕ → ℕ → Float
-rootOfPositive m u d =
-    let X = m * u * 2 ^ 300 / d in
-    let j = (size X - 47) / 2 in
-    round binary32 false (nearestRoot (X / 4 ^ j) * 2 ^ j) (2 ^ 150)
-
--- squareRoot on every float: a zero keeps its sign, and what lies below 0 has no root
+-- squareRoot on every float: a zero keeps its sign, and what lies below 0 has no root. Of a positive number, X is that number in units of 4 ^ -150;
+-- X / 4 ^ j, which is exact, has 47 or 48 digits, so its nearest whole root has the 24 digits of a binary32, and nothing is left to round.
 unfoldable pub rootOf : Float → Float
 rootOf nan = nan
 rootOf (inf true) = nan
 rootOf (inf false) = inf false
 rootOf (fin s zero e) = fin s zero e
 rootOf (fin true (suc m) e) = nan
-rootOf (fin false (suc m) e) = rootOfPositive (suc m) (up e) (down e)
+rootOf (fin false (suc m) e) =
+    let X = suc m * up e * 2 ^ 300 / down e in
+    let j = (size X - 47) / 2 in
+    round binary32 false (nearestRoot (X / 4 ^ j) * 2 ^ j) (2 ^ 150)
 
--- what the call `root` answers: 4 unless x is finite and not below 0 (-0 is not)
+-- what the call `root` answers: refused by 4 unless x is finite and, as a number, not below 0; so -0 is accepted
 unfoldable pub rootAnswer : Float → Outcome Float
 rootAnswer x = cond (finite x && le (fin false 0 (pos 0)) x) (gives (rootOf x)) (refused 4)

@@ -1,11 +1,11 @@
 // The square root of document 01, worked out from a float's bits: its 24 digits are scaled to a whole number n of 47 or 48, the whole root of n comes
-// from three of Newton's steps, the first of them from a constant, and the result's bits are one sum.
+// from a line near it and two of Newton's steps, and the result's bits are one sum.
 ghost use mathlib.Core.Path.{_≡_};
 ghost use Prim.Native.Nat.{_+_, _*_, _/_, _^_, _≤_, _<_};
 ghost use lib.Ieee.{binary32, ofBits};
 ghost use Rattle.square_root.specs.Root.{nearestRoot, rootOf};
 ghost use Rattle.square_root.specs.Rooted.{Rooted};
-ghost use Rattle.square_root.specs.Inner.{Over, scaledTo, bitsOf};
+ghost use Rattle.square_root.specs.Inner.{Around, Over, bitsOf};
 
 // One of Newton's steps from g to the root of n.
 fn newton(n: u64, g: u64) -> u64
@@ -15,15 +15,16 @@ fn newton(n: u64, g: u64) -> u64
     (g + n / g) / 2
 }
 
-// The step from the middle of the roots of 47 digits, or from that of 48.
-fn first_step(n: u64) -> u64
+// A line that stays near the root of n, one for numbers of 47 digits and one for 48.
+fn first_guess(n: u64) -> u64
     requires { ⌜ (2 ^ 46 ≤ n) × (n < 2 ^ 48) ⌝ }
-    ensures { λ r. ⌜ Over n 250000 r ⌝ }
+    ensures { λ r. ⌜ Around n 200000 r ⌝ }
 {
+    let m = n / 0x80_0000;
     if n < 0x8000_0000_0000 {
-        return newton(n, 0xa0_0000);
+        return 0x4d_6000 + m * 13 / 32;
     }
-    newton(n, 0xd8_0000)
+    0x6f_6000 + m * 9 / 32
 }
 
 // The whole root of n, or one above it.
@@ -31,9 +32,9 @@ fn whole_root(n: u64) -> u64
     requires { ⌜ (2 ^ 46 ≤ n) × (n < 2 ^ 48) ⌝ }
     ensures { λ r. ⌜ Over n 1 r ⌝ }
 {
-    let a = first_step(n);
-    let b = newton(n, a);
-    newton(n, b)
+    let g = first_guess(n);
+    let s = newton(n, g);
+    newton(n, s)
 }
 
 // The whole number nearest to the root of n.
@@ -52,23 +53,13 @@ fn nearest_root(n: u64) -> u64
     s
 }
 
-// sig × 2^p as a number of 47 or 48 digits times an even power of two.
-fn scaled(sig: u64, p: u64) -> u64
-    requires { ⌜ sig < 2 ^ 24 ⌝ }
-    ensures { λ r. ⌜ r ≡ scaledTo sig p ⌝ }
-{
-    if p % 2 == 0 {
-        return sig * 0x100_0000;
-    }
-    sig * 0x80_0000
-}
-
 // The bits of the root of sig × 2^p / 2^214.
 fn root_bits(sig: u64, p: u64) -> u32
     requires { ⌜ (2 ^ 23 ≤ sig) × (sig < 2 ^ 24) × (p ≤ 318) ⌝ }
     ensures { λ r. ⌜ r ≡ bitsOf sig p ⌝ }
 {
-    let q = nearest_root(scaled(sig, p));
+    let n = sig * 0x80_0000 * (2 - p % 2);
+    let q = nearest_root(n);
     (((p + 63) / 2 - 1) * 0x80_0000 + q) as u32
 }
 
