@@ -9,7 +9,7 @@ use Rattle.lists.specs.Loops.{turns}
 use Rattle.grid.specs.Heights.{allFinite}
 use Rattle.generators.specs.Marks.{fresh, reportOf}
 use Rattle.generators.specs.declared.Progress.{Progress}
-use Rattle.thermal_erosion.specs.Talus.{slideRow}
+use Rattle.talus.specs.Talus.{slideRow}
 use Rattle.thermal_erosion.specs.SlidePass.{fractionOf}
 
 -- What a run is to do on its w × h working grid.

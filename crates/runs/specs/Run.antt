@@ -15,7 +15,7 @@ use Rattle.drainage.specs.Flood.{flooded}
 use Rattle.drainage.specs.Receivers.{receivers}
 use Rattle.fluvial_erosion.specs.Incision.{incisedBy}
 use Rattle.fluvial_erosion.specs.declared.FluvialParams.{FluvialParams}
-use Rattle.thermal_erosion.specs.Talus.{thresholdsOf}
+use Rattle.talus.specs.Talus.{thresholdsOf}
 use Rattle.resample.specs.WorkSize.{workSize}
 use Rattle.resample.specs.Blocks.{downsampled}
 use Rattle.resample.specs.Samples.{FarEdge, asSource, addedOf}

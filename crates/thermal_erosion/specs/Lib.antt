@@ -1,3 +1,2 @@
--- Document 01, 'Talus'.
-pub mod Talus
+-- Document 01, 'Talus': the pass and its public call.
 pub mod SlidePass

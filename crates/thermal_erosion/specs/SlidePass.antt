@@ -13,7 +13,7 @@ use Rattle.grid.specs.Sides.{badSides}
 use Rattle.grid.specs.Heights.{firstNotFinite, allFinite}
 use Rattle.generators.specs.Marks.{reportOf}
 use Rattle.generators.specs.declared.Progress.{Progress}
-use Rattle.thermal_erosion.specs.Talus.{thresholdsOf, slideRow}
+use Rattle.talus.specs.Talus.{thresholdsOf, slideRow}
 use Rattle.thermal_erosion.specs.declared.ThermalParams.{ThermalParams}
 
 -- the fraction after row y: from + (to - from) × y / h

@@ -1,6 +1,7 @@
 -- Document 01, 'Talus': heights are read from the map at entry and the gains added to a copy, cells in number order. The thresholds of the
 -- directions are an argument, entry d that of direction d; entry 0 stands for no direction.
 use Prim.Native.Nat.{ℕ, suc, _+_, _*_}
+use mathlib.Core.Path.{_≡_}
 use mathlib.Core.Bool.{Bool, _&&_, cond}
 use mathlib.Core.List.{List, [], _∷_}
 use lib.ListN.{getD, set}
@@ -8,7 +9,8 @@ use lib.Dec.{ltb}
 use lib.Ieee.{Float, nan, binary32, ofBits, add, sub, mul, div, lt, le}
 use Rattle.lists.specs.Loops.{turns}
 use Rattle.floats.specs.Stand.{maxOf}
-use Rattle.grid.specs.Directions.{neighbourAt}
+use Rattle.grid.specs.Directions.{Place, neighbourAt}
+use Rattle.talus.specs.declared.Shed.{Shed}
 
 -- the threshold toward the sides, and × `SQRT_2` toward the corners
 abbrev pub thresholdsOf : Float → List Float
@@ -16,37 +18,51 @@ thresholdsOf t =
     let diagonal = mul binary32 t (ofBits binary32 0x3fb5_04f3) in
     t ∷ diagonal ∷ t ∷ diagonal ∷ t ∷ t ∷ diagonal ∷ t ∷ diagonal ∷ []
 
--- the total of the excesses counted so far, and the greatest of them
-pub record Shed : Type 0 where
-  pub total : Float
-  pub greatest : Float
+module _ (ts : List Float) (hs : List Float) where
+  -- the excess of cell c toward cell m in direction d: (height - neighbour) - threshold
+  abbrev pub excessTo : ℕ → ℕ → ℕ → Float
+  excessTo c m d = sub binary32 (sub binary32 (getD hs c nan) (getD hs m nan)) (getD ts d nan)
+
+  -- with that excess, if it is counted: the total of the excesses, and the greatest of them
+  unfoldable pub shedTo : ℕ → ℕ → ℕ → Shed → Shed
+  shedTo c m d s =
+      cond (lt (ofBits binary32 0) (excessTo c m d))
+      (record { total = add binary32 (s .total) (excessTo c m d); greatest = maxOf (s .greatest) (excessTo c m d) })
+      s
+
+  -- and cell m's gain, moved × excess / total
+  unfoldable pub gainTo : ℕ → ℕ → Float → Float → ℕ → List Float → List Float
+  gainTo c m moved total d out =
+      cond (lt (ofBits binary32 0) (excessTo c m d))
+      (set out m (add binary32 (getD out m nan) (div binary32 (mul binary32 moved (excessTo c m d)) total)))
+      out
 
 module _ (w h : ℕ) (ts : List Float) (hs : List Float) where
-  -- the excess of cell c toward its neighbour in direction d: (height - neighbour) - threshold
+  -- the excess of cell c toward its neighbour in direction d
   abbrev pub excessOf : ℕ → ℕ → Float
-  excessOf c d = sub binary32 (sub binary32 (getD hs c nan) (getD hs (neighbourAt w h c d) nan)) (getD ts d nan)
+  excessOf c d = excessTo ts hs c (neighbourAt w h c d) d
 
   -- counted if there is such a neighbour and the excess is > 0
   abbrev pub counted : ℕ → ℕ → Bool
   counted c d = ltb (neighbourAt w h c d) (w * h) && lt (ofBits binary32 0) (excessOf c d)
 
-  abbrev pub shedStep : ℕ → ℕ → Shed → Shed
+  unfoldable pub shedStep : ℕ → ℕ → Shed → Shed
   shedStep c d s =
       cond (counted c d) (record { total = add binary32 (s .total) (excessOf c d); greatest = maxOf (s .greatest) (excessOf c d) }) s
 
   unfoldable pub shedOf : ℕ → Shed
-  unfolding turns
+  unfolding turns shedStep
   shedOf c = turns 8 (λ i. shedStep c (suc i)) (record { total = ofBits binary32 0; greatest = ofBits binary32 0 })
 
   -- the neighbour in direction d gains moved × excess / total
-  abbrev pub gainStep : ℕ → Float → Float → ℕ → List Float → List Float
+  unfoldable pub gainStep : ℕ → Float → Float → ℕ → List Float → List Float
   gainStep c moved total d out =
       cond (counted c d)
       (set out (neighbourAt w h c d) (add binary32 (getD out (neighbourAt w h c d) nan) (div binary32 (mul binary32 moved (excessOf c d)) total)))
       out
 
   unfoldable pub gainsOf : ℕ → Float → Float → List Float → List Float
-  unfolding turns
+  unfolding turns gainStep
   gainsOf c moved total out = turns 8 (λ i. gainStep c moved total (suc i)) out
 
   -- the cell loses strength × greatest excess, and its counted neighbours gain
@@ -60,7 +76,18 @@ module _ (w h : ℕ) (ts : List Float) (hs : List Float) where
       cond (lt (getD hs c nan) water) out
       (cond (le (shedOf c .total) (ofBits binary32 0)) out (movedOf c (mul binary32 strength (shedOf c .greatest)) out))
 
+  -- n cells of row y, from column x on
+  unfoldable pub slideCells : Float → Float → ℕ → ℕ → ℕ → List Float → List Float
+  unfolding turns slideCell
+  slideCells strength water y x n out = turns n (λ i. slideCell strength water (x + i + y * w)) out
+
   -- one row, from the west
   unfoldable pub slideRow : Float → Float → ℕ → List Float → List Float
   unfolding turns slideCell
   slideRow strength water y out = turns w (λ x. slideCell strength water (x + y * w)) out
+
+-- column x, row y is cell c of a w × h map of n heights
+pub record CellAt (w h n x y c : ℕ) : Type 0 where
+  pub place : Place w h x y
+  pub cells : n ≡ w * h
+  pub cell : c ≡ x + y * w

@@ -1,0 +1,3 @@
+-- Laws of talus on cells and rows.
+pub mod StepLaws
+pub mod CellLaws

@@ -1,0 +1,71 @@
+-- One direction of a cell, by the cell m that lies there.
+use Prim.Native.Nat.{ℕ, suc, _+_, _-_, _*_, _≤_, _<_}
+use mathlib.Core.Path.{_≡_, refl, sym, ap, _∙_}
+use mathlib.Core.Bool.{cond}
+use mathlib.Core.List.{List}
+use native.Mathlib.Omega.{arith}
+use borrow.Author.Tests.{lt-ltb, le-ltb}
+use lib.Ieee.{Float}
+use Rattle.lists.specs.Loops.{turns}
+use Rattle.lists.proofs.TurnLaws.{turns-none, turns-more}
+use Rattle.grid.specs.Directions.{neighbourOf, neighbourAt}
+use Rattle.grid.proofs.SidesLaws.{cell-lt, column-cell, row-cell}
+use Rattle.talus.specs.Talus.{shedTo, shedStep, gainTo, gainStep, CellAt}
+use Rattle.talus.specs.declared.Shed.{Shed}
+
+module _ {w h n x y c : ℕ} (a : CellAt w h n x y c) where
+  pub cell-below : c < n
+  cell-below = omega (arith, cell-lt w x y (a .place .column) h (a .place .row))
+
+  -- the neighbour of a column and a row is that of their cell
+  pub cell-neighbour : (d : ℕ) → neighbourAt w h c d ≡ neighbourOf w h x y d
+  cell-neighbour d =
+      let column = column-cell w x y (a .place .column) in
+      let row = row-cell w x y (a .place .column) in
+      rw (a .cell, column, row)
+
+-- cell m lies in direction d, or no cell does
+module _ (w h n : ℕ) (ts hs : List Float) (c d m : ℕ) (cells : n ≡ w * h) (at : neighbourAt w h c d ≡ m) where
+  pub shed-outside : (s : Shed) → n ≤ m → shedStep w h ts hs c d s ≡ s
+  unfolding shedStep
+  shed-outside s l = rw (at, ← cells, le-ltb m n l)
+
+  pub shed-inside : (s : Shed) → m < n → shedStep w h ts hs c d s ≡ shedTo ts hs c m d s
+  unfolding shedStep shedTo
+  shed-inside s l = rw (at, ← cells, lt-ltb m n l)
+
+  module _ (moved total : Float) (out : List Float) where
+    pub gain-outside : n ≤ m → gainStep w h ts hs c moved total d out ≡ out
+    unfolding gainStep
+    gain-outside l = rw (at, ← cells, le-ltb m n l)
+
+    pub gain-inside : m < n → gainStep w h ts hs c moved total d out ≡ gainTo ts hs c m moved total d out
+    unfolding gainStep gainTo
+    gain-inside l = rw (at, ← cells, lt-ltb m n l)
+
+-- the state of a loop over the eight directions that has done those below d
+pub record Around {S : Type 0} (f : ℕ → S → S) (start : S) (d : ℕ) (s : S) : Type 0 where
+  pub first : 1 ≤ d
+  pub last : d ≤ 9
+  pub state : s ≡ turns (d - 1) (λ i. f (suc i)) start
+
+module _ {S : Type 0} (f : ℕ → S → S) (start : S) where
+  pub around-none : Around f start 1 start
+  around-none = record { first = omega arith; last = omega arith; state = sym (turns-none (λ i. f (suc i)) start) }
+
+  pub around-more : (d : ℕ) (s r : S) → Around f start d s → d < 9 → r ≡ f d s → Around f start (d + 1) r
+  around-more d s r a l e =
+      let now : suc (d - 1) ≡ d = omega arith in
+      let next : (d - 1) + 1 ≡ (d + 1) - 1 = omega arith in
+      record {
+        first = omega arith;
+        last = omega arith;
+        state =
+            e ∙ ap (f d) (a .state) ∙ ap (λ (k : ℕ). f k (turns (d - 1) (λ i. f (suc i)) start)) (sym now)
+            ∙ sym (turns-more (λ i. f (suc i)) (d - 1) start) ∙ ap (λ (k : ℕ). turns k (λ i. f (suc i)) start) next;
+      }
+
+  pub around-done : (d : ℕ) (s : S) → Around f start d s → 9 ≤ d → s ≡ turns 8 (λ i. f (suc i)) start
+  around-done d s a l =
+      let all : d - 1 ≡ 8 = omega arith in
+      a .state ∙ ap (λ (k : ℕ). turns k (λ i. f (suc i)) start) all

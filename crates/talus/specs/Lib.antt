@@ -1,0 +1,2 @@
+-- Document 01, 'Talus': cells and rows.
+pub mod Talus

@@ -1,0 +1,130 @@
+// Talus on cells and rows: what a cell steeper than its thresholds sheds, and where that goes. Heights are read from `hmap`; gains and losses
+// go to `out`. The thresholds of the directions are an argument, prepared once before the rows.
+use floats::max;
+use grid::Sides;
+use grid::neighbour;
+
+ghost use mathlib.Core.Path.{_≡_};
+ghost use Prim.Native.Nat.{suc, _+_, _*_, _<_, _≤_};
+ghost use lib.ListN.{length};
+ghost use Rattle.talus.specs.Talus.{thresholdsOf, shedTo, shedStep, shedOf, gainTo, gainStep, gainsOf, slideCell, slideCells, slideRow, CellAt};
+
+// The total of the excesses counted so far, and the greatest of them.
+pub struct Shed {
+    pub total: f32,
+    pub greatest: f32,
+}
+
+const SQRT_2: f32 = 1.41421356;
+
+// The thresholds of the directions: t toward the sides, and t × SQRT_2 toward the corners. Entry 0 stands for no direction.
+pub fn thresholds(t: f32) -> [f32; 9]
+    ensures { λ r. ⌜ r ≡ thresholdsOf t ⌝ }
+{
+    let d = t * SQRT_2;
+    [t, d, t, d, t, t, d, t, d]
+}
+
+// The excess of cell c toward cell m in direction d is counted if it is above 0.
+fn shed_at(ts: &[f32; 9], hmap: &[f32], c: usize, m: usize, d: usize, s: Shed) -> Shed
+    requires { ⌜ c < length (now hmap) ⌝ }
+    requires { ⌜ m < length (now hmap) ⌝ }
+    requires { ⌜ d < 9 ⌝ }
+    ensures { λ r. ⌜ r ≡ shedTo (now (ts .entry)) (now (hmap .entry)) c m d s ⌝ }
+{
+    let e = (hmap[c] - hmap[m]) - ts[d];
+    if e > 0.0 {
+        return Shed {
+            total: s.total + e,
+            greatest: max(s.greatest, e),
+        };
+    }
+    s
+}
+
+// Cell m's gain, if the excess of cell c toward it is counted.
+fn gain_at(ts: &[f32; 9], hmap: &[f32], out: &mut [f32], c: usize, m: usize, d: usize, moved: f32, total: f32)
+    requires { ⌜ length (now out) ≡ length (now hmap) ⌝ }
+    requires { ⌜ c < length (now hmap) ⌝ }
+    requires { ⌜ m < length (now hmap) ⌝ }
+    requires { ⌜ d < 9 ⌝ }
+    ensures { λ _. ⌜ now (out .exit) ≡ gainTo (now (ts .entry)) (now (hmap .entry)) c m moved total d (now (out .entry)) ⌝ }
+{
+    let e = (hmap[c] - hmap[m]) - ts[d];
+    if e > 0.0 {
+        out[m] = out[m] + moved * e / total;
+    }
+}
+
+// Direction d, on any cell: outside the grid there is no neighbour.
+fn shed_toward(size: Sides, ts: &[f32; 9], hmap: &[f32], x: usize, y: usize, c: usize, d: usize, s: Shed) -> Shed
+    requires { ⌜ CellAt (size .w) (size .h) (length (now hmap)) x y c ⌝ }
+    requires { ⌜ d < 9 ⌝ }
+    ensures { λ r. ⌜ r ≡ shedStep (size .w) (size .h) (now (ts .entry)) (now (hmap .entry)) c d s ⌝ }
+{
+    let m = neighbour(size, x, y, d);
+    if hmap.len() <= m {
+        return s;
+    }
+    shed_at(ts, hmap, c, m, d, s)
+}
+
+fn gain_toward(size: Sides, ts: &[f32; 9], hmap: &[f32], out: &mut [f32], x: usize, y: usize, c: usize, d: usize, moved: f32, total: f32)
+    requires { ⌜ CellAt (size .w) (size .h) (length (now hmap)) x y c ⌝ }
+    requires { ⌜ length (now out) ≡ length (now hmap) ⌝ }
+    requires { ⌜ d < 9 ⌝ }
+    ensures { λ _. ⌜ now (out .exit) ≡ gainStep (size .w) (size .h) (now (ts .entry)) (now (hmap .entry)) c moved total d (now (out .entry)) ⌝ }
+{
+    let m = neighbour(size, x, y, d);
+    if m < hmap.len() {
+        gain_at(ts, hmap, out, c, m, d, moved, total);
+    }
+}
+
+// The total of the excesses of a cell over its eight directions, and the greatest of them.
+fn shed_around(size: Sides, ts: &[f32; 9], hmap: &[f32], x: usize, y: usize, c: usize) -> Shed
+    requires { ⌜ CellAt (size .w) (size .h) (length (now hmap)) x y c ⌝ }
+    ensures { λ r. ⌜ r ≡ shedOf (size .w) (size .h) (now (ts .entry)) (now (hmap .entry)) c ⌝ }
+{
+    let mut s = Shed {
+        total: 0.0,
+        greatest: 0.0,
+    };
+    let mut d: usize = 1;
+    while d < 9 {
+        s = shed_toward(size, ts, hmap, x, y, c, d, s);
+        d += 1;
+    }
+    s
+}
+
+// What the counted neighbours of a cell gain.
+fn gain_around(size: Sides, ts: &[f32; 9], hmap: &[f32], out: &mut [f32], x: usize, y: usize, c: usize, moved: f32, total: f32)
+    requires { ⌜ CellAt (size .w) (size .h) (length (now hmap)) x y c ⌝ }
+    requires { ⌜ length (now out) ≡ length (now hmap) ⌝ }
+    ensures { λ _. ⌜ now (out .exit) ≡ gainsOf (size .w) (size .h) (now (ts .entry)) (now (hmap .entry)) c moved total (now (out .entry)) ⌝ }
+{
+    let mut d: usize = 1;
+    while d < 9 {
+        gain_toward(size, ts, hmap, out, x, y, c, d, moved, total);
+        d += 1;
+    }
+}
+
+// One cell: below the water level, or with no excess, it sheds nothing.
+fn slide_cell(size: Sides, ts: &[f32; 9], hmap: &[f32], out: &mut [f32], strength: f32, water: f32, x: usize, y: usize, c: usize)
+    requires { ⌜ CellAt (size .w) (size .h) (length (now hmap)) x y c ⌝ }
+    requires { ⌜ length (now out) ≡ length (now hmap) ⌝ }
+    ensures { λ _. ⌜ now (out .exit) ≡ slideCell (size .w) (size .h) (now (ts .entry)) (now (hmap .entry)) strength water c (now (out .entry)) ⌝ }
+{
+    if hmap[c] < water {
+        return;
+    }
+    let s = shed_around(size, ts, hmap, x, y, c);
+    if s.total <= 0.0 {
+        return;
+    }
+    let moved = strength * s.greatest;
+    out[c] = out[c] - moved;
+    gain_around(size, ts, hmap, out, x, y, c, moved, s.total);
+}
