@@ -1,3 +1,5 @@
 -- Laws of talus on cells and rows.
 pub mod StepLaws
 pub mod CellLaws
+pub mod RowLaws
+pub mod TalusLaws

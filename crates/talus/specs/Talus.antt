@@ -1,6 +1,6 @@
 -- Document 01, 'Talus': heights are read from the map at entry and the gains added to a copy, cells in number order. The thresholds of the
 -- directions are an argument, entry d that of direction d; entry 0 stands for no direction.
-use Prim.Native.Nat.{ℕ, suc, _+_, _*_}
+use Prim.Native.Nat.{ℕ, suc, _+_, _*_, _≤_, _<_}
 use mathlib.Core.Path.{_≡_}
 use mathlib.Core.Bool.{Bool, _&&_, cond}
 use mathlib.Core.List.{List, [], _∷_}
@@ -91,3 +91,11 @@ pub record CellAt (w h n x y c : ℕ) : Type 0 where
   pub place : Place w h x y
   pub cells : n ≡ w * h
   pub cell : c ≡ x + y * w
+
+-- n columns from column x on, in row y of a w × h map of `cells` heights
+pub record InRow (w h cells y x n : ℕ) : Type 0 where
+  pub columns : x + n ≤ w
+  pub row : y < h
+  pub wide : w ≤ 4096
+  pub high : h ≤ 4096
+  pub size : cells ≡ w * h

@@ -7,7 +7,7 @@ use grid::neighbour;
 ghost use mathlib.Core.Path.{_≡_};
 ghost use Prim.Native.Nat.{suc, _+_, _*_, _<_, _≤_};
 ghost use lib.ListN.{length};
-ghost use Rattle.talus.specs.Talus.{thresholdsOf, shedTo, shedStep, shedOf, gainTo, gainStep, gainsOf, slideCell, slideCells, slideRow, CellAt};
+ghost use Rattle.talus.specs.Talus.{thresholdsOf, shedTo, shedStep, shedOf, gainTo, gainStep, gainsOf, slideCell, slideCells, slideRow, CellAt, InRow};
 
 // The total of the excesses counted so far, and the greatest of them.
 pub struct Shed {
@@ -127,4 +127,27 @@ fn slide_cell(size: Sides, ts: &[f32; 9], hmap: &[f32], out: &mut [f32], strengt
     let moved = strength * s.greatest;
     out[c] = out[c] - moved;
     gain_around(size, ts, hmap, out, x, y, c, moved, s.total);
+}
+
+// The n cells of row y from column x on, from the west.
+fn slide_cells(size: Sides, ts: &[f32; 9], hmap: &[f32], out: &mut [f32], strength: f32, water: f32, y: usize, x: usize, n: usize)
+    requires { ⌜ InRow (size .w) (size .h) (length (now hmap)) y x n ⌝ }
+    requires { ⌜ length (now out) ≡ length (now hmap) ⌝ }
+    ensures { λ _. ⌜ now (out .exit) ≡ slideCells (size .w) (size .h) (now (ts .entry)) (now (hmap .entry)) strength water y x n (now (out .entry)) ⌝ }
+{
+    let w = size.w;
+    let mut i: usize = 0;
+    while i < n {
+        slide_cell(size, ts, hmap, out, strength, water, x + i, y, x + i + y * w);
+        i += 1;
+    }
+}
+
+// One row, from the west.
+pub fn slide_row(size: Sides, ts: &[f32; 9], hmap: &[f32], out: &mut [f32], strength: f32, water: f32, y: usize)
+    requires { ⌜ InRow (size .w) (size .h) (length (now hmap)) y 0 (size .w) ⌝ }
+    requires { ⌜ length (now out) ≡ length (now hmap) ⌝ }
+    ensures { λ _. ⌜ now (out .exit) ≡ slideRow (size .w) (size .h) (now (ts .entry)) (now (hmap .entry)) strength water y (now (out .entry)) ⌝ }
+{
+    slide_cells(size, ts, hmap, out, strength, water, y, 0, size.w);
 }
