@@ -1,5 +1,6 @@
 -- One talus pass with its stop marks, and what the public call `slide_pass` answers.
-use Prim.Native.Nat.{ℕ, _*_, _^_}
+use Prim.Native.Nat.{ℕ, _+_, _*_, _^_, _≤_, _<_}
+use mathlib.Core.Path.{_≡_}
 use mathlib.Core.Bool.{Bool, not, _||_, cond}
 use mathlib.Core.List.{List}
 use lib.ListN.{length}
@@ -7,7 +8,7 @@ use lib.IntN.{pos}
 use lib.Dec.{eqb, ltb}
 use lib.Ieee.{Float, binary32, ofBits, neg, ofInt, add, sub, mul, div}
 use lib.Ieee.Scale.{finite}
-use Rattle.answers.specs.Outcome.{Outcome, gives, refused, refusedAt, outsideOf}
+use Rattle.answers.specs.Outcome.{Outcome, gives, refused, refusedAt, answerOf, outsideOf}
 use Rattle.lists.specs.Loops.{turns}
 use Rattle.grid.specs.Sides.{badSides}
 use Rattle.grid.specs.Heights.{firstNotFinite, allFinite}
@@ -15,6 +16,7 @@ use Rattle.generators.specs.Marks.{reportOf}
 use Rattle.generators.specs.declared.Progress.{Progress}
 use Rattle.talus.specs.Talus.{thresholdsOf, slideRow}
 use Rattle.thermal_erosion.specs.declared.ThermalParams.{ThermalParams}
+use Rattle.thermal_erosion.specs.declared.Slid.{Slid}
 
 -- the fraction after row y: from + (to - from) × y / h
 abbrev pub fractionOf : Float → Float → ℕ → ℕ → Float
@@ -38,19 +40,31 @@ module _ (w h : ℕ) (ts : List Float) (strength water : Float) (hs : List Float
   unfolding turns slideRow
   rowsOf n m = turns n rowStep (record { out = hs; marks = m })
 
+-- what a pass asks of its grid, of the lengths of the map and the copy, and of the questions asked before it: each row may ask one more
+pub record Ready (w h map copy asked : ℕ) : Type 0 where
+  pub wide : w ≤ 4096
+  pub high : h ≤ 4096
+  pub heights : map ≡ w * h
+  pub copied : copy ≡ map
+  pub questions : asked + h < 2 ^ 32
+
 -- the whole pass of document 01's parameters
 abbrev pub passOf : ℕ → ℕ → ThermalParams → List Float → Float → Float → ℕ → Progress → Pass
 passOf w h p hs from to stop m = rowsOf w h (thresholdsOf (p .threshold)) (p .strength) (p .«water_level») hs from to stop h m
 
--- refusal 4: threshold 0 to 16, strength 0 to 1, water level finite, ends of p 0 to 1, last -1 to 1, asked at most 2^31
+-- refusal 4 of what a pass reports: ends of p 0 to 1, last -1 to 1, asked at most 2^31
+abbrev pub badMarks : Float → Float → Progress → Bool
+badMarks from to m =
+    let zero = ofBits binary32 0 in
+    let one = ofBits binary32 0x3f80_0000 in
+    outsideOf from zero one || (outsideOf to zero one || (outsideOf (m .last) (neg one) one || ltb (2 ^ 31) (m .asked)))
+
+-- refusal 4: threshold 0 to 16, strength 0 to 1, water level finite, and what the pass reports
 abbrev pub badPass : ThermalParams → Float → Float → Progress → Bool
 badPass p from to m =
     let zero = ofBits binary32 0 in
-    let one = ofBits binary32 0x3f80_0000 in
     outsideOf (p .threshold) zero (ofBits binary32 0x4180_0000)
-    || (outsideOf (p .strength) zero one
-    || (not (finite (p .«water_level»))
-    || (outsideOf from zero one || (outsideOf to zero one || (outsideOf (m .last) (neg one) one || ltb (2 ^ 31) (m .asked))))))
+    || (outsideOf (p .strength) zero (ofBits binary32 0x3f80_0000) || (not (finite (p .«water_level»)) || badMarks from to m))
 
 -- 1: a side; 3: a length; 4: a setting; 5: a height; else `then`. `number` and `at` say what a refusal gives
 abbrev pub slideRefusal : {A : Type 0} → ℕ → ℕ → List Float → ℕ → ThermalParams → Float → Float → Progress → (ℕ → A) → (ℕ → ℕ → A) → A → A
@@ -62,3 +76,10 @@ slideRefusal w h hs len p from to m number at then =
 -- then 21: stopped, asked before 22; 22: a height not finite
 abbrev pub passAnswer : Pass → Outcome (Unit {0})
 passAnswer s = cond (s .marks .stopped) (refused 21) (cond (allFinite (s .out)) (gives tt) (refused 22))
+
+-- what `slide_pass` promises of its answer, of the record that it hands back, and of the slice `out` after it: on 1 to 5 the record as given and
+-- the slice as it was, else those of the pass
+pub record SlideMade (w h : ℕ) (hs old : List Float) (p : ThermalParams) (from to : Float) (m : Progress) (stop : ℕ) (r : Slid) (new : List Float) : Type 0 where
+  pub answer : answerOf (r .answer) ≡ slideRefusal w h hs (length old) p from to m refused refusedAt (passAnswer (passOf w h p hs from to stop m))
+  pub handed : r .progress ≡ slideRefusal w h hs (length old) p from to m (λ _. m) (λ _ _. m) (passOf w h p hs from to stop m .marks)
+  pub heights : new ≡ slideRefusal w h hs (length old) p from to m (λ _. old) (λ _ _. old) (passOf w h p hs from to stop m .out)

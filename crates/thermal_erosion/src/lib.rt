@@ -1,8 +1,21 @@
 // The source's thermal_erosion.rs, one talus pass: a cell steeper than the threshold sheds a share of its excess to its lower neighbours.
 use answers::Answer;
 use answers::Refusal;
+use answers::outside;
+use floats::is_finite;
 use generators::Progress;
+use generators::ask;
 use grid::Sides;
+use grid::all_finite;
+use grid::bad_sides;
+use grid::first_not_finite;
+use talus::slide_row;
+use talus::thresholds;
+
+ghost use mathlib.Core.Path.{_≡_};
+ghost use Prim.Native.Nat.{_≤_};
+ghost use lib.ListN.{length};
+ghost use Rattle.thermal_erosion.specs.SlidePass.{fractionOf, Pass, rowsOf, Ready, badMarks, badPass, SlideMade};
 
 // The settings of a pass on its grid.
 pub struct ThermalParams {
@@ -15,4 +28,87 @@ pub struct ThermalParams {
 pub struct Slid {
     pub answer: Answer,
     pub progress: Progress,
+}
+
+// The fraction after row y.
+fn fraction(from: f32, to: f32, h: usize, y: usize) -> f32
+    requires { ⌜ y ≤ 4096 ⌝ }
+    requires { ⌜ h ≤ 4096 ⌝ }
+    ensures { λ r. ⌜ r ≡ fractionOf from to h y ⌝ }
+{
+    from + (to - from) * y as f32 / h as f32
+}
+
+// The heights of the map, for a pass to change.
+pub fn copy_heights(hmap: &[f32], out: &mut [f32])
+    requires { ⌜ length (now out) ≡ length (now hmap) ⌝ }
+    ensures { λ _. ⌜ now (out .exit) ≡ now (hmap .entry) ⌝ }
+{
+    let n = hmap.len();
+    let mut i: usize = 0;
+    while i < n {
+        out[i] = hmap[i];
+        i += 1;
+    }
+}
+
+// One pass with its stop marks, from hmap to out: a question after each row, and an end where one stops. The thresholds are an argument.
+pub fn slide_pass_into(size: Sides, ts: &[f32; 9], hmap: &[f32], out: &mut [f32], strength: f32, water: f32, from: f32, to: f32, m: Progress, stop: u32) -> Progress
+    requires { ⌜ Ready (size .w) (size .h) (length (now hmap)) (length (now out)) (m .asked) ⌝ }
+    ensures { λ r. ⌜ _≡_ {A = Pass} (record { out = now (out .exit); marks = r }) (rowsOf (size .w) (size .h) (now (ts .entry)) strength water (now (hmap .entry)) from to stop (size .h) m) ⌝ }
+{
+    copy_heights(hmap, out);
+    let h = size.h;
+    let mut marks = m;
+    let mut y: usize = 0;
+    while y < h {
+        if marks.stopped {
+            return marks;
+        }
+        slide_row(size, ts, hmap, out, strength, water, y);
+        marks = ask(marks, fraction(from, to, h, y), stop);
+        y += 1;
+    }
+    marks
+}
+
+// Refusal 4 of what a pass reports: an end of p, the last p or the number of questions outside its range.
+fn bad_marks(from: f32, to: f32, m: Progress) -> bool
+    ensures { λ r. ⌜ r ≡ badMarks from to m ⌝ }
+{
+    if outside(from, 0.0, 1.0) {
+        return true;
+    }
+    if outside(to, 0.0, 1.0) {
+        return true;
+    }
+    if outside(m.last, -1.0, 1.0) {
+        return true;
+    }
+    m.asked > 0x8000_0000
+}
+
+// Refusal 4: a setting outside its range.
+fn bad_pass(params: ThermalParams, from: f32, to: f32, m: Progress) -> bool
+    ensures { λ r. ⌜ r ≡ badPass params from to m ⌝ }
+{
+    if outside(params.threshold, 0.0, 16.0) {
+        return true;
+    }
+    if outside(params.strength, 0.0, 1.0) {
+        return true;
+    }
+    if is_finite(params.water_level) {
+        return bad_marks(from, to, m);
+    }
+    true
+}
+
+fn refused(refusal: Refusal, progress: Progress) -> Slid
+    ensures { λ r. ⌜ r ≡ record { answer = Answer.Refused refusal; progress = progress } ⌝ }
+{
+    Slid {
+        answer: Answer::Refused(refusal),
+        progress: progress,
+    }
 }

@@ -1,0 +1,16 @@
+use Rattle.thermal_erosion.proofs.PassLaws.{side-float}
+use borrow.Author.Needs.{needs}
+use Rattle.thermal_erosion.proofs.fraction.Statement.{statement}
+use Rattle.thermal_erosion.proofs.fraction.Tie as tie
+
+int-to-float-result : tie.Need-int-to-float-result
+int-to-float-result c = side-float _ (c .before .pre .0)
+
+int-to-float-result-2 : tie.Need-int-to-float-result-2
+int-to-float-result-2 c = side-float _ (c .before .before .pre .1)
+
+returns : tie.Need-returns
+returns c = search needs
+
+pub fraction-spec : {M : Type 1} → statement M
+fraction-spec = tie.close (tie.spec int-to-float-result int-to-float-result-2 returns)
