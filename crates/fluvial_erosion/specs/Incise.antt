@@ -11,7 +11,7 @@ use Rattle.grid.specs.Sides.{badSides}
 use Rattle.grid.specs.Heights.{firstNotFinite, allFinite}
 use Rattle.drainage.specs.Ground.{gridGround}
 use Rattle.fluvial_erosion.specs.Incision.{incisedBy}
-use Rattle.fluvial_erosion.specs.Lent.{firstBadReceiver, firstBadEntry}
+use Rattle.lent.specs.Lent.{firstBadReceiver, firstBadEntry}
 use Rattle.fluvial_erosion.specs.declared.FluvialParams.{FluvialParams}
 
 -- refusal 4: k 0 to 64, uplift -1 to 1, water level finite

@@ -1,4 +1,3 @@
 -- Document 01, 'Incision', with the refusals of a lent network.
 pub mod Incision
-pub mod Lent
 pub mod Incise

@@ -1,17 +1,24 @@
 -- Refusals 6 and 7: a lent receiver that is neither its own cell nor an 8-neighbour, and a lent list that is no work list.
-use Prim.Native.Nat.{ℕ, zero, suc, _*_}
-use mathlib.Core.Bool.{Bool, false, _&&_, _||_, cond}
+use Prim.Native.Nat.{ℕ, zero, suc, _*_, _≤_, _<_}
+use mathlib.Core.Path.{_≡_}
+use mathlib.Core.Bool.{Bool, true, false, _&&_, _||_, cond}
 use mathlib.Core.List.{List}
 use lib.ListN.{getD, take}
 use lib.Dec.{eqb, ltb}
 use Rattle.lists.specs.Loops.{turns}
 use Rattle.grid.specs.Directions.{neighbourAt}
-use Rattle.drainage.specs.Ways.{times}
+use Rattle.drainage.specs.Ways.{times, WorkList}
 
 -- the first number below n that a test fails of; n where it holds of all
 unfoldable pub firstFailing : ℕ → (ℕ → Bool) → ℕ
 firstFailing zero p = 0
 firstFailing (suc n) p = let f = firstFailing n p in cond (eqb f n) (cond (p n) (suc n) n) f
+
+-- f is that number: every number before it passes, and it fails unless it is n
+pub record First (n : ℕ) (p : ℕ → Bool) (f : ℕ) : Type 0 where
+  pub bound : f ≤ n
+  pub earlier : (i : ℕ) → i < f → p i ≡ true
+  pub fails : f < n → p f ≡ false
 
 -- r is the cell c itself or one of its 8 neighbours
 unfoldable pub goodReceiver : ℕ → ℕ → ℕ → ℕ → Bool
@@ -34,3 +41,14 @@ goodEntry n recv list position =
 -- refusal 7: the first position with an entry that is not good
 abbrev pub firstBadEntry : ℕ → List ℕ → List ℕ → ℕ
 firstBadEntry n recv list = firstFailing n (goodEntry n recv list)
+
+-- what the test of an entry says
+pub record GoodAt (n : ℕ) (recv list : List ℕ) (position : ℕ) : Type 0 where
+  pub cell : getD list position 0 < n
+  pub fresh : times (getD list position 0) (take position list) ≡ 0
+  pub after : (getD recv (getD list position 0) 0 ≡ getD list position 0 → ⊥) → 0 < times (getD recv (getD list position 0) 0) (take position list)
+
+-- Refusal 7 is two-way: a list of n entries is let pass exactly if it is a work list.
+pub record ListTest (n : ℕ) (recv list : List ℕ) : Type 0 where
+  pub sound : firstBadEntry n recv list ≡ n → WorkList n recv list
+  pub complete : WorkList n recv list → firstBadEntry n recv list ≡ n
