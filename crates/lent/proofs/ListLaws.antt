@@ -9,15 +9,11 @@ use lib.ListN.{length, getD, take, drop, length-append, length-take}
 use lib.Seq.{split-at, take-suc, take-at, getD-at, take-length, length-take-le}
 use lib.Dec.{eqb, ltb}
 use borrow.Author.Tests.{eqb-true, eqb-false, ltb-true, lt-ltb, eq-eqb, ne-eqb}
-use Rattle.drainage.specs.Ways.{one, times, WorkList}
+use Rattle.drainage.specs.Ways.{one, times, sumBelow, WorkList}
+use Rattle.drainage.proofs.CountLaws.{sum-on, sum-zero, times-append, times-here}
+use Rattle.drainage.proofs.WorkListLaws.{split, entry-lt}
 use Rattle.lent.specs.Lent.{goodEntry, firstBadEntry, GoodAt, ListTest}
 use Rattle.lent.proofs.FirstLaws.{first-all, all-first}
-
--- how often a cell stands in two parts
-pub times-append : (c : ℕ) (a b : List ℕ) → times c (a ++ b) ≡ times c a + times c b
-unfolding times
-times-append c [] b = omega arith
-times-append c (x ∷ a) b = let e = times-append c a b in omega (arith, e)
 
 pub one-same : (c : ℕ) → one c c ≡ 1
 one-same c = rw (eq-eqb c c refl)
@@ -75,62 +71,33 @@ module _ (n : ℕ) (recv list : List ℕ) (i : ℕ) where
       go (yes e) = rw (eq-eqb r c e)
       go (no h) = rw (ne-eqb r c h) (lt-ltb 0 _ (g .after h))
 
--- the sum of f 0 … f (n - 1)
-tally : ℕ → (ℕ → ℕ) → ℕ
-tally zero f = 0
-tally (suc n) f = f n + tally n f
-
-tally-add : (n : ℕ) (f g : ℕ → ℕ) → tally n (λ c. f c + g c) ≡ tally n f + tally n g
-unfolding tally
-tally-add zero f g = omega arith
-tally-add (suc n) f g = let e = tally-add n f g in omega (arith, e)
-
-tally-none : (n a : ℕ) → n ≤ a → tally n (one a) ≡ 0
-unfolding tally
-tally-none zero a l = refl
-tally-none (suc n) a l = omega (arith, one-other a n (λ e. omega arith), tally-none n a (omega arith))
-
-tally-one : (n a : ℕ) → a < n → tally n (one a) ≡ 1
-unfolding tally
-tally-one zero a l = absurd (omega arith)
-tally-one (suc n) a l = go (ℕ-discrete a n) (tally-one n a)
-  where
-    go : Dec (a ≡ n) → (a < n → tally n (one a) ≡ 1) → one a n + tally n (one a) ≡ 1
-    go (yes e) r = omega (arith, ap (λ (k : ℕ). one k n) e, one-same n, tally-none n a (omega arith))
-    go (no h) r = omega (arith, one-other a n h, r (omega arith))
-
 -- entries below n are counted whole
-tally-times : (n : ℕ) (l : List ℕ) → ((c : ℕ) → n ≤ c → times c l ≡ 0) → tally n (λ c. times c l) ≡ length l
-unfolding times tally
-tally-times n [] h = none n
+counted : (n : ℕ) (l : List ℕ) → ((c : ℕ) → n ≤ c → times c l ≡ 0) → sumBelow n (λ c. true) (λ c. times c l) ≡ length l
+unfolding times
+counted n [] h = sum-zero n (λ c. true)
+counted n (a ∷ l) h =
+    let rest = counted n l (λ c k. omega (arith, h c k)) in
+    omega (arith, sum-on n (λ c. true) a (λ c. times c l) (inside (decLt a n)) refl, rest)
   where
-    none : (n : ℕ) → tally n (λ (c : ℕ). 0) ≡ 0
-    none zero = refl
-    none (suc n) = let e = none n in omega (arith, e)
-tally-times n (a ∷ l) h =
-    let inside : a < n = go (decLt a n) in
-    let rest = tally-times n l (λ c k. omega (arith, h c k)) in
-    tally-add n (one a) (λ c. times c l) ∙ omega (arith, tally-one n a inside, rest)
-  where
-    go : Dec (a < n) → a < n
-    go (yes k) = k
-    go (no k) = absurd (omega (arith, h a (omega arith), one-same a))
+    inside : Dec (a < n) → a < n
+    inside (yes k) = k
+    inside (no k) = absurd (omega (arith, h a (omega arith), one-same a))
 
-tally-le : (n : ℕ) (f : ℕ → ℕ) → ((c : ℕ) → c < n → f c ≤ 1) → tally n f ≤ n
-unfolding tally
-tally-le zero f h = omega arith
-tally-le (suc n) f h = omega (arith, h n (omega arith), tally-le n f (λ c l. h c (omega arith)))
+sum-le : (n : ℕ) (f : ℕ → ℕ) → ((c : ℕ) → c < n → f c ≤ 1) → sumBelow n (λ c. true) f ≤ n
+unfolding sumBelow
+sum-le zero f h = omega arith
+sum-le (suc n) f h = omega (arith, h n (omega arith), sum-le n f (λ c l. h c (omega arith)))
 
 -- at most 1 each and n in all: 1 each
-tally-full : (n : ℕ) (f : ℕ → ℕ) → ((c : ℕ) → c < n → f c ≤ 1) → tally n f ≡ n → (c : ℕ) → c < n → f c ≡ 1
-unfolding tally
-tally-full zero f h e c l = absurd (omega arith)
-tally-full (suc n) f h e c l =
-    let b = tally-le n f (λ c l. h c (omega arith)) in
+sum-full : (n : ℕ) (f : ℕ → ℕ) → ((c : ℕ) → c < n → f c ≤ 1) → sumBelow n (λ c. true) f ≡ n → (c : ℕ) → c < n → f c ≡ 1
+unfolding sumBelow
+sum-full zero f h e c l = absurd (omega arith)
+sum-full (suc n) f h e c l =
+    let b = sum-le n f (λ c l. h c (omega arith)) in
     let t : f n ≤ 1 = h n (omega arith) in
-    let whole : tally n f ≡ n = omega (arith, b) in
+    let whole : sumBelow n (λ c. true) f ≡ n = omega (arith, b) in
     let last : f n ≡ 1 = omega arith in
-    go last (tally-full n f (λ c l. h c (omega arith)) whole c) (ℕ-discrete c n)
+    go last (sum-full n f (λ c l. h c (omega arith)) whole c) (ℕ-discrete c n)
   where
     go : f n ≡ 1 → (c < n → f c ≡ 1) → Dec (c ≡ n) → f c ≡ 1
     go last r (yes e) = ap f e ∙ last
@@ -165,7 +132,7 @@ module _ (n : ℕ) (recv list : List ℕ) (long : length list ≡ n) where
         let only : (c : ℕ) → n ≤ c → times c list ≡ 0 = λ c h. subst (λ (l : List ℕ). times c l ≡ 0) whole (none-above c h n (omega arith)) in
         let most : (c : ℕ) → times c list ≤ 1 = λ c. subst (λ (l : List ℕ). times c l ≤ 1) whole (once-each c n (omega arith)) in
         record {
-          once = tally-full n (λ c. times c list) (λ c l. most c) (tally-times n list only ∙ long);
+          once = sum-full n (λ c. times c list) (λ c l. most c) (counted n list only ∙ long);
           only = only;
           after = after;
         }
@@ -182,20 +149,14 @@ module _ (n : ℕ) (recv list : List ℕ) (long : length list ≡ n) where
     parts = split-at list i 0 (omega arith)
 
     pub work-good : GoodAt n recv list i
-    unfolding times
     work-good =
         let c : ℕ = getD list i 0 in
-        let sum : times c list ≡ times c (take i list) + (one c c + times c (drop (suc i) list)) = ap (times c) parts ∙ times-append c (take i list) (c ∷ drop (suc i) list) in
-        let inside : c < n = go c sum (decLt c n) in
+        let inside : c < n = entry-lt w (take i list) c (drop (suc i) list) parts in
         record {
           cell = inside;
-          fresh = omega (arith, sum, one-same c, w .once c inside);
+          fresh = omega (arith, split w c (take i list) c (drop (suc i) list) parts, times-here c (drop (suc i) list), w .once c inside);
           after = w .after (take i list) c (drop (suc i) list) parts;
         }
-      where
-        go : (c : ℕ) → times c list ≡ times c (take i list) + (one c c + times c (drop (suc i) list)) → Dec (c < n) → c < n
-        go c e (yes k) = k
-        go c e (no k) = absurd (omega (arith, w .only c (omega arith), one-same c))
 
   pub list-test : ListTest n recv list
   list-test =
