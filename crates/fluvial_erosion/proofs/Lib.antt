@@ -1,3 +1,4 @@
 -- Laws of the definitions in specs/.
 pub mod SettleLaws
 pub mod IndependenceLaws
+pub mod PlateLaws
