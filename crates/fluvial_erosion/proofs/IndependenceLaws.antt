@@ -22,8 +22,8 @@ same-areas : (n : ℕ) → n ≤ 2 ^ 24 → (recv a b : List ℕ) → WorkList n
 same-areas n few recv a b v w =
     ext-getD nan _ _ (length-areas n few recv a ∙ sym (length-areas n few recv b))
     (λ c h.
-      let inside : c < n = rw (length-areas n few recv a) at h in
-      areas n few recv a v .area c inside ∙ sym (areas n few recv b w .area c inside))
+    let inside : c < n = rw (length-areas n few recv a) at h in
+    areas n few recv a v .area c inside ∙ sym (areas n few recv b w .area c inside))
 
 -- a cell after its incision, as a combination of its own height and that of its receiver
 module _ (g : Ground) (p : FluvialParams) (areas : List Float) (recv : List ℕ) where

@@ -15,7 +15,6 @@ use Rattle.fluvial_erosion.specs.Independence.{madeAlong, settled}
 module _ {A : Type 0} (absent : A) (recv : List ℕ) (make : ℕ → A → A → A)
     -- a cell that is its own receiver is made of its own value alone
     (alone : (c : ℕ) (x y z : A) → getD recv c 0 ≡ c → make c x y ≡ make c x z) (start : List A) where
-
   -- the values once the cells of `done` are made
   record Made (done : List ℕ) (l : List A) : Type 0 where
     long : length l ≡ length start
@@ -80,5 +79,5 @@ module _ {A : Type 0} (absent : A) (recv : List ℕ) (make : ℕ → A → A →
   along-same n a b long v w =
       ext-getD absent _ _ (along-long a n long v ∙ sym (along-long b n long w))
       (λ c h.
-        let inside : c < n = omega (arith, along-long a n long v) in
-        along-settled a n long v c inside (length a + length b) (omega arith) ∙ sym (along-settled b n long w c inside (length a + length b) (omega arith)))
+      let inside : c < n = omega (arith, along-long a n long v) in
+      along-settled a n long v c inside (length a + length b) (omega arith) ∙ sym (along-settled b n long w c inside (length a + length b) (omega arith)))

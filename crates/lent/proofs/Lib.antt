@@ -1,3 +1,5 @@
 -- Laws of the definitions in specs/.
 pub mod FirstLaws
 pub mod ListLaws
+pub mod SeenLaws
+pub mod StretchLaws
