@@ -1,1 +1,3 @@
 pub mod SampleLaws
+pub mod SameLaws
+pub mod SoundLaws

@@ -1,0 +1,74 @@
+-- In every state of a run the heights are those of the grid: as many as its cells, all binary32 values, all finite.
+use Prim.Native.Nat.{ℕ, zero, suc, _<_}
+use mathlib.Core.Path.{_≡_, refl, sym, ap, _∙_, subst}
+use mathlib.Core.Bool.{Bool, true, false, not, _||_, cond}
+use mathlib.Core.List.{List}
+use lib.ListN.{length}
+use lib.Dec.{eqb, leb, ltb}
+use lib.Ieee.{Float}
+use Rattle.float_order.specs.Fit.{Fit}
+use Rattle.grid.specs.Heights.{allFinite}
+use Rattle.generators.specs.Marks.{reportOf}
+use Rattle.generators.specs.declared.Progress.{Progress}
+use Rattle.thermal_erosion.specs.Talus.{slideRow}
+use Rattle.thermal_erosion.specs.SlidePass.{fractionOf}
+use Rattle.runs.specs.Machine.{Course, State, start, endedBy, cut, slid, closed, openStep, rowStep, step, after}
+use Rattle.runs.proofs.SameLaws.{after-none, after-more}
+
+-- n binary32 values
+pub record Sized (n : ℕ) (hs : List Float) : Type 0 where
+  pub long : length hs ≡ n
+  pub fit : Fit hs
+
+pub record Sound (n : ℕ) (s : State) : Type 0 where
+  pub heights : Sized n (s .heights)
+  pub finite : allFinite (s .heights) ≡ true
+  pub copy : Sized n (s .copy)
+
+-- P of either arm
+either : {A : Type 0} (P : A → Type 0) (b : Bool) (x y : A) → (b ≡ true → P x) → (b ≡ false → P y) → P (cond b x y)
+either P true x y f g = f refl
+either P false x y f g = g refl
+
+module _ (n : ℕ) (c : Course)
+    (cuts : (it : ℕ) (hs : List Float) → Sized n hs → Sized n (c .incision it hs))
+    (slides : (y : ℕ) (hs copy : List Float) → Sized n hs → Sized n copy → Sized n (slideRow (c .w) (c .h) (c .thresholds) hs (c .strength) (c .water) y copy)) where
+  ended-sound : (number : ℕ) (m : Progress) (s : State) → Sound n s → Sound n (endedBy c number m s)
+  ended-sound number m s p = record { heights = p .heights; finite = p .finite; copy = p .heights }
+
+  open-sound : (s : State) → Sound n s → Sound n (openStep c s)
+  open-sound s p =
+      either (Sound n) (m .stopped) (endedBy c 21 m s) (cond (allFinite new) (cut c new m s) (endedBy c 22 m s)) (λ t. ended-sound 21 m s p)
+      (λ t. either (Sound n) (allFinite new) (cut c new m s) (endedBy c 22 m s) (λ f. record { heights = made; finite = f; copy = made }) (λ f. ended-sound 22 m s p))
+    where
+      m : Progress
+      m = reportOf (s .marks) (c .opening (s .iteration)) (c .stop)
+      new : List Float
+      new = c .incision (s .iteration) (s .heights)
+      made : Sized n new
+      made = cuts (s .iteration) (s .heights) (p .heights)
+
+  row-sound : (s : State) → Sound n s → Sound n (rowStep c s)
+  row-sound s p =
+      either (Sound n) (m .stopped) (endedBy c 21 m s) (cond (ltb (suc (s .row)) (c .h)) (slid c new m s) (cond (allFinite new) (closed c new m s) (endedBy c 22 m s))) (λ t. ended-sound 21 m s p)
+      (λ t.
+      either (Sound n) (ltb (suc (s .row)) (c .h)) (slid c new m s) (cond (allFinite new) (closed c new m s) (endedBy c 22 m s))
+      (λ l. record { heights = p .heights; finite = p .finite; copy = made })
+      (λ l. either (Sound n) (allFinite new) (closed c new m s) (endedBy c 22 m s) (λ f. record { heights = made; finite = f; copy = made }) (λ f. ended-sound 22 m s p)))
+    where
+      m : Progress
+      m = reportOf (s .marks) (fractionOf (c .begins (s .iteration) (s .pass)) (c .begins (s .iteration) (suc (s .pass))) (c .h) (s .row)) (c .stop)
+      new : List Float
+      new = slideRow (c .w) (c .h) (c .thresholds) (s .heights) (c .strength) (c .water) (s .row) (s .copy)
+      made : Sized n new
+      made = slides (s .row) (s .heights) (s .copy) (p .heights) (p .copy)
+
+  step-sound : (s : State) → Sound n s → Sound n (step c s)
+  unfolding step
+  step-sound s p =
+      either (Sound n) (not (eqb (s .number) 0) || leb (c .iterations) (s .iteration)) s (cond (s .opened) (rowStep c s) (openStep c s)) (λ t. p)
+      (λ t. either (Sound n) (s .opened) (rowStep c s) (openStep c s) (λ o. row-sound s p) (λ o. open-sound s p))
+
+  pub after-sound : (hs : List Float) → Sized n hs → allFinite hs ≡ true → (k : ℕ) → Sound n (after c k hs)
+  after-sound hs long fin zero = subst (Sound n) (sym (after-none hs c)) (record { heights = long; finite = fin; copy = long })
+  after-sound hs long fin (suc k) = subst (Sound n) (sym (after-more hs c k)) (step-sound (after c k hs) (after-sound hs long fin k))
