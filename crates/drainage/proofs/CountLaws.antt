@@ -69,6 +69,12 @@ sum-same (suc m) p f g h = ap₂ (λ (x y : ℕ). x + y) (go (p m) refl) (sum-sa
     go true e = ap (cond (p m) (f m)) refl ∙ ap (λ (x : ℕ). cond (p m) x 0) (h m (omega arith) e)
     go false e = ap (λ (b : Bool). cond b (f m) 0) e ∙ sym (ap (λ (b : Bool). cond b (g m) 0) e)
 
+-- tests that agree pick the same cells
+pub sum-by : (m : ℕ) (p q : ℕ → Bool) (f : ℕ → ℕ) → ((c : ℕ) → c < m → p c ≡ q c) → sumBelow m p f ≡ sumBelow m q f
+unfolding sumBelow
+sum-by zero p q f h = refl
+sum-by (suc m) p q f h = ap₂ (λ (b : Bool) (x : ℕ). cond b (f m) 0 + x) (h m (omega arith)) (sum-by m p q f (λ c l. h c (omega arith)))
+
 pub sum-zero : (m : ℕ) (p : ℕ → Bool) → sumBelow m p (λ c. 0) ≡ 0
 unfolding sumBelow
 sum-zero zero p = refl

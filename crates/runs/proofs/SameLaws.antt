@@ -27,7 +27,7 @@ cutBy c f =
       thresholds = c .thresholds;
       strength = c .strength;
       water = c .water;
-      stop = c .stop
+      stop = c .stop;
     }
 
 module _ (hs : List Float) where
@@ -46,6 +46,7 @@ module _ (c : Course) (f : ℕ → List Float → List Float) (hs : List Float) 
     where
       both : List Float → State
       both new = cond (allFinite new) (cut c new (reportOf (s .marks) (c .opening (s .iteration)) (c .stop)) s) (endedBy c 22 (reportOf (s .marks) (c .opening (s .iteration)) (c .stop)) s)
+
       go : (b : Bool) → reportOf (s .marks) (c .opening (s .iteration)) (c .stop) .stopped ≡ b → openStep (cutBy c f) s ≡ openStep c s
       go true t =
           ap (λ (b : Bool). cond b (endedBy c 21 (reportOf (s .marks) (c .opening (s .iteration)) (c .stop)) s) (both (f (s .iteration) (s .heights)))) t
@@ -60,8 +61,10 @@ module _ (c : Course) (f : ℕ → List Float → List Float) (hs : List Float) 
     where
       inner : (x : State) → Bool → Bool → Bool → State
       inner x a b o = cond (not a || b) s (cond o (rowStep c s) x)
+
       to : (x : State) (a b o : Bool) → eqb (s .number) 0 ≡ a → leb (c .iterations) (s .iteration) ≡ b → s .opened ≡ o → inner x (eqb (s .number) 0) (leb (c .iterations) (s .iteration)) (s .opened) ≡ inner x a b o
       to x a b o p q r = ap (λ (t : Bool). inner x t (leb (c .iterations) (s .iteration)) (s .opened)) p ∙ ap₂ (inner x a) q r
+
       go : (a : Bool) → eqb (s .number) 0 ≡ a → (b : Bool) → leb (c .iterations) (s .iteration) ≡ b → (o : Bool) → s .opened ≡ o → step (cutBy c f) s ≡ step c s
       go true p false q false r =
           to (openStep (cutBy c f) s) true false false p q r

@@ -13,7 +13,7 @@ use Rattle.drainage.specs.Flood.{start, step, leastWaiting, pushAll, floodAfter
 use Rattle.drainage.specs.Receivers.{receivers, receiverOf, steepestOf, directionTo}
 use Rattle.drainage.specs.Ways.{areasAlong}
 use Rattle.fluvial_erosion.specs.Incision.{incisedBy, inciseAlong}
-use Rattle.thermal_erosion.specs.Talus.{shedOf, gainsOf, slideCell, slideRow}
+use Rattle.talus.specs.Talus.{shedOf, gainsOf, slideCell, slideRow}
 use Rattle.resample.specs.WorkSize.{workSize, scaledSide}
 use Rattle.resample.specs.Blocks.{downsampled, averageOf}
 use Rattle.runs.specs.Machine as Machine

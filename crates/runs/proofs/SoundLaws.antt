@@ -1,16 +1,21 @@
 -- In every state of a run the heights are those of the grid: as many as its cells, all binary32 values, all finite.
-use Prim.Native.Nat.{ℕ, zero, suc, _<_}
+use Prim.Native.Nat.{ℕ, zero, suc, _≤_, _<_}
+use native.Mathlib.Decide.{decLe}
+use native.Mathlib.Nat.{lt-of-not-le}
 use mathlib.Core.Path.{_≡_, refl, sym, ap, _∙_, subst}
 use mathlib.Core.Bool.{Bool, true, false, not, _||_, cond}
 use mathlib.Core.List.{List}
-use lib.ListN.{length}
-use lib.Dec.{eqb, leb, ltb}
-use lib.Ieee.{Float}
+use lib.ListN.{length, getD, List·getD-eq-default}
+use lib.Dec.{T, eqb, leb, ltb}
+use lib.Ieee.{Float, nan, binary32, fits}
+use lib.Ieee.Fits.{nan-fits}
+use Rattle.lists.specs.Loops.{tabulate}
+use Rattle.lists.proofs.TableLaws.{length-tabulate, getD-tabulate}
 use Rattle.float_order.specs.Fit.{Fit}
 use Rattle.grid.specs.Heights.{allFinite}
 use Rattle.generators.specs.Marks.{reportOf}
 use Rattle.generators.specs.declared.Progress.{Progress}
-use Rattle.thermal_erosion.specs.Talus.{slideRow}
+use Rattle.talus.specs.Talus.{slideRow}
 use Rattle.thermal_erosion.specs.SlidePass.{fractionOf}
 use Rattle.runs.specs.Machine.{Course, State, start, endedBy, cut, slid, closed, openStep, rowStep, step, after}
 use Rattle.runs.proofs.SameLaws.{after-none, after-more}
@@ -19,6 +24,16 @@ use Rattle.runs.proofs.SameLaws.{after-none, after-more}
 pub record Sized (n : ℕ) (hs : List Float) : Type 0 where
   pub long : length hs ≡ n
   pub fit : Fit hs
+
+-- a list made by its indexes
+pub sized-tabulate : (n : ℕ) (f : ℕ → Float) → ((i : ℕ) → T (fits binary32 (f i))) → Sized n (tabulate n f)
+sized-tabulate n f fit = record { long = length-tabulate f n; fit = go }
+  where
+    go : (i : ℕ) → T (fits binary32 (getD (tabulate n f) i nan))
+    go i = elim (decLe n i) [
+      | no above ↦ subst (λ (x : Float). T (fits binary32 x)) (sym (getD-tabulate f n i nan (lt-of-not-le above))) (fit i)
+      | yes g ↦ subst (λ (x : Float). T (fits binary32 x)) (sym (List·getD-eq-default (tabulate n f) nan (subst (λ (k : ℕ). k ≤ i) (sym (length-tabulate f n)) g))) (nan-fits binary32)
+    ]
 
 pub record Sound (n : ℕ) (s : State) : Type 0 where
   pub heights : Sized n (s .heights)
@@ -43,8 +58,10 @@ module _ (n : ℕ) (c : Course)
     where
       m : Progress
       m = reportOf (s .marks) (c .opening (s .iteration)) (c .stop)
+
       new : List Float
       new = c .incision (s .iteration) (s .heights)
+
       made : Sized n new
       made = cuts (s .iteration) (s .heights) (p .heights)
 
@@ -58,8 +75,10 @@ module _ (n : ℕ) (c : Course)
     where
       m : Progress
       m = reportOf (s .marks) (fractionOf (c .begins (s .iteration) (s .pass)) (c .begins (s .iteration) (suc (s .pass))) (c .h) (s .row)) (c .stop)
+
       new : List Float
       new = slideRow (c .w) (c .h) (c .thresholds) (s .heights) (c .strength) (c .water) (s .row) (s .copy)
+
       made : Sized n new
       made = slides (s .row) (s .heights) (s .copy) (p .heights) (p .copy)
 

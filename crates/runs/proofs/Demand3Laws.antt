@@ -1,0 +1,167 @@
+-- Demand 3, whole.
+use Prim.Native.Nat.{ℕ, _*_, _/_, _%_, _≤_, _<_}
+use mathlib.Core.Path.{_≡_, refl, sym, ap, ap₂, _∙_, subst}
+use mathlib.Core.Bool.{Bool, true, false, not, _&&_, _||_, cond}
+use mathlib.Core.List.{List}
+use native.Mathlib.Omega.{arith}
+use lib.ListN.{length}
+use lib.Dec.{T, eqb}
+use lib.Ieee.{Float, binary32, fits}
+use lib.Ieee.Fits.{div-fits}
+use borrow.Author.Tests.{eqb-true}
+use Rattle.float_order.specs.Fit.{Fit}
+use Rattle.grid.specs.Sides.{InRange, badSides}
+use Rattle.grid.specs.Heights.{allFinite}
+use Rattle.grid.proofs.SidesLaws.{cells-bound}
+use Rattle.drainage.specs.Ground.{Ground, gridGround}
+use Rattle.drainage.specs.Ways.{WorkList}
+use Rattle.fluvial_erosion.specs.Incision.{incisedBy}
+use Rattle.fluvial_erosion.proofs.IndependenceLaws.{independent}
+use Rattle.talus.proofs.TalusLaws.{row-length, row-fit}
+use Rattle.resample.specs.WorkSize.{workSize, Within}
+use Rattle.resample.specs.Blocks.{averageOf, downsampled}
+use Rattle.resample.proofs.WorkLaws.{work-within}
+use Rattle.resample.specs.Samples.{asSource}
+use Rattle.runs.specs.Plan.{fluvialPlan}
+use Rattle.runs.specs.Machine.{Course, State, after, steps, finished}
+use Rattle.runs.specs.Run.{Choice, ours, lent, orderOn, receiversOn, incisionBy, runBy, Ran, ranAs, addedBack}
+use Rattle.runs.specs.Refusals.{refusalBy, fluvialRefusal, badFluvial}
+use Rattle.runs.specs.Demand3.{Routes, Drained, groundOf, courseOf, beginsWith, RunRoutes, Alike, Demand3}
+use Rattle.runs.specs.declared.FluvialSettings.{FluvialSettings}
+use Rattle.runs.proofs.SameLaws.{after-same}
+use Rattle.runs.proofs.SoundLaws.{Sized, sized-tabulate, Sound, after-sound}
+use Rattle.runs.proofs.CutLaws.{incision-sized}
+use Rattle.runs.proofs.DrainedLaws.{order-work-list, drained}
+
+-- what 'accepted' says
+pub record Accepted (w h : ℕ) (map : List Float) : Type 0 where
+  pub sides : badSides w h ≡ false
+  pub long : length map ≡ w * h
+  pub finite : allFinite map ≡ true
+
+pub accepted : (w h : ℕ) (bad : Bool) (map : List Float) → refusalBy w h bad map ≡ 0 → Accepted w h map
+accepted w h bad map e = go (badSides w h) refl (eqb (length map) (w * h)) refl bad (allFinite map) refl e
+  where
+    no : {A : Type 0} (n : ℕ) → n ≡ 0 → 0 < n → A
+    no n p q = let v : ⊥ = omega arith in absurd v
+
+    go : (a : Bool) → badSides w h ≡ a → (l : Bool) → eqb (length map) (w * h) ≡ l → (b f : Bool) → allFinite map ≡ f
+        → _≡_ {A = ℕ} (cond a 1 (cond (not l) 3 (cond b 4 (cond f 0 5)))) 0 → Accepted w h map
+    go true p l q b f r e = no 1 e (omega arith)
+    go false p false q b f r e = no 3 e (omega arith)
+    go false p true q true f r e = no 4 e (omega arith)
+    go false p true q false false r e = no 5 e (omega arith)
+    go false p true q false true r e = record { sides = p; long = eqb-true (length map) (w * h) q; finite = r }
+
+average-fits : (src : List Float) (w h dw dh bx by : ℕ) → T (fits binary32 (averageOf src w h dw dh bx by))
+unfolding averageOf
+average-fits src w h dw dh bx by = div-fits binary32 _ _
+
+module _ (w h : ℕ) (s : FluvialSettings) (stop : ℕ) (map : List Float) (fit : Fit map) (ok : Accepted w h map) where
+  abbrev dw : ℕ
+  dw = workSize w h (s .«work_res») .w
+
+  abbrev dh : ℕ
+  dh = workSize w h (s .«work_res») .h
+
+  within : Within w h dw dh
+  within = work-within w h (s .«work_res») (ok .sides)
+
+  range : InRange dw dh
+  range = omega (arith, within)
+
+  -- the working sides are the map's own
+  abbrev own : Bool
+  own = eqb dw w && eqb dh h
+
+  own-sides : own ≡ true → (dw ≡ w) × (dh ≡ h)
+  own-sides e = (eqb-true dw w (both (eqb dw w) (eqb dh h) e .0), eqb-true dh h (both (eqb dw w) (eqb dh h) e .1))
+    where
+      both : (a b : Bool) → a && b ≡ true → (a ≡ true) × (b ≡ true)
+      both true b e = (refl, e)
+      both false b e = (e, true-of b e)
+        where
+          true-of : (b : Bool) → false ≡ true → b ≡ true
+          true-of true e = refl
+          true-of false e = e
+
+  abbrev small : List Float
+  small = downsampled map w h dw dh
+
+  begins-sized : Sized (dw * dh) (beginsWith w h s stop map)
+  unfolding downsampled
+  begins-sized = go own refl
+    where
+      go : (b : Bool) → own ≡ b → Sized (dw * dh) (cond b map (downsampled map w h dw dh))
+      go true e = record { long = ok .long ∙ ap₂ (λ (x y : ℕ). x * y) (sym (own-sides e .0)) (sym (own-sides e .1)); fit = fit }
+      go false e = sized-tabulate (dw * dh) (λ c. averageOf map w h dw dh (c % dw) (c / dw)) (λ c. average-fits map w h dw dh (c % dw) (c / dw))
+
+  -- the states of a run by any lists are sound
+  states : (choose : Choice) → allFinite (beginsWith w h s stop map) ≡ true → (k : ℕ) → Sound (dw * dh) (after (courseOf w h s stop map choose) k (beginsWith w h s stop map))
+  states choose =
+      after-sound (dw * dh) (courseOf w h s stop map choose)
+      (λ it hs z. incision-sized (groundOf w h s stop map) (fluvialPlan dw dh s .cuts) choose (dw * dh) it hs z)
+      (λ y hs copy z c. record { long = row-length dw dh _ hs _ _ y copy ∙ c .long; fit = row-fit dw dh _ hs _ _ y copy (c .fit) })
+      (beginsWith w h s stop map) begins-sized
+
+  -- the heights that an iteration routes
+  routed-sound : (choose : Choice) (it : ℕ) (routed : List Float) → RunRoutes w h s stop map choose it routed → Sized (dw * dh) routed × (allFinite routed ≡ true)
+  routed-sound choose it routed r =
+      let z : Sound (dw * dh) (after (courseOf w h s stop map choose) (r .routes .done) (beginsWith w h s stop map)) = states choose (r .started) (r .routes .done) in
+      (subst (Sized (dw * dh)) (r .routes .heights) (z .heights), subst (λ l. allFinite l ≡ true) (r .routes .heights) (z .finite))
+
+  module _ (lists : ℕ → List ℕ)
+      (work : (it : ℕ) (routed : List Float) → RunRoutes w h s stop map (lent lists) it routed → WorkList (dw * dh) (receiversOn (groundOf w h s stop map) routed) (lists it)) where
+    -- an iteration of the other run cuts as ours would
+    cuts-same : allFinite (beginsWith w h s stop map) ≡ true → (it : ℕ) (routed : List Float) → Routes (courseOf w h s stop map (lent lists)) (beginsWith w h s stop map) it routed
+        → incisionBy (groundOf w h s stop map) (fluvialPlan dw dh s .cuts) ours it routed ≡ incisionBy (groundOf w h s stop map) (fluvialPlan dw dh s .cuts) (lent lists) it routed
+    unfolding incisionBy
+    cuts-same fin it routed r =
+        let here : RunRoutes w h s stop map (lent lists) it routed = record { started = fin; routes = r } in
+        let z : Sized (dw * dh) routed × (allFinite routed ≡ true) = routed-sound (lent lists) it routed here in
+        independent (groundOf w h s stop map routed) (fluvialPlan dw dh s .cuts) (receiversOn (groundOf w h s stop map) routed) (orderOn (groundOf w h s stop map) routed) (lists it) routed
+        (sym (z .0 .long)) (cells-bound dw dh (range .wide) (range .high)) (order-work-list dw dh (s .«water_level») range routed (z .0) (z .1)) (work it routed here) .heights
+
+    states-same : allFinite (beginsWith w h s stop map) ≡ true → (n : ℕ) → after (courseOf w h s stop map ours) n (beginsWith w h s stop map) ≡ after (courseOf w h s stop map (lent lists)) n (beginsWith w h s stop map)
+    states-same fin = after-same (courseOf w h s stop map (lent lists)) (incisionBy (groundOf w h s stop map) (fluvialPlan dw dh s .cuts) ours) (beginsWith w h s stop map) (cuts-same fin)
+
+    -- what a run ends with, from the states that it ends in on the map and on its averages
+    abbrev ends : Bool → Bool → State → State → Ran
+    ends o f full part =
+        cond o (ranAs (full .number) full (full .heights))
+        (cond f (cond (eqb (part .number) 0) (addedBack asSource w h dw dh map small part) (ranAs (part .number) part map))
+        (record { number = 22; incisions = 0; passes = 0; questions = 0; map = map }))
+
+    abbrev end : Choice → List Float → State
+    end choose hs = finished (courseOf w h s stop map choose) hs
+
+    ends-same : (o f : Bool) → own ≡ o → allFinite small ≡ f → ends o f (end ours map) (end ours small) ≡ ends o f (end (lent lists) map) (end (lent lists) small)
+    ends-same true f e g =
+        let at : beginsWith w h s stop map ≡ map = ap (λ (b : Bool). cond b map small) e in
+        let z : end ours map ≡ end (lent lists) map =
+        subst (λ (hs : List Float). end ours hs ≡ end (lent lists) hs) at (states-same (ap allFinite at ∙ ok .finite) (steps (courseOf w h s stop map ours))) in
+        ap (λ (t : State). ends true f t (end ours small)) z
+    ends-same false true e g =
+        let at : beginsWith w h s stop map ≡ small = ap (λ (b : Bool). cond b map small) e in
+        let z : end ours small ≡ end (lent lists) small =
+        subst (λ (hs : List Float). end ours hs ≡ end (lent lists) hs) at (states-same (ap allFinite at ∙ g) (steps (courseOf w h s stop map ours))) in
+        ap (λ (t : State). ends false true (end ours map) t) z
+    ends-same false false e g = refl
+
+    runs-same : runBy w h s stop ours map ≡ runBy w h s stop (lent lists) map
+    unfolding runBy
+    runs-same = ends-same own (allFinite small) refl refl
+
+    pub alike : Alike w h s stop map lists
+    alike = record {
+      same = runs-same;
+      ours-drained = λ it routed r.
+          let z : Sized (dw * dh) routed × (allFinite routed ≡ true) = routed-sound ours it routed r in
+          drained dw dh (s .«water_level») range routed (z .0) (z .1) (orderOn (groundOf w h s stop map) routed) (order-work-list dw dh (s .«water_level») range routed (z .0) (z .1));
+      lent-drained = λ it routed r.
+          let z : Sized (dw * dh) routed × (allFinite routed ≡ true) = routed-sound (lent lists) it routed r in
+          drained dw dh (s .«water_level») range routed (z .0) (z .1) (lists it) (work it routed r);
+    }
+
+pub demand3 : Demand3
+demand3 w h s stop map lists fit e work = alike w h s stop map fit (accepted w h (badFluvial s) map e) lists work

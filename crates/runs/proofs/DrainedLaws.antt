@@ -1,0 +1,50 @@
+-- A routing of finite binary32 heights on a grid in range is drained along any work list of its receivers.
+use Prim.Native.Nat.{ℕ, _*_, _<_}
+use mathlib.Core.Path.{_≡_, refl, sym, ap, _∙_, subst}
+use mathlib.Core.Bool.{Bool, true, false}
+use mathlib.Core.List.{List}
+use lib.ListN.{length, getD}
+use lib.Dec.{eqb}
+use lib.Ieee.{Float, nan}
+use borrow.Author.Tests.{eq-eqb, ne-eqb, eqb-true}
+use Rattle.float_order.specs.Order.{rank}
+use Rattle.grid.specs.Sides.{InRange}
+use Rattle.grid.specs.Heights.{allFinite}
+use Rattle.grid.proofs.SidesLaws.{cells-bound}
+use Rattle.drainage.specs.Ground.{Ground, floats, gridGround}
+use Rattle.drainage.specs.Ways.{WorkList, areaOf, sumBelow}
+use Rattle.drainage.specs.Theorems.{Network, Areas}
+use Rattle.drainage.proofs.GroundLaws.{grid-networks}
+use Rattle.drainage.proofs.AreaLaws.{areas}
+use Rattle.drainage.proofs.CountLaws.{sum-by}
+use Rattle.runs.specs.Run.{orderOn, receiversOn}
+use Rattle.runs.specs.Demand3.{Drained}
+use Rattle.runs.proofs.SoundLaws.{Sized}
+
+module _ (w h : ℕ) (water : Float) (range : InRange w h) (hs : List Float) (sized : Sized (w * h) hs) (all : allFinite hs ≡ true) where
+  net : Network floats (gridGround w h water hs) hs rank
+  net = grid-networks w h water hs range (sized .long) (sized .fit) all
+
+  pub order-work-list : WorkList (w * h) (receiversOn (gridGround w h water) hs) (orderOn (gridGround w h water) hs)
+  order-work-list = net .work-list
+
+  own-is-base : (c : ℕ) → c < w * h → eqb (getD (receiversOn (gridGround w h water) hs) c 0) c ≡ gridGround w h water hs .base c
+  own-is-base c l = go (gridGround w h water hs .base c) refl
+    where
+      go : (b : Bool) → gridGround w h water hs .base c ≡ b → eqb (getD (receiversOn (gridGround w h water) hs) c 0) c ≡ b
+      go true e = eq-eqb _ c (net .base-own c l e)
+      go false e = ne-eqb _ c (λ own. true-false (sym (net .own-base c l own) ∙ e))
+        where
+          true-false : true ≡ false → ⊥
+          true-false = mathlib.Core.Bool.true≢false
+
+  pub drained : (list : List ℕ) → WorkList (w * h) (receiversOn (gridGround w h water) hs) list → Drained (gridGround w h water) hs list
+  drained list work =
+      let a : Areas (w * h) (receiversOn (gridGround w h water) hs) list = areas (w * h) (cells-bound w h (range .wide) (range .high)) (receiversOn (gridGround w h water) hs) list work in
+      record {
+        work-list = work;
+        spill = net .least;
+        base = own-is-base;
+        area = a .area;
+        total = sum-by (w * h) (gridGround w h water hs .base) (λ c. eqb (getD (receiversOn (gridGround w h water) hs) c 0) c) (areaOf (w * h) (receiversOn (gridGround w h water) hs)) (λ c l. sym (own-is-base c l)) ∙ a .total;
+      }
