@@ -5,7 +5,7 @@ use mathlib.Core.List.{List, [], _∷_}
 use lib.Ieee.{Float, binary32, ofBits, ofInt, add, mul, div, le}
 use Rattle.lists.specs.Loops.{turns}
 use Rattle.grid.specs.Directions.{neighbourOf}
-use Rattle.square_root.specs.Root.{rootOf, rootOfPositive, nearestRoot, wholeRoot, digits}
+use Rattle.square_root.specs.Root.{rootOf, nearestRoot, wholeRoot, digits}
 use Rattle.drainage.specs.Receivers.{directionTo}
 use Rattle.drainage.specs.Ways.{areasAlong}
 use Rattle.fluvial_erosion.specs.Incision.{inciseAlong, incisedBy}
@@ -19,12 +19,12 @@ plate height uplift =
 
 -- height 1, uplift 0: 0.5
 pub plate-cut : plate 0x3f80_0000 0 ≡ (ofBits binary32 0x3f00_0000 ∷ [])
-unfolding ofBits add mul div le incisedBy inciseAlong areasAlong directionTo turns neighbourOf rootOf rootOfPositive nearestRoot wholeRoot digits ofInt
+unfolding ofBits add mul div le incisedBy inciseAlong areasAlong directionTo turns neighbourOf rootOf nearestRoot wholeRoot digits ofInt
 plate-cut = refl
 
 -- height 1, uplift 0.5: 0.75
 pub plate-raised : plate 0x3f80_0000 0x3f00_0000 ≡ (ofBits binary32 0x3f40_0000 ∷ [])
-unfolding ofBits add mul div le incisedBy inciseAlong areasAlong directionTo turns neighbourOf rootOf rootOfPositive nearestRoot wholeRoot digits ofInt
+unfolding ofBits add mul div le incisedBy inciseAlong areasAlong directionTo turns neighbourOf rootOf nearestRoot wholeRoot digits ofInt
 plate-raised = refl
 
 -- height 0: it is not above the water, and stays

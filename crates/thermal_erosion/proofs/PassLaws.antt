@@ -123,3 +123,8 @@ module _ {w h : ℕ} {ts : List Float} {strength water : Float} {hs : List Float
     rowed-done l =
         let e : y ≡ h = omega (arith, a .within) in
         a .state ∙ ap (λ (n : ℕ). rowsOf w h ts strength water hs from to stop n m) e
+
+-- the same pass by equal thresholds
+pub rows-with : (w h : ℕ) {ts us : List Float} → ts ≡ us → (strength water : Float) (hs : List Float) (from to : Float) (stop n : ℕ) (m : Progress)
+    → rowsOf w h ts strength water hs from to stop n m ≡ rowsOf w h us strength water hs from to stop n m
+rows-with w h e strength water hs from to stop n m = ap (λ (l : List Float). rowsOf w h l strength water hs from to stop n m) e

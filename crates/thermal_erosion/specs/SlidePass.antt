@@ -77,6 +77,12 @@ slideRefusal w h hs len p from to m number at then =
 abbrev pub passAnswer : Pass → Outcome (Unit {0})
 passAnswer s = cond (s .marks .stopped) (refused 21) (cond (allFinite (s .out)) (gives tt) (refused 22))
 
+-- what a pass gives: its answer, the record that it reached, and the heights that it made
+pub record Passed (s : Pass) (r : Slid) (new : List Float) : Type 0 where
+  pub answer : answerOf (r .answer) ≡ passAnswer s
+  pub handed : r .progress ≡ s .marks
+  pub heights : new ≡ s .out
+
 -- what `slide_pass` promises of its answer, of the record that it hands back, and of the slice `out` after it: on 1 to 5 the record as given and
 -- the slice as it was, else those of the pass
 pub record SlideMade (w h : ℕ) (hs old : List Float) (p : ThermalParams) (from to : Float) (m : Progress) (stop : ℕ) (r : Slid) (new : List Float) : Type 0 where

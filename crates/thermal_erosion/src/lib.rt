@@ -15,7 +15,7 @@ use talus::thresholds;
 ghost use mathlib.Core.Path.{_≡_};
 ghost use Prim.Native.Nat.{_≤_};
 ghost use lib.ListN.{length};
-ghost use Rattle.thermal_erosion.specs.SlidePass.{fractionOf, Pass, rowsOf, Ready, badMarks, badPass, SlideMade};
+ghost use Rattle.thermal_erosion.specs.SlidePass.{fractionOf, Pass, passOf, rowsOf, Ready, badMarks, badPass, Passed, SlideMade};
 
 // The settings of a pass on its grid.
 pub struct ThermalParams {
@@ -111,4 +111,47 @@ fn refused(refusal: Refusal, progress: Progress) -> Slid
         answer: Answer::Refused(refusal),
         progress: progress,
     }
+}
+
+// The pass on an accepted input, and its answer: a stop comes before a run-off.
+fn slide_accepted(size: Sides, hmap: &[f32], out: &mut [f32], params: ThermalParams, from: f32, to: f32, m: Progress, stop: u32) -> Slid
+    requires { ⌜ Ready (size .w) (size .h) (length (now hmap)) (length (now out)) (m .asked) ⌝ }
+    ensures { λ r. ⌜ Passed (passOf (size .w) (size .h) params (now (hmap .entry)) from to stop m) r (now (out .exit)) ⌝ }
+{
+    let ts = thresholds(params.threshold);
+    let marks = slide_pass_into(size, &ts, hmap, out, params.strength, params.water_level, from, to, m, stop);
+    if marks.stopped {
+        return refused(Refusal::Stopped, marks);
+    }
+    if all_finite(size, out) {
+        return Slid {
+            answer: Answer::Done,
+            progress: marks,
+        };
+    }
+    refused(Refusal::RunOff, marks)
+}
+
+// One pass of the source from hmap to out. On 1 to 5 nothing is written and the record comes back as given.
+pub fn slide_pass(size: Sides, hmap: &[f32], out: &mut [f32], params: ThermalParams, progress_from: f32, progress_to: f32, progress: Progress, stop: u32) -> Slid
+    ensures { λ r. ⌜ SlideMade (size .w) (size .h) (now (hmap .entry)) (now (out .entry)) params «progress_from» «progress_to» progress stop r (now (out .exit)) ⌝ }
+{
+    if bad_sides(size) {
+        return refused(Refusal::Side, progress);
+    }
+    let n = size.w * size.h;
+    if hmap.len() != n {
+        return refused(Refusal::Length, progress);
+    }
+    if out.len() != n {
+        return refused(Refusal::Length, progress);
+    }
+    if bad_pass(params, progress_from, progress_to, progress) {
+        return refused(Refusal::Setting, progress);
+    }
+    let bad = first_not_finite(size, hmap);
+    if bad != n {
+        return refused(Refusal::Height(bad), progress);
+    }
+    slide_accepted(size, hmap, out, params, progress_from, progress_to, progress, stop)
 }
