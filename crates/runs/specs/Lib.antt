@@ -3,4 +3,5 @@ pub mod Plan
 pub mod Machine
 pub mod Run
 pub mod Refusals
+pub mod Nested
 pub mod Demand3

@@ -1,0 +1,86 @@
+-- The run of Machine.antt as its loops go: iterations; in each its opening and its passes; in each pass all its rows. proofs/CourseLaws.antt shows
+-- that both ways end in the same state.
+use Prim.Native.Nat.{ℕ, suc, _+_, _*_}
+use mathlib.Core.Path.{_≡_}
+use mathlib.Core.Bool.{Bool, true, not, _&&_, cond}
+use mathlib.Core.List.{List}
+use lib.Dec.{eqb, leb}
+use lib.Ieee.{Float}
+use Rattle.lists.specs.Loops.{turns}
+use Rattle.grid.specs.Heights.{allFinite}
+use Rattle.thermal_erosion.specs.SlidePass.{Pass, rowsOf}
+use Rattle.runs.specs.Machine.{Course, State, start, endedBy, openStep, closed}
+
+module _ (c : Course) where
+  -- the first n rows of the pass that a state is about to begin
+  abbrev pub rowsFrom : ℕ → State → Pass
+  rowsFrom n s =
+      rowsOf (c .w) (c .h) (c .thresholds) (c .strength) (c .water) (s .heights) (c .begins (s .iteration) (s .pass))
+      (c .begins (s .iteration) (suc (s .pass))) (c .stop) n (s .marks)
+
+  -- what the rows of a pass lead to: a stop drops it, and finiteness is tested when it is complete
+  abbrev pub passDone : State → Pass → State
+  passDone s p =
+      cond (p .marks .stopped) (endedBy c 21 (p .marks) s)
+      (cond (allFinite (p .out)) (closed c (p .out) (p .marks) s) (endedBy c 22 (p .marks) s))
+
+  -- a whole pass; a run that has ended stays, here and below
+  unfoldable pub onePass : State → State
+  onePass s = cond (eqb (s .number) 0) (passDone s (rowsFrom (c .h) s)) s
+
+  -- the question, routing and incision of an iteration, where the course has them
+  unfoldable pub oneOpening : State → State
+  oneOpening s = cond (c .cutting && eqb (s .number) 0) (openStep c s) s
+
+  -- the opening of an iteration and n of its passes
+  abbrev pub passesAfter : ℕ → State → State
+  passesAfter n s = turns n (λ i. onePass) (oneOpening s)
+
+  unfoldable pub oneIteration : State → State
+  oneIteration s = passesAfter (c .passes) s
+
+  -- n iterations
+  abbrev pub iterated : ℕ → List Float → State
+  iterated n hs = turns n (λ i. oneIteration) (start c hs)
+
+  -- the whole run
+  abbrev pub nested : List Float → State
+  nested hs = iterated (c .iterations) hs
+
+-- The place of a run between passes fixes its counts. It goes on and is due to begin iteration `it`:
+pub record Due (c : Course) (it : ℕ) (s : State) : Type 0 where
+  pub number : s .number ≡ 0
+  pub iteration : s .iteration ≡ it
+  pub pass : s .pass ≡ 0
+  pub opened : s .opened ≡ not (c .cutting)
+  pub row : s .row ≡ 0
+  pub copy : s .copy ≡ s .heights
+  pub incisions : s .incisions ≡ cond (c .cutting) it 0
+  pub passes : s .passes ≡ it * c .passes
+
+-- or it is due to begin pass q of that iteration, which has been opened.
+pub record Underway (c : Course) (it q : ℕ) (s : State) : Type 0 where
+  pub number : s .number ≡ 0
+  pub iteration : s .iteration ≡ it
+  pub pass : s .pass ≡ q
+  pub opened : s .opened ≡ true
+  pub row : s .row ≡ 0
+  pub copy : s .copy ≡ s .heights
+  pub incisions : s .incisions ≡ cond (c .cutting) (suc it) 0
+  pub passes : s .passes ≡ it * c .passes + q
+
+-- an ended state without the row in which it ended, which no answer shows
+abbrev pub dropped : State → State
+dropped s =
+    record {
+      heights = s .heights;
+      copy = s .copy;
+      row = cond (eqb (s .number) 0) (s .row) 0;
+      marks = s .marks;
+      incisions = s .incisions;
+      passes = s .passes;
+      iteration = s .iteration;
+      pass = s .pass;
+      opened = s .opened;
+      number = s .number;
+    }
