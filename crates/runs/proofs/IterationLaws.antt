@@ -189,8 +189,11 @@ module _ (c : Course) (it : ℕ) (s : State) where
         })
 
 -- the place after n passes of iteration `it`: pass n of it, or the next iteration after all of them
-abbrev Place : Course → ℕ → ℕ → State → Type 0
-Place c it n s = s .number ≡ 0 → (n < c .passes → Underway c it n s) × (n ≡ c .passes → Due c (suc it) s)
+abbrev pub After : Course → ℕ → ℕ → State → Type 0
+After c it n s = (n < c .passes → Underway c it n s) × (n ≡ c .passes → Due c (suc it) s)
+
+abbrev pub Place : Course → ℕ → ℕ → State → Type 0
+Place c it n s = s .number ≡ 0 → After c it n s
 
 module _ (c : Course) (some : 0 < c .passes) where
   module _ (it : ℕ) (s : State) (d : s .number ≡ 0 → Due c it s) where
