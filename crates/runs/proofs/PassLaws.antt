@@ -63,7 +63,7 @@ data Among (c : Course) (s : State) (r : ℕ) (p : Pass) (t : State) : Type 0 wh
 halted-done : (c : Course) (s : State) (p : Pass) (t : State) → Halted c s p t → dropped t ≡ passDone c (before-rows s) p
 halted-done c s p t e = e .same ∙ sym (rw (e .stopped))
 
-module _ (c : Course) (s : State) (due : leb (c .iterations) (s .iteration) ≡ false) (opened : s .opened ≡ true) where
+module _ (c : Course) (s : State) where
   -- row r, its copy and its question, after p
   abbrev next : ℕ → Pass → Pass
   next r p =
@@ -91,58 +91,7 @@ module _ (c : Course) (s : State) (due : leb (c .iterations) (s .iteration) ≡ 
     next-on : questioned r p .stopped ≡ false → next r p ≡ slidden
     next-on h = ap (λ (b : Bool). cond b p slidden) (report-on (p .marks) _ (c .stop) h)
 
-    row-step : step c (sliding s r p) ≡ rowStep c (sliding s r p)
-    unfolding step
-    row-step = rw (due, opened)
-
-    row-stopped : questioned r p .stopped ≡ true → step c (sliding s r p) ≡ endedBy c 21 (questioned r p) (sliding s r p)
-    row-stopped e = row-step ∙ rw e
-
-    row-slid : questioned r p .stopped ≡ false → suc r < c .h → step c (sliding s r p) ≡ sliding s (suc r) slidden
-    row-slid e l = row-step ∙ rw (e, lt-ltb (suc r) (c .h) l)
-
-    row-last : questioned r p .stopped ≡ false → c .h ≤ suc r → dropped (step c (sliding s r p)) ≡ passDone c (before-rows s) slidden
-    row-last e l = ap dropped (row-step ∙ rw (e, le-ltb (suc r) (c .h) l)) ∙ go (allFinite (made r p)) ∙ rw e
-      where
-        go : (b : Bool) → dropped (cond b (closed c (made r p) (questioned r p) s) (endedBy c 22 (questioned r p) (sliding s r p)))
-            ≡ cond b (closed c (made r p) (questioned r p) s) (endedBy c 22 (questioned r p) (before-rows s))
-        go true = refl
-        go false = refl
-
-    -- a row that stops the run
-    halts : questioned r p .stopped ≡ true → Halted c s (next r p) (step c (sliding s r p))
-    halts e =
-        record {
-          number = ap (λ (x : State). x .number) (row-stopped e);
-          stopped = ap (λ (m : Progress). m .stopped) next-marks ∙ e;
-          same = ap dropped (row-stopped e) ∙ ap (λ (m : Progress). endedBy c 21 m (before-rows s)) (sym next-marks);
-        }
-
-    -- and one after it
-    stays : (t : State) → Halted c s p t → Halted c s (next r p) (step c t)
-    stays t e =
-        subst (λ (x : State). Halted c s (next r p) x) (sym (step-ended c t (ap (λ (i : ℕ). eqb i 0) (e .number))))
-        (subst (λ (x : Pass). Halted c s x t) (sym (ap (λ (b : Bool). cond b p slidden) (e .stopped))) e)
-
-    -- one row more, which is not the last
-    among-more : (t : State) → suc r < c .h → Among c s r p t → Among c s (suc r) (next r p) (step c t)
-    among-more t l (going e) = subst (λ (x : State). Among c s (suc r) (next r p) (step c x)) (sym e) (go (questioned r p .stopped) refl)
-      where
-        go : (b : Bool) → questioned r p .stopped ≡ b → Among c s (suc r) (next r p) (step c (sliding s r p))
-        go true q = halted (halts q)
-        go false q = going (row-slid q l ∙ ap (sliding s (suc r)) (sym (next-on q)))
-    among-more t l (halted e) = halted (stays t e)
-
-    -- the last row
-    among-last : (t : State) → c .h ≤ suc r → Among c s r p t → dropped (step c t) ≡ passDone c (before-rows s) (next r p)
-    among-last t l (going e) = ap (λ (x : State). dropped (step c x)) e ∙ go (questioned r p .stopped) refl
-      where
-        go : (b : Bool) → questioned r p .stopped ≡ b → dropped (step c (sliding s r p)) ≡ passDone c (before-rows s) (next r p)
-        go true q = halted-done c s (next r p) (step c (sliding s r p)) (halts q)
-        go false q = row-last q l ∙ ap (passDone c (before-rows s)) (sym (next-on q))
-    among-last t l (halted e) = halted-done c s (next r p) (step c t) (stays t e)
-
-  rows-none : rowsFrom c 0 s ≡ record { out = s .heights; marks = s .marks }
+  pub rows-none : rowsFrom c 0 s ≡ record { out = s .heights; marks = s .marks }
   unfolding rowsOf turns
   rows-none = refl
 
@@ -150,11 +99,68 @@ module _ (c : Course) (s : State) (due : leb (c .iterations) (s .iteration) ≡ 
   unfolding rowsOf turns
   rows-next r = refl
 
+  -- the question of row r
+  pub rows-marks : (r : ℕ) → rowsFrom c (suc r) s .marks ≡ questioned r (rowsFrom c r s)
+  rows-marks r = ap (λ (p : Pass). p .marks) (rows-next r) ∙ next-marks r (rowsFrom c r s)
+
+module _ (c : Course) (s : State) (due : leb (c .iterations) (s .iteration) ≡ false) (opened : s .opened ≡ true) where
+  module _ (r : ℕ) (p : Pass) where
+    row-step : step c (sliding s r p) ≡ rowStep c (sliding s r p)
+    unfolding step
+    row-step = rw (due, opened)
+
+    row-stopped : questioned c s r p .stopped ≡ true → step c (sliding s r p) ≡ endedBy c 21 (questioned c s r p) (sliding s r p)
+    row-stopped e = row-step ∙ rw e
+
+    row-slid : questioned c s r p .stopped ≡ false → suc r < c .h → step c (sliding s r p) ≡ sliding s (suc r) (slidden c s r p)
+    row-slid e l = row-step ∙ rw (e, lt-ltb (suc r) (c .h) l)
+
+    row-last : questioned c s r p .stopped ≡ false → c .h ≤ suc r → dropped (step c (sliding s r p)) ≡ passDone c (before-rows s) (slidden c s r p)
+    row-last e l = ap dropped (row-step ∙ rw (e, le-ltb (suc r) (c .h) l)) ∙ go (allFinite (made c s r p)) ∙ rw e
+      where
+        go : (b : Bool) → dropped (cond b (closed c (made c s r p) (questioned c s r p) s) (endedBy c 22 (questioned c s r p) (sliding s r p)))
+            ≡ cond b (closed c (made c s r p) (questioned c s r p) s) (endedBy c 22 (questioned c s r p) (before-rows s))
+        go true = refl
+        go false = refl
+
+    -- a row that stops the run
+    halts : questioned c s r p .stopped ≡ true → Halted c s (next c s r p) (step c (sliding s r p))
+    halts e =
+        record {
+          number = ap (λ (x : State). x .number) (row-stopped e);
+          stopped = ap (λ (m : Progress). m .stopped) (next-marks c s r p) ∙ e;
+          same = ap dropped (row-stopped e) ∙ ap (λ (m : Progress). endedBy c 21 m (before-rows s)) (sym (next-marks c s r p));
+        }
+
+    -- and one after it
+    stays : (t : State) → Halted c s p t → Halted c s (next c s r p) (step c t)
+    stays t e =
+        subst (λ (x : State). Halted c s (next c s r p) x) (sym (step-ended c t (ap (λ (i : ℕ). eqb i 0) (e .number))))
+        (subst (λ (x : Pass). Halted c s x t) (sym (ap (λ (b : Bool). cond b p (slidden c s r p)) (e .stopped))) e)
+
+    -- one row more, which is not the last
+    among-more : (t : State) → suc r < c .h → Among c s r p t → Among c s (suc r) (next c s r p) (step c t)
+    among-more t l (going e) = subst (λ (x : State). Among c s (suc r) (next c s r p) (step c x)) (sym e) (go (questioned c s r p .stopped) refl)
+      where
+        go : (b : Bool) → questioned c s r p .stopped ≡ b → Among c s (suc r) (next c s r p) (step c (sliding s r p))
+        go true q = halted (halts q)
+        go false q = going (row-slid q l ∙ ap (sliding s (suc r)) (sym (next-on c s r p q)))
+    among-more t l (halted e) = halted (stays t e)
+
+    -- the last row
+    among-last : (t : State) → c .h ≤ suc r → Among c s r p t → dropped (step c t) ≡ passDone c (before-rows s) (next c s r p)
+    among-last t l (going e) = ap (λ (x : State). dropped (step c x)) e ∙ go (questioned c s r p .stopped) refl
+      where
+        go : (b : Bool) → questioned c s r p .stopped ≡ b → dropped (step c (sliding s r p)) ≡ passDone c (before-rows s) (next c s r p)
+        go true q = halted-done c s (next c s r p) (step c (sliding s r p)) (halts q)
+        go false q = row-last q l ∙ ap (passDone c (before-rows s)) (sym (next-on c s r p q))
+    among-last t l (halted e) = halted-done c s (next c s r p) (step c t) (stays t e)
+
   among-rows : (r : ℕ) → r < c .h → Among c s r (rowsFrom c r s) (turns r (λ i. step c) (before-rows s))
   unfolding turns
-  among-rows zero l = going (ap (sliding s 0) (sym rows-none))
+  among-rows zero l = going (ap (sliding s 0) (sym (rows-none c s)))
   among-rows (suc r) l =
-      subst (λ (p : Pass). Among c s (suc r) p (step c (turns r (λ i. step c) (before-rows s)))) (sym (rows-next r))
+      subst (λ (p : Pass). Among c s (suc r) p (step c (turns r (λ i. step c) (before-rows s)))) (sym (rows-next c s r))
       (among-more r (rowsFrom c r s) (turns r (λ i. step c) (before-rows s)) l (among-rows r (omega arith)))
 
   all-rows : (n : ℕ) → c .h ≡ n → 0 < n → dropped (turns n (λ i. step c) (before-rows s)) ≡ passDone c (before-rows s) (rowsFrom c n s)
@@ -162,7 +168,7 @@ module _ (c : Course) (s : State) (due : leb (c .iterations) (s .iteration) ≡ 
   all-rows zero e l = let z : ⊥ = omega arith in absurd z
   all-rows (suc r) e l =
       among-last r (rowsFrom c r s) (turns r (λ i. step c) (before-rows s)) (omega arith) (among-rows r (omega arith))
-      ∙ ap (passDone c (before-rows s)) (sym (rows-next r))
+      ∙ ap (passDone c (before-rows s)) (sym (rows-next c s r))
 
 -- h steps from a state about to begin a pass
 pub pass-steps : (c : Course) (s : State) → 0 < c .h → s .iteration < c .iterations → s .opened ≡ true → s .row ≡ 0 → s .copy ≡ s .heights → s .number ≡ 0

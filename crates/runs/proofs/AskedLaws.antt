@@ -1,0 +1,140 @@
+-- Each step asks at most one question, so a run asks few enough to count in 32 bits.
+use Prim.Native.Nat.{ℕ, zero, suc, _+_, _-_, _*_, _^_, _≤_, _<_}
+use mathlib.Core.Path.{_≡_, refl, sym, ap, _∙_, subst}
+use mathlib.Core.Bool.{Bool, true, false, not, _&&_, _||_, cond}
+use mathlib.Core.List.{List}
+use native.Mathlib.Nat.{mul-le-mul, mul-le-mul-right, le-trans, lt-of-le-of-lt, suc-le-suc-iff}
+use native.Mathlib.Omega.{arith}
+use lib.Dec.{eqb, leb, ltb, lit<}
+use lib.Ieee.{Float}
+use Rattle.lists.specs.Loops.{turns}
+use Rattle.lists.proofs.TurnLaws.{turns-hold}
+use Rattle.grid.specs.Heights.{allFinite}
+use Rattle.generators.specs.Marks.{reportOf}
+use Rattle.generators.specs.declared.Progress.{Progress}
+use Rattle.generators.proofs.MarksLaws.{report-asked-most}
+use Rattle.thermal_erosion.specs.Talus.{slideRow}
+use Rattle.thermal_erosion.specs.SlidePass as SlidePass
+use Rattle.thermal_erosion.specs.SlidePass.{Pass, fractionOf, rowsOf}
+use Rattle.runs.specs.Machine.{Course, State, start, endedBy, cut, openStep, slid, closed, rowStep, step, after, steps}
+use Rattle.runs.specs.Nested.{rowsFrom, passDone, onePass, oneOpening, passesAfter, oneIteration, iterated}
+use Rattle.runs.proofs.PassLaws.{rows-none, rows-marks}
+
+-- choices between states with one record keep that record
+chosen : (a b d : Bool) (x y z u : State) (m : Progress) → x .marks ≡ m → y .marks ≡ m → z .marks ≡ m → u .marks ≡ m
+    → cond a x (cond b y (cond d z u)) .marks ≡ m
+chosen true b d x y z u m p q r t = p
+chosen false true d x y z u m p q r t = q
+chosen false false true x y z u m p q r t = r
+chosen false false false x y z u m p q r t = t
+
+module _ (c : Course) (s : State) where
+  -- the record after an opening
+  abbrev openReport : Progress
+  openReport = reportOf (s .marks) (c .opening (s .iteration)) (c .stop)
+
+  open-marks : openStep c s .marks ≡ openReport
+  open-marks =
+      chosen (openReport .stopped) (allFinite (c .incision (s .iteration) (s .heights))) true (endedBy c 21 openReport s)
+      (cut c (c .incision (s .iteration) (s .heights)) openReport s) (endedBy c 22 openReport s) (endedBy c 22 openReport s) openReport refl refl refl refl
+
+  done-marks : (p : Pass) → passDone c s p .marks ≡ p .marks
+  done-marks p =
+      let end : ℕ → State = λ n. endedBy c n (p .marks) s in
+      chosen (p .marks .stopped) (allFinite (p .out)) true (end 21) (closed c (p .out) (p .marks) s) (end 22) (end 22) (p .marks) refl refl refl refl
+
+  -- a row of the pass under way, with its question
+  abbrev rowMade : Pass
+  rowMade =
+      record {
+        out = slideRow (c .w) (c .h) (c .thresholds) (s .heights) (c .strength) (c .water) (s .row) (s .copy);
+        marks = reportOf (s .marks) (fractionOf (c .begins (s .iteration) (s .pass)) (c .begins (s .iteration) (suc (s .pass))) (c .h) (s .row)) (c .stop);
+      }
+
+  row-marks : rowStep c s .marks ≡ rowMade .marks
+  row-marks =
+      let m : Progress = rowMade .marks in
+      let new : List Float = rowMade .out in
+      chosen (m .stopped) (ltb (suc (s .row)) (c .h)) (allFinite new) (endedBy c 21 m s) (slid c new m s) (closed c new m s) (endedBy c 22 m s) m refl refl refl refl
+
+  step-asked : step c s .marks .asked ≤ s .marks .asked + 1
+  unfolding step
+  step-asked = go (not (eqb (s .number) 0) || leb (c .iterations) (s .iteration)) (s .opened)
+    where
+      go : (a b : Bool) → cond a s (cond b (rowStep c s) (openStep c s)) .marks .asked ≤ s .marks .asked + 1
+      go true b = omega arith
+      go false true = rw row-marks (report-asked-most (s .marks) _ (c .stop))
+      go false false = rw open-marks (report-asked-most (s .marks) _ (c .stop))
+
+-- n steps ask at most n questions
+pub after-asked : (c : Course) (hs : List Float) (n : ℕ) → after c n hs .marks .asked ≤ n
+unfolding after
+after-asked c hs n =
+    turns-hold (λ i. step c) (λ i t. t .marks .asked ≤ i) (start c hs) n (omega arith) (λ i t l h. omega (arith, step-asked c t))
+
+-- r rows at most r
+pub rows-asked : (c : Course) (s : State) (r : ℕ) → rowsFrom c r s .marks .asked ≤ s .marks .asked + r
+rows-asked c s zero = rw rows-none (omega arith)
+rows-asked c s (suc r) =
+    rw rows-marks (le-trans (report-asked-most (rowsFrom c r s .marks) _ (c .stop)) (omega (arith, rows-asked c s r)))
+
+module _ (c : Course) (s : State) where
+  pub pass-asked : onePass c s .marks .asked ≤ s .marks .asked + c .h
+  unfolding onePass
+  pass-asked = go (eqb (s .number) 0)
+    where
+      go : (b : Bool) → cond b (passDone c s (rowsFrom c (c .h) s)) s .marks .asked ≤ s .marks .asked + c .h
+      go true = rw done-marks (rows-asked c s (c .h))
+      go false = omega arith
+
+  pub opening-asked : oneOpening c s .marks .asked ≤ s .marks .asked + 1
+  unfolding oneOpening
+  opening-asked = go (c .cutting && eqb (s .number) 0)
+    where
+      go : (b : Bool) → cond b (openStep c s) s .marks .asked ≤ s .marks .asked + 1
+      go true = rw open-marks (report-asked-most (s .marks) _ (c .stop))
+      go false = omega arith
+
+module _ (c : Course) (s : State) where
+  pub passes-asked : (q : ℕ) → passesAfter c q s .marks .asked ≤ s .marks .asked + 1 + q * c .h
+  passes-asked q =
+      turns-hold (λ i. onePass c) (λ i t. t .marks .asked ≤ s .marks .asked + 1 + i * c .h) (oneOpening c s) q (omega (arith, opening-asked c s))
+      (λ i t l h. omega (arith, pass-asked c t))
+
+  pub iteration-asked : oneIteration c s .marks .asked ≤ s .marks .asked + suc (c .passes * c .h)
+  unfolding oneIteration
+  iteration-asked = omega (arith, passes-asked (c .passes))
+
+module _ (c : Course) (hs : List Float) where
+  -- so do n iterations by loops
+  pub iterated-asked : (n : ℕ) → iterated c n hs .marks .asked ≤ n * suc (c .passes * c .h)
+  iterated-asked n =
+      turns-hold (λ i. oneIteration c) (λ i t. t .marks .asked ≤ i * suc (c .passes * c .h)) (start c hs) n (omega arith)
+      (λ i t l h. omega (arith, iteration-asked c t))
+
+  pub underway-asked : (it q : ℕ) → passesAfter c q (iterated c it hs) .marks .asked ≤ it * suc (c .passes * c .h) + 1 + q * c .h
+  underway-asked it q = omega (arith, passes-asked c (iterated c it hs) q, iterated-asked it)
+
+  -- every record that a run meets has asked at most as many as the run has steps
+  pub run-asked : (n : ℕ) → n ≤ c .iterations → iterated c n hs .marks .asked ≤ steps c
+  run-asked n l = le-trans (iterated-asked n) (mul-le-mul-right (suc (c .passes * c .h)) l)
+
+  pub opened-asked : (it q : ℕ) → it < c .iterations → q ≤ c .passes → passesAfter c q (iterated c it hs) .marks .asked ≤ steps c
+  opened-asked it q l k =
+      omega (arith, underway-asked it q, mul-le-mul-right (c .h) k, mul-le-mul-right (suc (c .passes * c .h)) l)
+
+  pub run-rows-asked : (it q r : ℕ) → it < c .iterations → q < c .passes → r ≤ c .h → rowsFrom c r (passesAfter c q (iterated c it hs)) .marks .asked ≤ steps c
+  run-rows-asked it q r l k m =
+      omega
+      (arith, rows-asked c (passesAfter c q (iterated c it hs)) r, underway-asked it q, mul-le-mul-right (c .h) k,
+      mul-le-mul-right (suc (c .passes * c .h)) l)
+
+-- the steps of document 01's runs
+product-within : (i p h a b d : ℕ) → i ≤ a → p ≤ b → h ≤ d → i * suc (p * h) ≤ a * suc (b * d)
+product-within i p h a b d l m n = mul-le-mul l (suc-le-suc-iff .1 (mul-le-mul m n))
+
+pub steps-fluvial : (c : Course) → c .iterations ≤ 4096 → c .passes ≤ 8 → c .h ≤ 4096 → steps c < 2 ^ 28
+steps-fluvial c l m n = lt-of-le-of-lt (product-within (c .iterations) (c .passes) (c .h) 4096 8 4096 l m n) (lit< tt)
+
+pub steps-thermal : (c : Course) → c .iterations ≤ 32768 → c .passes ≤ 1 → c .h ≤ 4096 → steps c < 2 ^ 28
+steps-thermal c l m n = lt-of-le-of-lt (product-within (c .iterations) (c .passes) (c .h) 32768 1 4096 l m n) (lit< tt)
