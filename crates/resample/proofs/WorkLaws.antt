@@ -143,7 +143,7 @@ scaled-within : (coef : Float) (side : ℕ) → Below coef 1 → 1 ≤ side → 
 unfolding scaledSide ofInt
 scaled-within coef side b low high =
     let l : toUnsigned 64 (roundOf (mul binary32 (float side) coef)) ≤ side =
-        rounded-below (mul binary32 (float side) coef) side (mul-below (float side) coef side 1 (round-whole binary32 false side (omega arith)) b (omega arith)) (omega arith) in
+    rounded-below (mul binary32 (float side) coef) side (mul-below (float side) coef side 1 (round-whole binary32 false side (omega arith)) b (omega arith)) (omega arith) in
     omega arith
 
 pub work-within : WorkWithin

@@ -3,7 +3,6 @@ use answers::Answer;
 use answers::Refusal;
 use answers::Value;
 use grid::Sides;
-
 ghost use mathlib.Core.Path.{_≡_};
 ghost use Prim.Native.Nat.{_+_, _*_, _<_, _≤_};
 ghost use lib.ListN.{length};

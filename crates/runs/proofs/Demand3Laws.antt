@@ -67,7 +67,7 @@ module _ (w h : ℕ) (s : FluvialSettings) (stop : ℕ) (map : List Float) (fit 
   within : Within w h dw dh
   within = work-within w h (s .«work_res») (ok .sides)
 
-  range : InRange dw dh
+  pub range : InRange dw dh
   range = omega (arith, within)
 
   -- the working sides are the map's own
@@ -105,7 +105,7 @@ module _ (w h : ℕ) (s : FluvialSettings) (stop : ℕ) (map : List Float) (fit 
       (beginsWith w h s stop map) begins-sized
 
   -- the heights that an iteration routes
-  routed-sound : (choose : Choice) (it : ℕ) (routed : List Float) → RunRoutes w h s stop map choose it routed → Sized (dw * dh) routed × (allFinite routed ≡ true)
+  pub routed-sound : (choose : Choice) (it : ℕ) (routed : List Float) → RunRoutes w h s stop map choose it routed → Sized (dw * dh) routed × (allFinite routed ≡ true)
   routed-sound choose it routed r =
       let z : Sound (dw * dh) (after (courseOf w h s stop map choose) (r .routes .done) (beginsWith w h s stop map)) = states choose (r .started) (r .routes .done) in
       (subst (Sized (dw * dh)) (r .routes .heights) (z .heights), subst (λ l. allFinite l ≡ true) (r .routes .heights) (z .finite))

@@ -4,3 +4,4 @@ pub mod SoundLaws
 pub mod CutLaws
 pub mod DrainedLaws
 pub mod Demand3Laws
+pub mod ControlLaws

@@ -5,3 +5,4 @@ pub mod Run
 pub mod Refusals
 pub mod Nested
 pub mod Demand3
+pub mod Controls

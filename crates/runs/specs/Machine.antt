@@ -64,7 +64,7 @@ module _ (c : Course) where
         iteration = 0;
         pass = 0;
         opened = not (c .cutting);
-        number = 0
+        number = 0;
       }
 
   -- 21 or 22: what the step made is dropped, the record stays as reached
@@ -80,7 +80,7 @@ module _ (c : Course) where
         iteration = s .iteration;
         pass = s .pass;
         opened = s .opened;
-        number = number
+        number = number;
       }
 
   -- an incision is completed
@@ -96,7 +96,7 @@ module _ (c : Course) where
         iteration = s .iteration;
         pass = 0;
         opened = mathlib.Core.Bool.true;
-        number = 0
+        number = 0;
       }
 
   -- the question before routing; then routing and incision
@@ -119,7 +119,7 @@ module _ (c : Course) where
         iteration = s .iteration;
         pass = s .pass;
         opened = s .opened;
-        number = 0
+        number = 0;
       }
 
   -- a pass is completed; after the last one of an iteration the next iteration is due
@@ -136,7 +136,7 @@ module _ (c : Course) where
         iteration = cond last (suc (s .iteration)) (s .iteration);
         pass = cond last 0 (suc (s .pass));
         opened = cond last (not (c .cutting)) (s .opened);
-        number = 0
+        number = 0;
       }
 
   -- one row and its question; a stop in the last row drops the pass, and finiteness is tested when the pass is complete
@@ -144,9 +144,9 @@ module _ (c : Course) where
   rowStep s =
       let copy = slideRow (c .w) (c .h) (c .thresholds) (s .heights) (c .strength) (c .water) (s .row) (s .copy) in
       let m =
-          reportOf (s .marks)
-          (fractionOf (c .begins (s .iteration) (s .pass)) (c .begins (s .iteration) (suc (s .pass))) (c .h) (s .row))
-          (c .stop) in
+      reportOf (s .marks)
+      (fractionOf (c .begins (s .iteration) (s .pass)) (c .begins (s .iteration) (suc (s .pass))) (c .h) (s .row))
+      (c .stop) in
       cond (m .stopped) (endedBy 21 m s)
       (cond (ltb (suc (s .row)) (c .h)) (slid copy m s) (cond (allFinite copy) (closed copy m s) (endedBy 22 m s)))
 

@@ -42,7 +42,7 @@ fluvialPlan w h s =
       iterations = max (s .iterations) 1;
       passes = passesOf 1 scale;
       cuts = record { k = kOf (s .strength) scale; uplift = s .uplift; «water_level» = s .«water_level» };
-      slides = record { threshold = thresholdOf (s .talus) scale; strength = ofBits binary32 0x3f00_0000; «water_level» = s .«water_level» }
+      slides = record { threshold = thresholdOf (s .talus) scale; strength = ofBits binary32 0x3f00_0000; «water_level» = s .«water_level» };
     }
 
 -- the passes and the parameters of a thermal run

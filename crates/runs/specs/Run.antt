@@ -73,7 +73,7 @@ fluvialCourse ground w h plan stop choose =
       thresholds = thresholdsOf (plan .slides .threshold);
       strength = plan .slides .strength;
       water = plan .slides .«water_level»;
-      stop = stop
+      stop = stop;
     }
 
 -- a thermal run: each iteration is one pass, and nothing opens it
@@ -92,7 +92,7 @@ thermalCourse w h s stop =
       thresholds = thresholdsOf (thermalParams w h s .threshold);
       strength = s .strength;
       water = s .«water_level»;
-      stop = stop
+      stop = stop;
     }
 
 -- What a whole run ends with: 0 or the number that ended it, the counts, and the map.
