@@ -3,11 +3,12 @@ use Prim.Native.Nat.{ℕ, suc, _+_, _-_, _*_, _/_, _^_, _≤_, _<_}
 use mathlib.Core.Path.{_≡_, refl, sym, ap, _∙_, subst}
 use native.Mathlib.Nat.{div-lt-iff-lt-mul, le-div-iff-mul-le, div-eq-of-lt-le, mul-comm, lt-div-mul-add, mul-le-mul, mul-le-mul-right}
 use native.Mathlib.Omega.{arith}
-use lib.Dec.{T, le→leb}
+use lib.Dec.{T}
 use lib.IntN.{pos}
 use lib.Ieee.{binary32, inFloat}
 use Rattle.resample.specs.WorkSize.{Within}
 use Rattle.resample.specs.Places.{Part}
+use Rattle.resample.proofs.WorkLaws.{float-in}
 use Rattle.resample.specs.Blocks.{blockOf, firstOf, SourceBlocks}
 
 module _ (s r : ℕ) (low : 1 ≤ r) where
@@ -86,5 +87,4 @@ module _ {w h dw dh : ℕ} (in-grid : Within w h dw dh) (x e y f : ℕ) (across 
       mul-le-mul a b
 
   pub block-float : T (inFloat binary32 (pos ((e - x) * (f - y))))
-  unfolding inFloat
-  block-float = le→leb _ _ block-cells
+  block-float = float-in _ block-cells

@@ -14,7 +14,7 @@ use lib.Ieee.Fits.{round-is, down-pos}
 use lib.Ieee.Exact.{HasValue, odd-sign}
 use lib.Ieee.Order.{round-mono, drop, kept}
 use lib.Ieee.Back.{round-whole, unsigned-back}
-use borrow.Author.Tests.{eqb-true, eqb-false, ltb-true, ltb-false, leb-true, leb-false, ne-eqb}
+use borrow.Author.Tests.{eqb-true, eqb-false, ltb-true, ltb-false, leb-true, leb-false, le-leb, lt-leb}
 use Rattle.floats.specs.Stand.{roundOf}
 use Rattle.resample.specs.WorkSize.{float, scaledSide, workSize, Within, WorkWithin}
 use Rattle.grid.specs.Sides.{badSide}
@@ -170,3 +170,27 @@ work-within w h res good = go (leb (max w h) res) (leb-false (max w h) res)
         let m : max w h ≤ 4096 = omega (arith, sw, sh) in
         scaled (div binary32 (float res) (float (max w h)))
         (div-below (float res) (float (max w h)) res (max w h) 1 (round-whole binary32 false res (omega arith)) (round-whole binary32 false (max w h) (omega arith)) (omega arith) (lit≤ tt) (omega arith))
+
+-- a whole number up to 2 ^ 24 is a float
+pub float-in : (n : ℕ) → n ≤ 2 ^ 24 → T (inFloat binary32 (pos n))
+unfolding inFloat
+float-in n h = le→leb n (2 ^ 24) h
+
+-- ---- the two ways of each function
+module _ (coef : Float) (side : ℕ) {r : Float} {t : ℕ} (p : r ≡ roundOf (mul binary32 (float side) coef)) (q : t ≡ toUnsigned 64 r) where
+  pub scaled-low : t ≤ 1 → 1 ≡ scaledSide coef side
+  unfolding scaledSide
+  scaled-low l = let e : t ≡ toUnsigned 64 (roundOf (mul binary32 (float side) coef)) = q ∙ ap (toUnsigned 64) p in omega arith
+
+  pub scaled-high : 1 < t → t ≡ scaledSide coef side
+  unfolding scaledSide
+  scaled-high l = let e : t ≡ toUnsigned 64 (roundOf (mul binary32 (float side) coef)) = q ∙ ap (toUnsigned 64) p in omega arith
+
+pub work-full : (g : Sides) (res l : ℕ) → l ≡ max (g .w) (g .h) → l ≤ res → g ≡ workSize (g .w) (g .h) res
+unfolding workSize
+work-full g res l e h = rw (le-leb (max (g .w) (g .h)) res (omega arith))
+
+pub work-scaled : (w h res l a b : ℕ) → l ≡ max w h → res < l → a ≡ scaledSide (div binary32 (float res) (float l)) w → b ≡ scaledSide (div binary32 (float res) (float l)) h
+    → record { w = a; h = b } ≡ workSize w h res
+unfolding workSize
+work-scaled w h res l a b e r p q = rw (lt-leb (max w h) res (omega arith), ← e, p, q)

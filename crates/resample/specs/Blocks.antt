@@ -8,7 +8,8 @@ use mathlib.Core.List.{List}
 use lib.ListN.{length, getD}
 use lib.Dec.{eqb, ltb}
 use lib.Ieee.{Float, nan, binary32, ofBits, add, div}
-use Rattle.answers.specs.Outcome.{Outcome, gives, refused, refusedAt}
+use Rattle.answers.specs.Outcome.{Outcome, gives, refused, refusedAt, answerOf}
+use Rattle.answers.specs.declared.Answer.{Answer}
 use Rattle.lists.specs.Loops.{tabulate}
 use Rattle.grid.specs.Sides.{badSides}
 use Rattle.grid.specs.Heights.{firstNotFinite, allFinite}
@@ -60,12 +61,16 @@ downsampled src w h dw dh = tabulate (dw * dh) (λ c. averageOf src w h dw dh (c
 abbrev pub badReduced : ℕ → ℕ → Bool
 badReduced reduced side = eqb reduced 0 || ltb side reduced
 
--- 1: a side; 2: a reduced side; 3: a length; 5: a height; else `then`. `number` and `at` say what a refusal gives
+-- 1: a side; 2: a reduced side; 3: a length, of the full map or of the reduced one; else `then`. `number` says what a refusal gives
+abbrev pub shapeRefusal : {A : Type 0} → ℕ → ℕ → ℕ → ℕ → ℕ → ℕ → (ℕ → A) → A → A
+shapeRefusal w h len dw dh dlen number then =
+    cond (badSides w h) (number 1)
+    (cond (badReduced dw w || badReduced dh h) (number 2) (cond (not (eqb len (w * h)) || not (eqb dlen (dw * dh))) (number 3) then))
+
+-- then 5: a height; `at` says what a refusal with its cell gives
 abbrev pub downsampleRefusal : {A : Type 0} → List Float → ℕ → ℕ → ℕ → ℕ → ℕ → (ℕ → A) → (ℕ → ℕ → A) → A → A
 downsampleRefusal src w h len dw dh number at then =
-    cond (badSides w h) (number 1)
-    (cond (badReduced dw w || badReduced dh h) (number 2)
-    (cond (not (eqb (length src) (w * h)) || not (eqb len (dw * dh))) (number 3) (cond (allFinite src) then (at 5 (firstNotFinite src)))))
+    shapeRefusal w h (length src) dw dh len number (cond (allFinite src) then (at 5 (firstNotFinite src)))
 
 -- then 22: an average not finite
 abbrev pub downsampleAnswer : List Float → ℕ → ℕ → ℕ → ℕ → ℕ → Outcome (Unit {0})
@@ -76,3 +81,8 @@ downsampleAnswer src w h len dw dh =
 abbrev pub downsampleResult : List Float → ℕ → ℕ → List Float → ℕ → ℕ → List Float
 downsampleResult src w h dst dw dh =
     downsampleRefusal src w h (length dst) dw dh (λ n. dst) (λ n c. dst) (downsampled src w h dw dh)
+
+-- what `downsample` promises of its answer r and of what the result slice then holds
+pub record Downsampled (src : List Float) (w h : ℕ) (dst : List Float) (dw dh : ℕ) (r : Answer) (after : List Float) : Type 0 where
+  pub answer : answerOf r ≡ downsampleAnswer src w h (length dst) dw dh
+  pub result : after ≡ downsampleResult src w h dst dw dh

@@ -1,18 +1,20 @@
 -- `bilinear` and `add_upsampled`.
 use Prim.Native.Nat.{ℕ, _+_, _-_, _*_, _/_, _%_}
+use mathlib.Core.Path.{_≡_}
 use mathlib.Core.Bool.{Bool, not, _&&_, _||_, cond}
 use mathlib.Core.List.{List}
 use lib.ListN.{length, getD}
 use lib.Dec.{eqb, ltb}
 use lib.Ieee.{Float, nan, binary32, ofBits, add, sub, mul, div, lt, le}
 use lib.Ieee.Scale.{finite}
-use Rattle.answers.specs.Outcome.{Outcome, gives, refused, refusedAt}
+use Rattle.answers.specs.Outcome.{Outcome, gives, refused, refusedAt, answerOf}
+use Rattle.answers.specs.declared.Answer.{Answer}
 use Rattle.floats.specs.Stand.{maxOf, fractOf, indexOf}
 use Rattle.lists.specs.Loops.{tabulate}
 use Rattle.grid.specs.Sides.{badSides}
 use Rattle.grid.specs.Heights.{firstNotFinite, allFinite}
 use Rattle.resample.specs.WorkSize.{float}
-use Rattle.resample.specs.Blocks.{badReduced}
+use Rattle.resample.specs.Blocks.{shapeRefusal}
 
 -- How a sample past the far edge is taken. `asSource`: the south-east sample is the north-west one as soon as either far edge is reached; the
 -- north-east one is it at the east edge, the south-west one at the south edge.
@@ -48,34 +50,41 @@ bilinearOf kind v w h x y =
 abbrev pub badCoordinate : Float → ℕ → Bool
 badCoordinate x side = not (le (ofBits binary32 0) x && lt x (float side))
 
--- 1: a side; 3: the length; 4: a coordinate; 5: a value not finite; then 22: the sample not finite
+-- 1: a side; 3: the length; 4: a coordinate; 5: a value not finite; else `then`
+abbrev pub bilinearRefusal : {A : Type 0} → List Float → Float → Float → ℕ → ℕ → (ℕ → A) → (ℕ → ℕ → A) → A → A
+bilinearRefusal v x y w h number at then =
+    cond (badSides w h) (number 1)
+    (cond (not (eqb (length v) (w * h))) (number 3)
+    (cond (badCoordinate x w || badCoordinate y h) (number 4) (cond (allFinite v) then (at 5 (firstNotFinite v)))))
+
+-- then 22: the sample not finite
 abbrev pub bilinearAnswer : List Float → Float → Float → ℕ → ℕ → Outcome Float
 bilinearAnswer v x y w h =
-    cond (badSides w h) (refused 1)
-    (cond (not (eqb (length v) (w * h))) (refused 3)
-    (cond (badCoordinate x w || badCoordinate y h) (refused 4)
-    (cond (allFinite v) (cond (finite (bilinearOf asSource v w h x y)) (gives (bilinearOf asSource v w h x y)) (refused 22)) (refusedAt 5 (firstNotFinite v)))))
+    bilinearRefusal v x y w h refused refusedAt (cond (finite (bilinearOf asSource v w h x y)) (gives (bilinearOf asSource v w h x y)) (refused 22))
 
--- where the centre of column (or row) x of a side lies on the reduced one: max((x + 0.5) × (reduced / side) - 0.5, 0)
+-- where the centre of column (or row) x of a side lies on the reduced one: max((x + 0.5) × coef - 0.5, 0), where coef is reduced / side
+abbrev pub centreBy : Float → ℕ → Float
+centreBy coef x =
+    maxOf (sub binary32 (mul binary32 (add binary32 (float x) (ofBits binary32 0x3f00_0000)) coef) (ofBits binary32 0x3f00_0000)) (ofBits binary32 0)
+
 abbrev pub centreOf : ℕ → ℕ → ℕ → Float
-centreOf side reduced x =
-    maxOf
-    (sub binary32 (mul binary32 (add binary32 (float x) (ofBits binary32 0x3f00_0000)) (div binary32 (float reduced) (float side))) (ofBits binary32 0x3f00_0000))
-    (ofBits binary32 0)
+centreOf side reduced x = centreBy (div binary32 (float reduced) (float side)) x
+
+-- a height with the sample of `delta` at (u, v) added to it
+abbrev pub addedAt : FarEdge → Float → List Float → ℕ → ℕ → Float → Float → Float
+addedAt kind height delta dw dh u v = add binary32 height (bilinearOf kind delta dw dh u v)
 
 -- the map with the reduced grid `delta`, upsampled on cell centres, added to it
 unfoldable pub addedOf : FarEdge → List Float → ℕ → ℕ → List Float → ℕ → ℕ → List Float
 unfolding bilinearOf tabulate
 addedOf kind map w h delta dw dh =
-    tabulate (w * h) (λ c. add binary32 (getD map c nan) (bilinearOf kind delta dw dh (centreOf w dw (c % w)) (centreOf h dh (c / w))))
+    tabulate (w * h) (λ c. addedAt kind (getD map c nan) delta dw dh (centreOf w dw (c % w)) (centreOf h dh (c / w)))
 
 -- 1, 2, 3, 5 (the full grid first), else `then`
 abbrev pub addRefusal : {A : Type 0} → List Float → ℕ → ℕ → List Float → ℕ → ℕ → (ℕ → A) → (ℕ → ℕ → A) → A → A
 addRefusal map w h delta dw dh number at then =
-    cond (badSides w h) (number 1)
-    (cond (badReduced dw w || badReduced dh h) (number 2)
-    (cond (not (eqb (length map) (w * h)) || not (eqb (length delta) (dw * dh))) (number 3)
-    (cond (allFinite map) (cond (allFinite delta) then (at 5 (firstNotFinite delta))) (at 5 (firstNotFinite map)))))
+    shapeRefusal w h (length map) dw dh (length delta) number
+    (cond (allFinite map) (cond (allFinite delta) then (at 5 (firstNotFinite delta))) (at 5 (firstNotFinite map)))
 
 abbrev pub addAnswer : List Float → ℕ → ℕ → List Float → ℕ → ℕ → Outcome (Unit {0})
 addAnswer map w h delta dw dh =
@@ -85,3 +94,8 @@ addAnswer map w h delta dw dh =
 abbrev pub addHeights : List Float → ℕ → ℕ → List Float → ℕ → ℕ → List Float
 addHeights map w h delta dw dh =
     addRefusal map w h delta dw dh (λ n. map) (λ n c. map) (cond (allFinite (addedOf asSource map w h delta dw dh)) (addedOf asSource map w h delta dw dh) map)
+
+-- what `add_upsampled` promises of its answer r and of what the map then holds
+pub record Added (map : List Float) (w h : ℕ) (delta : List Float) (dw dh : ℕ) (r : Answer) (after : List Float) : Type 0 where
+  pub answer : answerOf r ≡ addAnswer map w h delta dw dh
+  pub heights : after ≡ addHeights map w h delta dw dh

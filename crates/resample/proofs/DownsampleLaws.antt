@@ -1,0 +1,29 @@
+-- Each way out of `downsample` keeps its promise.
+use Prim.Native.Nat.{ℕ}
+use mathlib.Core.Path.{_≡_, refl, sym, _∙_, ap}
+use mathlib.Core.Bool.{Bool, true, false, cond}
+use mathlib.Core.List.{List}
+use lib.ListN.{length}
+use lib.Ieee.{Float}
+use Rattle.answers.specs.Outcome.{Outcome, gives, refused, refusedAt, answerOf}
+use Rattle.answers.specs.declared.Answer.{Answer}
+use Rattle.answers.specs.declared.Refusal.{Refusal}
+use Rattle.grid.specs.Heights.{firstNotFinite, allFinite}
+use Rattle.resample.specs.Blocks.{shapeRefusal, downsampled, Downsampled}
+use Rattle.resample.proofs.RefusalLaws.{Shaped, shape-refused}
+
+module _ {src dst : List Float} {w h dw dh : ℕ} where
+  pub down-refused : (a : Answer) (r : Refusal) → answerOf a ≡ shapeRefusal w h (length src) dw dh (length dst) refused (gives tt) → a ≡ Answer.Refused r
+      → Downsampled src w h dst dw dh a dst
+  down-refused a r e f = let p = shape-refused w h (length src) dw dh (length dst) a r e f in record { answer = p .0 _; result = p .1 dst _ }
+
+  module _ (s : Shaped w h (length src) dw dh (length dst)) where
+    pub down-height : (c : ℕ) → c ≡ firstNotFinite src → allFinite src ≡ false → Downsampled src w h dst dw dh (Answer.Refused (Refusal.Height c)) dst
+    down-height c f e = record { answer = rw (s .sides, s .reduced, s .lengths, e, f); result = rw (s .sides, s .reduced, s .lengths, e) }
+
+    module _ (e : allFinite src ≡ true) (after : List Float) (f : after ≡ downsampled src w h dw dh) where
+      pub down-run-off : allFinite after ≡ false → Downsampled src w h dst dw dh (Answer.Refused Refusal.RunOff) after
+      down-run-off g = record { answer = rw (s .sides, s .reduced, s .lengths, e, ← f, g); result = rw (s .sides, s .reduced, s .lengths, e) f }
+
+      pub down-done : allFinite after ≡ true → Downsampled src w h dst dw dh Answer.Done after
+      down-done g = record { answer = rw (s .sides, s .reduced, s .lengths, e, ← f, g); result = rw (s .sides, s .reduced, s .lengths, e) f }
