@@ -3,10 +3,10 @@ use Prim.Native.Nat.{ℕ, _+_, _*_, _%_, _/_, _≤_, _<_}
 use mathlib.Core.Path.{_≡_, ap, ap₂, _∙_}
 use mathlib.Core.List.{List}
 use native.Mathlib.Omega.{arith}
-use lib.ListN.{length, set}
+use lib.ListN.{length, getD, set}
 use lib.Ieee.{Float}
 use Rattle.lists.specs.Loops.{tabulate}
-use Rattle.lists.proofs.TableLaws.{filled, filled-none, filled-length, filled-more, filled-done}
+use Rattle.lists.proofs.TableLaws.{filled, filled-none, filled-length, filled-more, filled-done, filled-ahead}
 use Rattle.resample.specs.Blocks.{averageOf, downsampled}
 
 -- the slice `old` after i stores is `now`
@@ -26,6 +26,10 @@ module _ {f : ℕ → Float} {i : ℕ} {old now : List Float} (p : Filling f i o
     held = ap₂ (λ (d : List Float) (x : Float). set d i x) (p .held) e ∙ filled-more f i old l;
     within = omega arith;
   }
+
+  -- the next place still holds what it held
+  pub filling-next : (d : Float) → getD now i d ≡ getD old i d
+  filling-next d = ap (λ (l : List Float). getD l i d) (p .held) ∙ filled-ahead f i i old d (omega arith)
 
   pub filling-done : (n : ℕ) → length old ≡ n → n ≤ i → now ≡ tabulate n f
   filling-done n e l =

@@ -1,5 +1,4 @@
--- Document 01, 'Resampling': the working sides, the block average, the bilinear sample and the sum.
+-- Document 01, 'Resampling': the working sides and the block average.
 pub mod WorkSize
 pub mod Blocks
-pub mod Samples
 pub mod Places

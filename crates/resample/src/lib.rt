@@ -1,26 +1,17 @@
-// The source's resample.rs: the working grid of a reduced run, the block average onto it, and the bilinear way back.
+// The source's resample.rs as far as the reduced grid: its sides, and the block average onto it. The way back is the crate `upsample`.
 use answers::Answer;
 use answers::Refusal;
-use answers::Value;
-use floats::fract;
-use floats::index;
-use floats::is_finite;
-use floats::max;
 use floats::round;
 use floats::to_u64;
 use grid::Sides;
 ghost use mathlib.Core.Path.{_≡_};
-ghost use mathlib.Core.Bool.{false, not, _||_};
+ghost use mathlib.Core.Bool.{not, _||_};
 ghost use Prim.Native.Nat.{_+_, _*_, _<_, _≤_, max as greatest};
 ghost use lib.ListN.{length};
 ghost use lib.Dec.{eqb};
-ghost use Rattle.answers.specs.Outcome.{gives, refused, refusedAt, answerOf, valueOf};
-ghost use Rattle.grid.specs.Sides.{badSides};
-ghost use Rattle.grid.specs.Directions.{Place};
-ghost use Rattle.grid.specs.Heights.{allFinite};
+ghost use Rattle.answers.specs.Outcome.{gives, refused, answerOf};
 ghost use Rattle.resample.specs.WorkSize.{Within, scaledSide, workSize, workOf, workAnswer};
 ghost use Rattle.resample.specs.Blocks.{firstOf, rowSum, blockSum, averageOf, downsampled, badReduced, shapeRefusal, Downsampled};
-ghost use Rattle.resample.specs.Samples.{asSource, northEast, southWest, southEast, between, bilinearOf, badCoordinate, bilinearAnswer, centreBy, addedAt, addedOf, Added};
 ghost use Rattle.resample.specs.Places.{Block, Part};
 
 // The working sides, or the refusal of a bad side.
@@ -157,7 +148,7 @@ fn bad_reduced(dsize: Sides, size: Sides) -> bool
 }
 
 // Refusal 3: whether a slice of this length is not the grid's.
-fn bad_length(len: usize, size: Sides) -> bool
+pub fn bad_length(len: usize, size: Sides) -> bool
     requires { ⌜ size .w ≤ 4096 ⌝ }
     requires { ⌜ size .h ≤ 4096 ⌝ }
     ensures { λ r. ⌜ r ≡ not (eqb len (size .w * size .h)) ⌝ }
@@ -166,7 +157,7 @@ fn bad_length(len: usize, size: Sides) -> bool
 }
 
 // 1, 2 and 3, of a full map of len values and a reduced one of dlen.
-fn shape_refusal(size: Sides, len: usize, dsize: Sides, dlen: usize) -> Answer
+pub fn shape_refusal(size: Sides, len: usize, dsize: Sides, dlen: usize) -> Answer
     ensures { λ r. ⌜ answerOf r ≡ shapeRefusal (size .w) (size .h) len (dsize .w) (dsize .h) dlen refused (gives tt) ⌝ }
 {
     if bad_sides(size) {

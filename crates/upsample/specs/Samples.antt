@@ -35,16 +35,18 @@ southEast asSource w h x y = cond (ltb x (w - 1) && ltb y (h - 1)) (x + 1 + (y +
 abbrev pub between : Float → Float → Float → Float
 between d a b = add binary32 (mul binary32 (sub binary32 (ofBits binary32 0x3f80_0000) d) a) (mul binary32 d b)
 
--- the sample at column x, row y, both in cells
-unfoldable pub bilinearOf : FarEdge → List Float → ℕ → ℕ → Float → Float → Float
-bilinearOf kind v w h x y =
-    let ix = indexOf w x in
-    let iy = indexOf h y in
+-- the sample at column ix, row iy, with dx and dy of the way to the next ones
+abbrev pub bilinearAt : FarEdge → List Float → ℕ → ℕ → ℕ → Float → ℕ → Float → Float
+bilinearAt kind v w h ix dx iy dy =
     let nw = getD v (ix + iy * w) nan in
     let ne = getD v (northEast kind w h ix iy) nan in
     let sw = getD v (southWest kind w h ix iy) nan in
     let se = getD v (southEast kind w h ix iy) nan in
-    between (fractOf y) (between (fractOf x) nw ne) (between (fractOf x) sw se)
+    between dy (between dx nw ne) (between dx sw se)
+
+-- the sample at column x, row y, both in cells
+unfoldable pub bilinearOf : FarEdge → List Float → ℕ → ℕ → Float → Float → Float
+bilinearOf kind v w h x y = bilinearAt kind v w h (indexOf w x) (fractOf x) (indexOf h y) (fractOf y)
 
 -- a sample coordinate: from 0 to below its side
 abbrev pub badCoordinate : Float → ℕ → Bool
@@ -70,15 +72,23 @@ centreBy coef x =
 abbrev pub centreOf : ℕ → ℕ → ℕ → Float
 centreOf side reduced x = centreBy (div binary32 (float reduced) (float side)) x
 
--- a height with the sample of `delta` at (u, v) added to it
-abbrev pub addedAt : FarEdge → Float → List Float → ℕ → ℕ → Float → Float → Float
-addedAt kind height delta dw dh u v = add binary32 height (bilinearOf kind delta dw dh u v)
+-- a height with the sample of `delta` at column u added to it, in row iy and dy of the way to the next
+abbrev pub addedIn : FarEdge → Float → List Float → ℕ → ℕ → Float → ℕ → Float → Float
+addedIn kind height delta dw dh u iy dy = add binary32 height (bilinearAt kind delta dw dh (indexOf dw u) (fractOf u) iy dy)
 
--- the map with the reduced grid `delta`, upsampled on cell centres, added to it
+-- a row with the samples of `delta` added to it; `coef` is that of the columns, and the row's centre lies at v
+unfoldable pub addedRow : FarEdge → List Float → Float → List Float → ℕ → ℕ → Float → List Float
+unfolding tabulate
+addedRow kind row coef delta dw dh v =
+    tabulate (length row) (λ x. addedIn kind (getD row x nan) delta dw dh (centreBy coef x) (indexOf dh v) (fractOf v))
+
+-- cell c of the map with the reduced grid `delta`, upsampled on cell centres, added to it
+abbrev pub addedAt : FarEdge → List Float → ℕ → ℕ → List Float → ℕ → ℕ → ℕ → Float
+addedAt kind map w h delta dw dh c = add binary32 (getD map c nan) (bilinearOf kind delta dw dh (centreOf w dw (c % w)) (centreOf h dh (c / w)))
+
 unfoldable pub addedOf : FarEdge → List Float → ℕ → ℕ → List Float → ℕ → ℕ → List Float
 unfolding bilinearOf tabulate
-addedOf kind map w h delta dw dh =
-    tabulate (w * h) (λ c. addedAt kind (getD map c nan) delta dw dh (centreOf w dw (c % w)) (centreOf h dh (c / w)))
+addedOf kind map w h delta dw dh = tabulate (w * h) (addedAt kind map w h delta dw dh)
 
 -- 1, 2, 3, 5 (the full grid first), else `then`
 abbrev pub addRefusal : {A : Type 0} → List Float → ℕ → ℕ → List Float → ℕ → ℕ → (ℕ → A) → (ℕ → ℕ → A) → A → A

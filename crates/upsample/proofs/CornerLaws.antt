@@ -1,0 +1,72 @@
+-- The four samples around a cell lie within the grid, and are small enough to be worked out.
+use Prim.Native.Nat.{ℕ, _+_, _-_, _*_, _^_, _≤_, _<_}
+use mathlib.Core.Path.{_≡_, refl, ap, ap₂, _∙_}
+use mathlib.Core.Bool.{Bool, true, false, not, cond, _&&_}
+use mathlib.Core.List.{List}
+use native.Mathlib.Nat.{mul-comm, mul-le-mul-right}
+use native.Mathlib.Omega.{arith}
+use lib.ListN.{getD}
+use lib.Dec.{eqb, ltb}
+use lib.Ieee.{Float, nan}
+use borrow.Author.Tests.{ltb-true, eqb-true, not-false}
+use Rattle.floats.specs.Stand.{indexOf}
+use Rattle.grid.specs.Sides.{badSide, badSides}
+use Rattle.grid.specs.Directions.{Place}
+use Rattle.grid.proofs.SidesLaws.{cells-bound}
+use Rattle.resample.proofs.RefusalLaws.{neither, side-good}
+use Rattle.upsample.specs.Places.{Grid}
+use Rattle.upsample.specs.Samples.{asSource, northEast, southWest, southEast, between, bilinearAt}
+
+-- row y ends within the grid
+rows : (w h y : ℕ) → y < h → y * w + w ≤ w * h
+rows w h y l = let m : (y + 1) * w ≤ h * w = mul-le-mul-right w (omega arith) in omega (arith, mul-comm w h)
+
+pub place-fits : {w h x y : ℕ} → Place w h x y → (y * w + w ≤ w * h) × (w * h ≤ 2 ^ 24)
+place-fits {w} {h} {x} {y} p = (rows w h y (p .row), cells-bound w h (p .wide) (p .high))
+
+module _ {w h x y : ℕ} (p : Place w h x y) where
+  pub nw-in : x + y * w < w * h
+  nw-in = omega (arith, p .column, place-fits p)
+
+  pub ne-in : northEast asSource w h x y < w * h
+  ne-in = go (ltb x (w - 1)) (ltb-true x (w - 1))
+    where
+      go : (b : Bool) → (b ≡ true → x < w - 1) → cond b (x + 1 + y * w) (x + y * w) < w * h
+      go true l = omega (arith, l refl, place-fits p)
+      go false l = nw-in
+
+  pub sw-in : southWest asSource w h x y < w * h
+  sw-in = go (ltb y (h - 1)) (ltb-true y (h - 1))
+    where
+      go : (b : Bool) → (b ≡ true → y < h - 1) → cond b (x + (y + 1) * w) (x + y * w) < w * h
+      go true l = let m : y < h - 1 = l refl in omega (arith, p .column, rows w h (y + 1) (omega arith))
+      go false l = nw-in
+
+  pub se-in : southEast asSource w h x y < w * h
+  se-in = go (ltb x (w - 1)) (ltb y (h - 1)) (ltb-true x (w - 1)) (ltb-true y (h - 1))
+    where
+      go : (a b : Bool) → (a ≡ true → x < w - 1) → (b ≡ true → y < h - 1) → cond (a && b) (x + 1 + (y + 1) * w) (x + y * w) < w * h
+      go true true l m = let n : y < h - 1 = m refl in omega (arith, l refl, rows w h (y + 1) (omega arith))
+      go true false l m = nw-in
+      go false b l m = nw-in
+
+-- the sample from its corners
+pub sample-is : (v : List Float) (w h x y : ℕ) (dx dy : Float) {ne sw se : ℕ} {n s r : Float}
+    → ne ≡ northEast asSource w h x y → sw ≡ southWest asSource w h x y → se ≡ southEast asSource w h x y
+    → n ≡ between dx (getD v (x + y * w) nan) (getD v ne nan) → s ≡ between dx (getD v sw nan) (getD v se nan) → r ≡ between dy n s
+    → r ≡ bilinearAt asSource v w h x dx y dy
+sample-is v w h x y dx dy a b c d e f =
+    f ∙ ap₂ (between dy) (d ∙ ap (λ (k : ℕ). between dx (getD v (x + y * w) nan) (getD v k nan)) a) (e ∙ ap₂ (λ (k l : ℕ). between dx (getD v k nan) (getD v l nan)) b c)
+
+-- an index of a side lies within it
+pub index-in : (side : ℕ) (x : Float) {i : ℕ} → i ≡ indexOf side x → 1 ≤ side → i < side
+index-in side x e l = omega arith
+
+-- row y of a grid lies within its values, which are few
+pub grid-row : {w h len y : ℕ} → Grid w h len → y < h → (y * w + w ≤ len) × (len ≤ 2 ^ 24)
+grid-row {w} {h} {len} {y} g l = omega (arith, rows w h y l, cells-bound w h (g .w-high) (g .h-high), g .size)
+
+pub grid-good : (w h len : ℕ) → badSides w h ≡ false → not (eqb len (w * h)) ≡ false → Grid w h len
+grid-good w h len e f =
+    let p = neither (badSide w) (badSide h) e in
+    omega (arith, side-good w (p .0), side-good h (p .1), eqb-true len (w * h) (not-false (eqb len (w * h)) f))

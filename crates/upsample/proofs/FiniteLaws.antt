@@ -1,0 +1,93 @@
+-- Values f 0, f 1, … that are all finite, as a loop finds them so, and `allFinite` of their list.
+use Prim.Native.Nat.{ℕ, zero, suc, _+_, _-_, _*_, _≤_, _<_}
+use mathlib.Core.Path.{_≡_, refl, sym, ap, _∙_, subst}
+use mathlib.Core.Logic.{inl, inr}
+use mathlib.Core.Bool.{Bool, true, false, true≢false, cond}
+use mathlib.Core.List.{List, [], _∷_}
+use native.Mathlib.Nat.{mul-comm, mul-le-mul-right, eq-or-lt-of-le}
+use native.Mathlib.Decide.{decLt}
+use native.Mathlib.Omega.{arith}
+use lib.ListN.{length, getD}
+use lib.Ieee.{Float, nan}
+use lib.Ieee.Scale.{finite}
+use borrow.Author.Tests.{eq-eqb, eqb-true}
+use Rattle.lists.specs.Loops.{tabulate}
+use Rattle.lists.proofs.TableLaws.{length-tabulate, getD-tabulate}
+use Rattle.grid.specs.Heights.{firstNotFinite, allFinite, FiniteBelow}
+use Rattle.grid.proofs.HeightsLaws.{first-none}
+
+pub record Finites (f : ℕ → Float) (n : ℕ) : Type 0 where
+  pub each : (k : ℕ) → k < n → finite (f k) ≡ true
+
+pub finites-none : {f : ℕ → Float} → Finites f 0
+finites-none = record { each = λ k l. absurd (omega arith) }
+
+pub finites-start : {f : ℕ → Float} (w : ℕ) → Finites f (0 * w)
+finites-start w = record { each = λ k l. absurd (omega arith) }
+
+pub finites-more : {f : ℕ → Float} {i : ℕ} → Finites f i → finite (f i) ≡ true → Finites f (i + 1)
+finites-more {f} {i} p e = record { each = λ k l. go k l (decLt k i) }
+  where
+    go : (k : ℕ) → k < i + 1 → Dec (k < i) → finite (f k) ≡ true
+    go k l (yes q) = p .each k q
+    go k l (no q) = let same : k ≡ i = omega arith in ap (λ (j : ℕ). finite (f j)) same ∙ e
+
+-- what comes before the first bad cell is finite
+first-below : (hs : List Float) (i : ℕ) → i < firstNotFinite hs → finite (getD hs i nan) ≡ true
+unfolding firstNotFinite
+first-below [] i l = absurd (omega arith)
+first-below (x ∷ xs) i l = go (λ k. first-below xs k) (finite x) refl i l
+  where
+    go : ((k : ℕ) → k < firstNotFinite xs → finite (getD xs k nan) ≡ true) → (b : Bool) → finite x ≡ b → (i : ℕ) → i < cond b (suc (firstNotFinite xs)) 0
+        → finite (getD (x ∷ xs) i nan) ≡ true
+    go r true e zero l = e
+    go r true e (suc i) l = r i (omega arith)
+    go r false e i l = absurd (omega arith)
+
+module _ (f : ℕ → Float) (n : ℕ) where
+  pub finites-all : Finites f n → allFinite (tabulate n f) ≡ true
+  unfolding allFinite
+  finites-all p =
+      eq-eqb (firstNotFinite (tabulate n f)) (length (tabulate n f)) (first-none (tabulate n f) (record { each = λ i l.
+      let h : i < n = subst (λ (k : ℕ). i < k) (length-tabulate f n) l in ap finite (getD-tabulate f n i nan h) ∙ p .each i h }))
+
+  pub finites-back : allFinite (tabulate n f) ≡ true → Finites f n
+  unfolding allFinite
+  finites-back e = record { each = λ k l.
+    let q : firstNotFinite (tabulate n f) ≡ length (tabulate n f) = eqb-true (firstNotFinite (tabulate n f)) (length (tabulate n f)) e in
+    ap finite (sym (getD-tabulate f n k nan l)) ∙ first-below (tabulate n f) k (omega (arith, length-tabulate f n)) }
+
+  pub finites-not : (i : ℕ) → i < n → finite (f i) ≡ false → allFinite (tabulate n f) ≡ false
+  finites-not i l e = go (allFinite (tabulate n f)) refl
+    where
+      go : (b : Bool) → allFinite (tabulate n f) ≡ b → b ≡ false
+      go true q = absurd (true≢false (sym (finites-back q .each i l) ∙ e))
+      go false q = refl
+
+-- row by row, w values each
+module _ (f : ℕ → Float) (w h y : ℕ) (l : y < h) where
+  rows : y * w + w ≤ w * h
+  rows = let m : (y + 1) * w ≤ h * w = mul-le-mul-right w (omega arith) in omega (arith, mul-comm w h)
+
+  pub row-more : Finites f (y * w) → allFinite (tabulate w (λ x. f (y * w + x))) ≡ true → Finites f ((y + 1) * w)
+  row-more p e = record { each = λ k q. go k q (decLt k (y * w)) }
+    where
+      go : (k : ℕ) → k < (y + 1) * w → Dec (k < y * w) → finite (f k) ≡ true
+      go k q (yes b) = p .each k b
+      go k q (no b) =
+          let s : y * w + (k - y * w) ≡ k = omega arith in
+          subst (λ (j : ℕ). finite (f j) ≡ true) s (finites-back (λ x. f (y * w + x)) w e .each (k - y * w) (omega arith))
+
+  pub row-not : allFinite (tabulate w (λ x. f (y * w + x))) ≡ false → allFinite (tabulate (w * h) f) ≡ false
+  row-not e = go (allFinite (tabulate (w * h) f)) refl
+    where
+      go : (b : Bool) → allFinite (tabulate (w * h) f) ≡ b → b ≡ false
+      go true q =
+          absurd (true≢false (sym (finites-all (λ x. f (y * w + x)) w
+          (record { each = λ k m. finites-back f (w * h) q .each (y * w + k) (omega (arith, rows)) })) ∙ e))
+      go false q = refl
+
+pub rows-all : (f : ℕ → Float) (w h y : ℕ) → Finites f (y * w) → y ≤ h → h ≤ y → allFinite (tabulate (w * h) f) ≡ true
+rows-all f w h y p l m =
+    let e : y ≡ h = omega arith in
+    finites-all f (w * h) (subst (Finites f) (ap (λ (k : ℕ). k * w) e ∙ mul-comm h w) p)
