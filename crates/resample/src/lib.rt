@@ -41,7 +41,10 @@ pub fn work_sides(size: Sides, max_res: u32) -> Sides
         return size;
     }
     let coef = res as f32 / longest as f32;
-    Sides { w: scaled_side(size.w, coef), h: scaled_side(size.h, coef) }
+    Sides {
+        w: scaled_side(size.w, coef),
+        h: scaled_side(size.h, coef),
+    }
 }
 
 fn longest_of(size: Sides) -> usize

@@ -48,14 +48,18 @@ module _ (f : ℕ → Float) (n : ℕ) where
   pub finites-all : Finites f n → allFinite (tabulate n f) ≡ true
   unfolding allFinite
   finites-all p =
-      eq-eqb (firstNotFinite (tabulate n f)) (length (tabulate n f)) (first-none (tabulate n f) (record { each = λ i l.
-      let h : i < n = subst (λ (k : ℕ). i < k) (length-tabulate f n) l in ap finite (getD-tabulate f n i nan h) ∙ p .each i h }))
+      eq-eqb (firstNotFinite (tabulate n f)) (length (tabulate n f)) (first-none (tabulate n f) (record {
+        each = λ i l.
+            let h : i < n = subst (λ (k : ℕ). i < k) (length-tabulate f n) l in ap finite (getD-tabulate f n i nan h) ∙ p .each i h;
+      }))
 
   pub finites-back : allFinite (tabulate n f) ≡ true → Finites f n
   unfolding allFinite
-  finites-back e = record { each = λ k l.
-    let q : firstNotFinite (tabulate n f) ≡ length (tabulate n f) = eqb-true (firstNotFinite (tabulate n f)) (length (tabulate n f)) e in
-    ap finite (sym (getD-tabulate f n k nan l)) ∙ first-below (tabulate n f) k (omega (arith, length-tabulate f n)) }
+  finites-back e = record {
+    each = λ k l.
+        let q : firstNotFinite (tabulate n f) ≡ length (tabulate n f) = eqb-true (firstNotFinite (tabulate n f)) (length (tabulate n f)) e in
+        ap finite (sym (getD-tabulate f n k nan l)) ∙ first-below (tabulate n f) k (omega (arith, length-tabulate f n));
+  }
 
   pub finites-not : (i : ℕ) → i < n → finite (f i) ≡ false → allFinite (tabulate n f) ≡ false
   finites-not i l e = go (allFinite (tabulate n f)) refl

@@ -2,3 +2,4 @@
 pub mod CornerLaws
 pub mod FiniteLaws
 pub mod RowLaws
+pub mod AddLaws

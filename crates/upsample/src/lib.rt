@@ -12,7 +12,6 @@ use grid::bad_sides;
 use grid::first_not_finite;
 use resample::bad_length;
 use resample::shape_refusal;
-
 ghost use mathlib.Core.Path.{_≡_};
 ghost use Prim.Native.Nat.{_*_, _<_, _≤_};
 ghost use lib.ListN.{length};
@@ -84,7 +83,14 @@ pub fn sample(v: &[f32], x: f32, y: f32, size: Sides) -> f32
     requires { ⌜ Grid (size .w) (size .h) (length (now v)) ⌝ }
     ensures { λ r. ⌜ r ≡ bilinearOf asSource (now (v .entry)) (size .w) (size .h) x y ⌝ }
 {
-    sample_at(v, size, index(x, size.w), fract(x), index(y, size.h), fract(y))
+    sample_at(
+        v,
+        size,
+        index(x, size.w),
+        fract(x),
+        index(y, size.h),
+        fract(y),
+    )
 }
 
 // Refusal 4: whether a sample coordinate is not from 0 to below its side.

@@ -82,10 +82,12 @@ loop-less c = omega arith
 
 -- src/lib.rt:215:5
 loop-again : tie.Need-loop-again Inv-loop μ-loop
-loop-again c = 
-    let a = c .before .before .before .before .before .before .before .before .before .before .before .before .before .args in
-    (rows-more (now (a .map)) (a .size .w) (a .size .h) (now (a .delta)) (a .dsize .w) (a .dsize .h) (c .before .before .before .before .before .before .loop .y) (grid-row (c .before .before .before .before .before .before .before .before .before .before .before .before .before .pre .0) (c .before .before .before .before .before .loop-test .taken) .0) (c .before .before .before .before .before .before .loop .inv .0)
-    (c .before .before .before .before .centre .ensures) (c .before .before .add-row .ensures), omega arith)
+loop-again c =
+    let a = c .before .before .before .before .before .before .before .before .before .before .before .before .before .args in (
+      rows-more (now (a .map)) (a .size .w) (a .size .h) (now (a .delta)) (a .dsize .w) (a .dsize .h) (c .before .before .before .before .before .before .loop .y) (grid-row (c .before .before .before .before .before .before .before .before .before .before .before .before .before .pre .0) (c .before .before .before .before .before .loop-test .taken) .0) (c .before .before .before .before .before .before .loop .inv .0)
+          (c .before .before .before .before .centre .ensures) (c .before .before .add-row .ensures),
+      omega arith,
+    )
 
 -- src/lib.rt:205:1
 same-length : tie.Need-same-length Inv-loop μ-loop

@@ -63,7 +63,7 @@ loop-less c = omega arith
 
 -- src/lib.rt:174:5
 loop-again : tie.Need-loop-again Inv-loop μ-loop
-loop-again c = 
+loop-again c =
     let a = c .before .before .before .before .before .before .before .before .args in
     filling-more (c .before .before .before .loop .inv) (row-next (now (a .row)) (a .coef) (now (a .delta)) (a .dsize .w) (a .dsize .h) (a .v) (c .before .before .before .loop .inv) (c .before .before .before .before .before .index .ensures) (c .before .before .before .before .fract .ensures) (c .added .ensures))
     (c .before .before .loop-test .taken)

@@ -56,7 +56,7 @@ is-finite-requires c κs = tt
 -- src/lib.rt:157:13
 returns : tie.Need-returns Inv-loop μ-loop
 unfolding addedRow
-returns c = 
+returns c =
     let a = c .before .before .before .before .before .before .before .before .before .before .args in
     sym (finites-not _ _ _ (c .before .before .before .before .loop-test .taken) (ap finite (sym (row-value _ (a .coef) (now (a .delta)) (a .dsize .w) (a .dsize .h) (a .v) _ (c .before .before .before .before .before .before .before .index .ensures) (c .before .before .before .before .before .before .fract .ensures) (c .before .before .added .ensures))) ∙ sym (c .before .is-finite .ensures) ∙ not-true _ (c .if1 .taken)))
 
@@ -70,7 +70,7 @@ loop-less c = omega arith
 
 -- src/lib.rt:155:5
 loop-again : tie.Need-loop-again Inv-loop μ-loop
-loop-again c = 
+loop-again c =
     let a = c .before .before .before .before .before .before .before .before .before .before .args in
     (finites-more (c .before .before .before .before .before .loop .inv .0) (ap finite (sym (row-value _ (a .coef) (now (a .delta)) (a .dsize .w) (a .dsize .h) (a .v) _ (c .before .before .before .before .before .before .before .index .ensures) (c .before .before .before .before .before .before .fract .ensures) (c .before .before .added .ensures))) ∙ sym (c .before .is-finite .ensures) ∙ not-false _ (c .if1 .left)), omega arith)
 

@@ -78,7 +78,7 @@ mixed-requires-3 c κs = search needs
 
 -- src/lib.rt:69:1
 returns : tie.Need-returns
-returns c = 
+returns c =
     let a = c .before .before .before .before .before .before .before .before .before .before .before .before .args in
     sample-is (now (a .v)) (a .size .w) (a .size .h) (a .x) (a .y) (a .dx) (a .dy) (c .before .before .before .before .before .before .before .before .north-east .ensures) (c .before .before .before .before .before .before .south-west .ensures) (c .before .before .before .before .south-east .ensures)
     (c .before .before .mixed .ensures) (c .before .mixed2 .ensures) (c .mixed3 .ensures)

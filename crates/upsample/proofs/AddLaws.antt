@@ -1,0 +1,43 @@
+-- Each way out of `add_upsampled` keeps its promise.
+use Prim.Native.Nat.{ℕ, _*_, _≤_}
+use mathlib.Core.Path.{_≡_, refl, sym, _∙_, ap}
+use mathlib.Core.Bool.{Bool, true, false, cond}
+use mathlib.Core.List.{List}
+use native.Mathlib.Omega.{arith}
+use lib.ListN.{length}
+use lib.Ieee.{Float}
+use Rattle.answers.specs.Outcome.{Outcome, gives, refused, refusedAt, answerOf}
+use Rattle.answers.specs.declared.Answer.{Answer}
+use Rattle.answers.specs.declared.Refusal.{Refusal}
+use Rattle.grid.specs.Heights.{firstNotFinite, allFinite}
+use Rattle.resample.specs.Blocks.{shapeRefusal}
+use Rattle.resample.proofs.RefusalLaws.{Shaped, shape-refused}
+use Rattle.upsample.specs.Places.{Grid}
+use Rattle.upsample.specs.Samples.{asSource, addedOf, Added}
+
+pub full-grid : {w h len dw dh dlen : ℕ} → Shaped w h len dw dh dlen → Grid w h len
+full-grid s = omega (arith, s .in-grid, s .full)
+
+pub small-grid : {w h len dw dh dlen : ℕ} → Shaped w h len dw dh dlen → Grid dw dh dlen
+small-grid s = omega (arith, s .in-grid, s .small)
+
+module _ {map delta : List Float} {w h dw dh : ℕ} where
+  pub add-refused : (a : Answer) (r : Refusal) → answerOf a ≡ shapeRefusal w h (length map) dw dh (length delta) refused (gives tt) → a ≡ Answer.Refused r
+      → Added map w h delta dw dh a map
+  add-refused a r e f = let p = shape-refused w h (length map) dw dh (length delta) a r e f in record { answer = p .0 _; heights = p .1 map _ }
+
+  module _ (s : Shaped w h (length map) dw dh (length delta)) where
+    pub add-height : (c : ℕ) → c ≡ firstNotFinite map → allFinite map ≡ false → Added map w h delta dw dh (Answer.Refused (Refusal.Height c)) map
+    add-height c f e = record { answer = rw (s .sides, s .reduced, s .lengths, e, f); heights = rw (s .sides, s .reduced, s .lengths, e) }
+
+    module _ (e : allFinite map ≡ true) where
+      pub add-small : (c : ℕ) → c ≡ firstNotFinite delta → allFinite delta ≡ false → Added map w h delta dw dh (Answer.Refused (Refusal.Height c)) map
+      add-small c f g = record { answer = rw (s .sides, s .reduced, s .lengths, e, g, f); heights = rw (s .sides, s .reduced, s .lengths, e, g) }
+
+      module _ (g : allFinite delta ≡ true) where
+        pub add-run-off : allFinite (addedOf asSource map w h delta dw dh) ≡ false → Added map w h delta dw dh (Answer.Refused Refusal.RunOff) map
+        add-run-off q = record { answer = rw (s .sides, s .reduced, s .lengths, e, g, q); heights = rw (s .sides, s .reduced, s .lengths, e, g, q) }
+
+        pub add-done : allFinite (addedOf asSource map w h delta dw dh) ≡ true → (after : List Float) → after ≡ addedOf asSource map w h delta dw dh
+            → Added map w h delta dw dh Answer.Done after
+        add-done q after f = record { answer = rw (s .sides, s .reduced, s .lengths, e, g, q); heights = rw (s .sides, s .reduced, s .lengths, e, g, q) f }
