@@ -1,0 +1,2 @@
+-- Laws of the heap.
+pub mod HeapLaws
