@@ -1,2 +1,3 @@
 -- Laws of the heap.
 pub mod HeapLaws
+pub mod RoomLaws

@@ -1,0 +1,4 @@
+-- Laws of the flood on slices.
+pub mod StartLaws
+pub mod StepLaws
+pub mod RunLaws

@@ -1,0 +1,129 @@
+-- Laws of the first state: rows of marks are the list of marks, and the waiting cells gathered are the queue.
+use Prim.Native.Nat.{ℕ, zero, suc, _+_, _*_, _≤_, _<_}
+use mathlib.Core.Path.{_≡_, refl, sym, ap, ap₂, _∙_, subst}
+use mathlib.Core.Bool.{Bool, true, false, _||_, cond}
+use mathlib.Core.Logic.{inl, inr}
+use mathlib.Core.List.{List, [], _∷_}
+use native.Mathlib.Nat.{mul-comm}
+use native.Mathlib.Omega.{arith}
+use lib.ListN.{length, getD, set, take, List·getD-eq-default}
+use lib.Ieee.{Float, nan, le}
+use Rattle.lists.specs.Loops.{turns, tabulate}
+use Rattle.lists.proofs.TurnLaws.{turns-none, turns-more}
+use Rattle.lists.proofs.TableLaws.{filled, filled-none, filled-more, filled-done, filled-length}
+use Rattle.grid.specs.Sides.{cellOf}
+use Rattle.grid.specs.Base.{onBorder, baseOf}
+use Rattle.grid.proofs.SidesLaws.{cell-lt}
+use Rattle.grid.proofs.BaseLaws.{base-cell}
+use Rattle.drainage.specs.Ground.{floats, gridGround}
+use Rattle.drainage.specs.Flood.{start}
+use Rattle.drainage.specs.Ways.{one, times}
+use Rattle.drainage.proofs.TallyLaws.{same-or-not, one-same, one-other}
+use Rattle.heap.specs.Queue.{placeOf, within, Heap, Pushed}
+use Rattle.flood.specs.Slices.{stateOf, markOf, rowMarked, Queued, Gathered, Started}
+
+-- a list filled from the front, one store more, and filled
+module _ {A : Type 0} (f : ℕ → A) (old l : List A) (i : ℕ) (e : l ≡ filled f i old) where
+  pub stored-more : (v : A) → i < length old → v ≡ f i → set l i v ≡ filled f (i + 1) old
+  stored-more v h s = ap₂ (λ t x. set t i x) e s ∙ filled-more f i old h
+
+  pub stored-done : i ≤ length old → length old ≤ i → l ≡ tabulate (length old) f
+  stored-done a b =
+      let all : i ≡ length old = omega arith in
+      e ∙ ap (λ i. filled f i old) all ∙ filled-done f (length old) old refl
+
+module _ (w h : ℕ) (hs : List Float) (water : Float) where
+  -- the marks of a row, one more
+  pub row-more :
+      (y x : ℕ) (l l′ : List ℕ) (v : ℕ) → l ≡ rowMarked w h hs water y x l′ → v ≡ markOf w h x y (getD hs (cellOf w x y) nan) water
+      → set l (cellOf w x y) v ≡ rowMarked w h hs water y (x + 1) l′
+  row-more y x l l′ v e s = ap₂ (λ t m. set t (cellOf w x y) m) e s ∙ sym (turns-more _ x l′)
+
+  abbrev pub marks : ℕ → ℕ
+  marks c = cond (baseOf w h water hs c) 1 0
+
+  -- the first x cells of a row, after the rows above it
+  row-filled : (y : ℕ) → y < h → (old : List ℕ) → length old ≡ w * h → (x : ℕ) → x ≤ w → rowMarked w h hs water y x (filled marks (y * w) old) ≡ filled marks (x + y * w) old
+  unfolding turns
+  row-filled y m old e zero l = let z : y * w ≡ 0 + y * w = omega arith in ap (λ i. filled marks i old) z
+  row-filled y m old e (suc x) l =
+      ap₂ (λ t v. set t (cellOf w x y) v) (row-filled y m old e x (omega arith)) (ap (λ b. cond b 1 0) (base-cell w h x y water hs l))
+      ∙ filled-more marks (x + y * w) old (omega (arith, cell-lt w x y l h m))
+      ∙ ap (λ i. filled marks i old) next
+    where
+      next : x + y * w + 1 ≡ suc x + y * w
+      next = omega arith
+
+  -- one row more
+  pub rows-more :
+      (y : ℕ) → y < h → (old l l′ : List ℕ) → length old ≡ w * h → l ≡ filled marks (y * w) old → l′ ≡ rowMarked w h hs water y w l
+      → l′ ≡ filled marks ((y + 1) * w) old
+  rows-more y m old l l′ n e f =
+      let next : w + y * w ≡ (y + 1) * w = omega arith in
+      f ∙ ap (rowMarked w h hs water y w) e ∙ row-filled y m old n w (omega arith) ∙ ap (λ i. filled marks i old) next
+
+  pub rows-none : (old : List ℕ) → old ≡ filled marks (0 * w) old
+  rows-none old = filled-none marks old ∙ (let z : 0 ≡ 0 * w = omega arith in ap (λ i. filled marks i old) z)
+
+  pub rows-done : (y : ℕ) → y ≤ h → h ≤ y → (old l : List ℕ) → length old ≡ w * h → l ≡ filled marks (y * w) old → l ≡ tabulate (w * h) marks
+  rows-done y a b old l n e =
+      let all : y ≡ h = omega arith in
+      e ∙ ap (λ y. filled marks (y * w) old) all ∙ filled-done marks (h * w) old (n ∙ mul-comm w h) ∙ ap (λ n. tabulate n marks) (mul-comm h w)
+
+module _ (status : List ℕ) (spill : List Float) where
+  pub gathered-none : (queue : List ℕ) → Gathered status spill 0 0 queue
+  unfolding times
+  gathered-none queue = record {
+    heap = record {
+      room = omega arith;
+      cells = λ k l. let z : ⊥ = omega arith in absurd z;
+      ordered = λ k p l. let z : ⊥ = omega arith in absurd z;
+    };
+    below = λ c l. let z : ⊥ = omega arith in absurd z;
+    above = λ c l. refl;
+    few = omega arith;
+  }
+
+  module _ (c len : ℕ) (queue queue′ : List ℕ) (g : Gathered status spill c len queue) where
+    -- a waiting cell joins
+    pub gathered-more : getD status c 0 ≡ 1 → Pushed (placeOf spill) (length spill) len queue c queue′ → Gathered status spill (c + 1) (len + 1) queue′
+    gathered-more e p = record {
+      heap = p .heap;
+      below = λ b l. p .cells b ∙ elim (same-or-not c b) [
+        | inl z ↦ omega (arith, g .above b (omega arith), one-same c b z, one-same (getD status b 0) 1 (ap (λ i. getD status i 0) (sym z) ∙ e))
+        | inr z ↦ omega (arith, g .below b (omega arith), one-other c b z)
+      ];
+      above = λ b l. p .cells b ∙ omega (arith, g .above b (omega arith), one-other c b (omega arith));
+      few = omega (arith, g .few);
+    }
+
+    -- another does not
+    pub gathered-less : (getD status c 0 ≡ 1 → ⊥) → Gathered status spill (c + 1) len queue
+    gathered-less d = record {
+      heap = g .heap;
+      below = λ b l. elim (same-or-not b c) [
+        | inl z ↦ g .above b (omega arith) ∙ sym (one-other (getD status b 0) 1 (λ e. d (ap (λ i. getD status i 0) (sym z) ∙ e)))
+        | inr z ↦ g .below b (omega arith)
+      ];
+      above = λ b l. g .above b (omega arith);
+      few = omega (arith, g .few);
+    }
+
+  pub gathered-done : (i len : ℕ) (queue : List ℕ) → length status ≤ i → Gathered status spill i len queue → Queued status spill len queue
+  gathered-done i len queue n g = record {
+    heap = g .heap;
+    cells = λ c. elim (native.Mathlib.Decide.decLt c i) [
+      | yes l ↦ g .below c l
+      | no l ↦ g .above c (omega arith) ∙ sym (one-other (getD status c 0) 1 (outside c (omega arith)))
+    ];
+  }
+    where
+      outside : (c : ℕ) → length status ≤ c → getD status c 0 ≡ 1 → ⊥
+      outside c l e = omega (arith, List·getD-eq-default status 0 {n = c} l)
+
+pub started :
+    (w h : ℕ) (water : Float) (hs : List Float) (len : ℕ) (status : List ℕ) (spill : List Float) (recv queue : List ℕ)
+    → status ≡ tabulate (w * h) (marks w h hs water) → spill ≡ hs → recv ≡ tabulate (w * h) (λ c. c) → Queued status spill len queue
+    → Started w h water hs len status spill recv queue
+unfolding start
+started w h water hs len status spill recv queue a b c q = record { state = λ i. stateOf (a i) (b i) (c i) []; queued = q }

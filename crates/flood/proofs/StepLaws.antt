@@ -1,0 +1,150 @@
+-- Laws of a step: a push, the pushes of a leaver, and a cell's leaving.
+use Prim.Native.Nat.{ℕ, zero, suc, _+_, _-_, _*_, _^_, _≤_, _<_}
+use mathlib.Core.Path.{_≡_, refl, sym, ap, ap₂, _∙_, subst}
+use mathlib.Core.Bool.{Bool, true, false, cond}
+use mathlib.Core.Logic.{inl, inr}
+use mathlib.Core.List.{List, [], _∷_, _++_}
+use native.Mathlib.Nat.{le-of-eq}
+use native.Mathlib.Numerals.{add-one}
+use native.Mathlib.Omega.{arith}
+use lib.ListN.{length, getD, set, take, length-set, List·getD-eq-default}
+use lib.Seq.{getD-set-same, getD-set-other, take-suc-set, take-all, take-set-le}
+use lib.Dec.{eqb}
+use lib.Ieee.{Float, nan}
+use borrow.Author.Tests.{eq-eqb, ne-eqb, eqb-true}
+use Rattle.lists.specs.Loops.{turns}
+use Rattle.lists.proofs.TurnLaws.{turns-none, turns-more}
+use Rattle.floats.specs.Stand.{maxOf}
+use Rattle.grid.specs.Sides.{columnOf, rowOf}
+use Rattle.grid.specs.Directions.{neighbourOf, neighbourAt}
+use Rattle.drainage.specs.Ground.{Ground, floats, gridGround}
+use Rattle.drainage.specs.Flood.{Flood, push, pushAll, leave, place, waits, leastWaiting, step, floodAfter, flooded}
+use Rattle.drainage.specs.Ways.{one, times}
+use Rattle.drainage.proofs.TallyLaws.{same-or-not, one-same, one-other, one-bound, one-eq}
+use Rattle.drainage.proofs.KeptLaws.{getD-inside, pushedTo, floodAfter-none, floodAfter-more}
+use Rattle.drainage.proofs.FloodLaws.{Stage, step-leaves, leastWaiting-is, leastWaiting-found}
+use Rattle.heap.specs.Queue.{placeOf, within, Heap, Pushed, Popped}
+use Rattle.heap.proofs.RoomLaws.{heap-same, heap-room}
+use Rattle.flood.specs.Slices.{stateOf, Sizes, Queued, Reached, ReachedAll}
+
+-- lists of the same lengths
+pub sizes-kept :
+    {n : ℕ} {hs : List Float} {status status′ : List ℕ} {spill spill′ : List Float} {recv recv′ queue queue′ : List ℕ}
+    → Sizes n hs status spill recv queue → length status′ ≡ length status → length spill′ ≡ length spill → length recv′ ≡ length recv
+    → length queue′ ≡ length queue → Sizes n hs status′ spill′ recv′ queue′
+sizes-kept s a b c d = record {
+  few = s .few;
+  heights = s .heights;
+  statuses = a ∙ s .statuses;
+  spills = b ∙ s .spills;
+  finders = c ∙ s .finders;
+  room = omega (arith, s .room);
+}
+
+pub sizes-whole : {n : ℕ} {hs : List Float} {status : List ℕ} {spill : List Float} {recv queue : List ℕ} → Sizes n hs status spill recv queue → Sizes (length hs) hs status spill recv queue
+sizes-whole {hs} {status} {spill} {recv} {queue} s = subst (λ n. Sizes n hs status spill recv queue) (sym (s .heights)) s
+
+module _ (status : List ℕ) (spill : List Float) (len : ℕ) (queue : List ℕ) (q : Queued status spill len queue) (m : ℕ) (e : getD status m 0 ≡ 0) where
+  none : within m len queue ≡ 0
+  none = q .cells m ∙ one-other (getD status m 0) 1 (λ z. unlike z)
+    where
+      unlike : getD status m 0 ≡ 1 → ⊥
+      unlike z = omega arith
+
+  -- a cell that does not wait has room in the queue, and its spill height is not looked at there
+  pub has-room : m < length spill → len < length spill
+  has-room l = heap-room (placeOf spill) (length spill) len queue (q .heap) (λ c. omega (arith, q .cells c, one-bound (getD status c 0) 1)) m l none
+
+  pub respilled : (spill′ : List Float) (x : Float) → spill′ ≡ set spill m x → Heap (placeOf spill′) (length spill′) len queue
+  respilled spill′ x f =
+      subst (λ n. Heap (placeOf spill′) n len queue) (sym (ap length f ∙ length-set spill m x))
+      (heap-same (placeOf spill) (placeOf spill′) (length spill) len queue (q .heap) same)
+    where
+      same : (c : ℕ) → 0 < within c len queue → placeOf spill c ≡ placeOf spill′ c
+      same c p = elim (same-or-not c m) [
+        | inl z ↦ let no : ⊥ = omega (arith, ap (λ c. within c len queue) z, none) in absurd no
+        | inr z ↦ ap (λ (y : Float). Rattle.floats.specs.Key.keyOf y * 2 ^ 32 + c) (sym (ap (λ t. getD t c nan) f ∙ getD-set-other spill m c x nan z))
+      ]
+
+module _ (hs : List Float) (c m : ℕ) (status : List ℕ) (spill : List Float) (recv : List ℕ) (len : ℕ) (queue : List ℕ) (q : Queued status spill len queue) where
+  stays : (getD status m 1 ≡ 0 → ⊥) → Reached hs c m status spill recv len status spill recv queue
+  stays d = record {
+    state = λ g order.
+        sym (ap (λ b. cond b (Rattle.drainage.specs.Flood.pushed floats g hs c m (stateOf status spill recv order)) (stateOf status spill recv order)) (ne-eqb (getD status m 1) 0 d));
+    queued = q;
+  }
+
+  -- outside the grid, or pushed already
+  pub reached-none : length status ≤ m → Reached hs c m status spill recv len status spill recv queue
+  reached-none l = stays unlike
+    where
+      unlike : getD status m 1 ≡ 0 → ⊥
+      unlike z = omega (arith, List·getD-eq-default status 1 {n = m} l)
+
+  pub reached-old : m < length status → (getD status m 0 ≡ 0 → ⊥) → Reached hs c m status spill recv len status spill recv queue
+  reached-old l d = stays (λ z. d (getD-inside status m 0 1 l ∙ z))
+
+  pub reached-new :
+      m < length status → getD status m 0 ≡ 0 → (status′ : List ℕ) (spill′ : List Float) (recv′ queue′ : List ℕ) → status′ ≡ set status m 1
+      → (x : Float) → x ≡ maxOf (getD hs m nan) (getD spill c nan) → spill′ ≡ set spill m x → recv′ ≡ set recv m c
+      → Pushed (placeOf spill′) (length spill′) len queue m queue′ → Reached hs c m status spill recv (len + 1) status′ spill′ recv′ queue′
+  reached-new l e status′ spill′ recv′ queue′ a x r s f p = record {
+    state = λ g order.
+        (λ i. stateOf (a i) ((s ∙ ap (set spill m) r) i) (f i) order)
+        ∙ sym (ap (λ t. cond t (Rattle.drainage.specs.Flood.pushed floats g hs c m (stateOf status spill recv order)) (stateOf status spill recv order)) (eq-eqb (getD status m 1) 0 (getD-inside status m 1 0 l ∙ e)));
+    queued = record {
+      heap = p .heap;
+      cells = λ j. p .cells j ∙ elim (same-or-not m j) [
+        | inl z ↦
+            omega (
+              arith,
+              q .cells j,
+              one-same m j z,
+              one-other (getD status j 0) 1 (unlike (ap (λ i. getD status i 0) (sym z) ∙ e)),
+              one-same (getD status′ j 0) 1 (ap (λ t. getD t j 0) a ∙ ap (λ i. getD (set status m 1) i 0) (sym z) ∙ getD-set-same status m 1 0 l),
+            )
+        | inr z ↦
+            omega (arith, q .cells j, one-other m j z, ap (λ v. one v 1) (ap (λ t. getD t j 0) a ∙ getD-set-other status m j 1 0 (λ y. z (sym y))))
+      ];
+    };
+  }
+    where
+      unlike : {v : ℕ} → v ≡ 0 → v ≡ 1 → ⊥
+      unlike z y = omega arith
+
+-- cell c has reached its neighbours in the first d directions
+pub record ReachedTo (w h : ℕ) (hs : List Float) (c d : ℕ) (status : List ℕ) (spill : List Float) (recv : List ℕ) (len : ℕ) (status′ : List ℕ)
+    (spill′ : List Float) (recv′ queue′ : List ℕ) : Type 0 where
+  pub state :
+      (water : Float) (order : List ℕ) → stateOf status′ spill′ recv′ order ≡ pushedTo floats (gridGround w h water hs) hs c d (stateOf status spill recv order)
+  pub queued : Queued status′ spill′ len queue′
+
+module _ (w h : ℕ) (hs : List Float) (c : ℕ) (status : List ℕ) (spill : List Float) (recv : List ℕ) where
+  pub reached-start : (len : ℕ) (queue : List ℕ) → Queued status spill len queue → ReachedTo w h hs c 0 status spill recv len status spill recv queue
+  reached-start len queue q = record { state = λ water order. sym (turns-none _ (stateOf status spill recv order)); queued = q }
+
+  module _ (len₁ : ℕ) (status₁ : List ℕ) (spill₁ : List Float) (recv₁ queue₁ : List ℕ) where
+    pub reached-more :
+        (d m len₂ : ℕ) (status₂ : List ℕ) (spill₂ : List Float) (recv₂ queue₂ : List ℕ)
+        → ReachedTo w h hs c d status spill recv len₁ status₁ spill₁ recv₁ queue₁ → m ≡ neighbourOf w h (columnOf w c) (rowOf w c) (d + 1)
+        → Reached hs c m status₁ spill₁ recv₁ len₂ status₂ spill₂ recv₂ queue₂
+        → ReachedTo w h hs c (d + 1) status spill recv len₂ status₂ spill₂ recv₂ queue₂
+    reached-more d m len₂ status₂ spill₂ recv₂ queue₂ r e s = record {
+      state = λ water order.
+          s .state (gridGround w h water hs) order
+          ∙ ap₂ (λ m t. push floats (gridGround w h water hs) hs c m t) (e ∙ ap (neighbourAt w h c) (add-one d)) (r .state water order)
+          ∙ sym (turns-more (λ i. push floats (gridGround w h water hs) hs c (neighbourAt w h c (suc i))) d (stateOf status spill recv order));
+      queued = s .queued;
+    }
+
+    pub reached-done :
+        (d : ℕ) → d ≤ 8 → 8 ≤ d → ReachedTo w h hs c d status spill recv len₁ status₁ spill₁ recv₁ queue₁
+        → ReachedAll w h hs c status spill recv len₁ status₁ spill₁ recv₁ queue₁
+    unfolding pushAll
+    reached-done d a b r = record {
+      state = λ water order. r .state water order ∙ ap (λ d. pushedTo floats (gridGround w h water hs) hs c d (stateOf status spill recv order)) all;
+      queued = r .queued;
+    }
+      where
+        all : d ≡ 8
+        all = omega arith

@@ -1,0 +1,81 @@
+use Rattle.flood.proofs.StartLaws.{row-more}
+use Rattle.grid.specs.Sides.{cellOf}
+use Prim.Native.Nat.{_-_, _*_, _≤_, _<_}
+use native.Mathlib.Nat.{le-antisymm, mul-le-mul-right, mul-comm}
+use native.Mathlib.Omega.{arith}
+use mathlib.Core.Path.{_≡_, refl, sym, ap, ap₂, _∙_}
+use lib.ListN.{length, set, length-set}
+use Rattle.grid.proofs.SidesLaws.{cell-lt}
+use Rattle.lists.proofs.TurnLaws.{turns-none, turns-more}
+use Rattle.flood.specs.Slices.{rowMarked}
+use Rattle.flood.proofs.mark_row.Statement.{statement}
+use Rattle.flood.proofs.mark_row.Tie as tie
+
+abbrev Inv-loop : tie.InvT-loop
+Inv-loop g y h water status₀ w row x₀ status x = (x ≤ w) × (length status ≡ length status₀) × (status ≡ rowMarked (g .w) (g .h) h water y x status₀)
+
+abbrev μ-loop : tie.MeasureT-loop
+μ-loop g y h water status₀ w row x₀ status x = w - x
+
+inside : (c : tie.In-loop Inv-loop μ-loop) → cellOf (c .before .before .before .before .args .g .w) (c .before .loop .x) (c .before .before .before .before .args .y) < c .before .before .before .before .args .g .w * c .before .before .before .before .args .g .h
+inside c = cell-lt _ _ _ (c .loop-test .taken) _ (c .before .before .before .before .pre .0)
+
+mul-row : tie.Need-mul-row Inv-loop μ-loop
+mul-row c = omega (arith, c .before .before .pre .1 .0, mul-le-mul-right (c .before .before .args .g .w) (c .before .before .pre .0), mul-comm (c .before .before .args .g .w) (c .before .before .args .g .h))
+
+loop-holds : tie.Need-loop-holds Inv-loop μ-loop
+loop-holds c = (omega arith, refl, sym (turns-none _ _))
+
+add-c : tie.Need-add-c Inv-loop μ-loop
+add-c c = omega (arith, inside c)
+
+mul-mark : tie.Need-mul-mark Inv-loop μ-loop
+mul-mark c = omega (arith, inside c)
+
+shared-slice-read-mark : tie.Need-shared-slice-read-mark Inv-loop μ-loop
+shared-slice-read-mark c = omega (arith, inside (c .before))
+
+mark-requires : tie.Need-mark-requires Inv-loop μ-loop
+mark-requires c κs = tt
+
+slice-write-status : tie.Need-slice-write-status Inv-loop μ-loop
+slice-write-status c = omega (arith, inside (c .before .before))
+
+add-x : tie.Need-add-x Inv-loop μ-loop
+add-x c = omega arith
+
+loop-less : tie.Need-loop-less Inv-loop μ-loop
+loop-less c = omega arith
+
+loop-again : tie.Need-loop-again Inv-loop μ-loop
+loop-again c =
+    let a = c .before .before .before .before .before .before .args in
+    (omega arith, simp length-set (c .before .before .before .loop .inv .1), row-more (a .g .w) (a .g .h) (a .h .now) (a .water) (a .y) _ _ _ _ (c .before .before .before .loop .inv .2) (c .mark .ensures))
+
+same-length : tie.Need-same-length Inv-loop μ-loop
+same-length c = c .before .loop .inv .1
+
+returns : tie.Need-returns Inv-loop μ-loop
+returns c =
+    let a = c .before .before .before .before .args in
+    let all : c .before .loop .x ≡ a .g .w = omega arith in
+    c .before .loop .inv .2 ∙ ap (λ x. rowMarked (a .g .w) (a .g .h) (a .h .now) (a .water) (a .y) x (a .status .now)) all
+
+pub mark-row-spec : {M : Type 1} → statement M
+mark-row-spec =
+    tie.close
+    (tie.spec
+    Inv-loop
+    μ-loop
+    mul-row
+    loop-holds
+    add-c
+    mul-mark
+    shared-slice-read-mark
+    mark-requires
+    slice-write-status
+    add-x
+    loop-less
+    loop-again
+    same-length
+    returns)

@@ -1,0 +1,103 @@
+use native.Mathlib.Omega.{arith}
+use mathlib.Core.Path.{refl, sym, ap, _∙_}
+use lib.ListN.{set, length-set}
+use Rattle.flood.proofs.StepLaws.{has-room, respilled, reached-none, reached-old, reached-new}
+use borrow.Author.Needs.{needs}
+use Rattle.flood.proofs.reach.Statement.{statement}
+use Rattle.flood.proofs.reach.Tie as tie
+
+returns : tie.Need-returns
+returns c = reached-none _ _ _ _ _ _ _ _ (c .before .before .before .before .before .before .pre .1 .0) (c .if1 .taken)
+
+slice-read-if2 : tie.Need-slice-read-if2
+slice-read-if2 c = search needs
+
+returns-2 : tie.Need-returns-2
+returns-2 c = reached-old _ _ _ _ _ _ _ _ (c .before .before .before .before .before .before .before .before .pre .1 .0) (c .before .before .if1 .left) (c .if2 .taken)
+
+slice-write-status : tie.Need-slice-write-status
+slice-write-status c = search needs
+
+mul-max : tie.Need-mul-max
+mul-max c = search needs
+
+shared-slice-read-max : tie.Need-shared-slice-read-max
+shared-slice-read-max c = search needs
+
+mul-max-2 : tie.Need-mul-max-2
+mul-max-2 c = search needs
+
+slice-read-max : tie.Need-slice-read-max
+slice-read-max c = search needs
+
+max-requires : tie.Need-max-requires
+max-requires c κs = search needs
+
+mul-spill : tie.Need-mul-spill
+mul-spill c = search needs
+
+slice-write-spill : tie.Need-slice-write-spill
+slice-write-spill c = search needs
+
+cast-recv : tie.Need-cast-recv
+cast-recv c = search needs
+
+mul-recv : tie.Need-mul-recv
+mul-recv c = search needs
+
+slice-write-recv : tie.Need-slice-write-recv
+slice-write-recv c = search needs
+
+cast-push : tie.Need-cast-push
+cast-push c = search needs
+
+push-requires : tie.Need-push-requires
+push-requires c κs =
+    let q = c .before .before .before .before .before .before .before .before .before .before .before .before .before .pre .1 .0 in
+    let s = c .before .before .before .before .before .before .before .before .before .before .before .before .before .pre .0 in
+    (respilled _ _ _ _ q _ (c .before .before .before .before .before .if2 .left) _ _ refl, (omega (arith, has-room _ _ _ _ q _ (c .before .before .before .before .before .if2 .left) (omega arith)), rw length-set (omega arith)))
+
+add-result : tie.Need-add-result
+add-result c = search needs
+
+same-length : tie.Need-same-length
+same-length c = search needs
+
+same-length-2 : tie.Need-same-length-2
+same-length-2 c = search needs
+
+same-length-3 : tie.Need-same-length-3
+same-length-3 c = search needs
+
+same-length-4 : tie.Need-same-length-4
+same-length-4 c = search needs
+
+returns-3 : tie.Need-returns-3
+returns-3 c = reached-new _ _ _ _ _ _ _ _ (c .before .before .before .before .before .before .before .before .before .before .before .before .before .before .before .before .pre .1 .0) (c .before .before .before .before .before .before .before .before .before .before .if1 .left) (c .before .before .before .before .before .before .before .before .if2 .left) _ _ _ _ refl _ (c .before .before .before .before .before .max .ensures) refl refl (c .before .before .push .ensures)
+
+pub reach-spec : {M : Type 1} → statement M
+reach-spec =
+    tie.close
+    (tie.spec
+    returns
+    slice-read-if2
+    returns-2
+    slice-write-status
+    mul-max
+    shared-slice-read-max
+    mul-max-2
+    slice-read-max
+    max-requires
+    mul-spill
+    slice-write-spill
+    cast-recv
+    mul-recv
+    slice-write-recv
+    cast-push
+    push-requires
+    add-result
+    same-length
+    same-length-2
+    same-length-3
+    same-length-4
+    returns-3)
