@@ -18,7 +18,7 @@ unfolding countBelow
 count-same zero p q h = refl
 count-same (suc m) p q h = ap₂ (λ (b : Bool) (k : ℕ). cond b 1 0 + k) (h m (omega arith)) (count-same m p q (λ j l. h j (omega arith)))
 
-bit-le : (b : Bool) → bit b ≤ 1
+pub bit-le : (b : Bool) → bit b ≤ 1
 bit-le true = omega arith
 bit-le false = omega arith
 

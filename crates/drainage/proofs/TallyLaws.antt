@@ -7,9 +7,10 @@ use mathlib.Core.List.{List, [], _∷_, _++_, head-eq-of-cons-eq, tail-eq-of-con
 use native.Mathlib.Nat.{eq-or-lt-of-le, le-of-suc-le-suc}
 use native.Mathlib.Decide.{ℕ-discrete, decLt}
 use native.Mathlib.Omega.{arith}
+use lib.Dec.{eqb}
 use borrow.Author.Tests.{eq-eqb, ne-eqb}
 use Rattle.drainage.specs.Ways.{one, times, countBelow}
-use Rattle.drainage.proofs.CountLaws.{bit, count-same, count-le, count-or, times-append}
+use Rattle.drainage.proofs.CountLaws.{bit-le, bit, count-same, count-le, count-or, times-append}
 
 pub same-or-not : (a b : ℕ) → (a ≡ b) ⊎ (a ≡ b → ⊥)
 same-or-not a b = elim (ℕ-discrete a b) [ yes e ↦ inl e | no d ↦ inr d ]
@@ -32,6 +33,9 @@ one-same a b e = ap (λ t. cond t 1 0) (eq-eqb a b e)
 
 pub one-other : (a b : ℕ) → (a ≡ b → ⊥) → one a b ≡ 0
 one-other a b d = ap (λ t. cond t 1 0) (ne-eqb a b d)
+
+pub one-bound : (a b : ℕ) → one a b ≤ 1
+one-bound a b = bit-le (eqb a b)
 
 pub one-eq : (a b : ℕ) → 0 < one a b → a ≡ b
 one-eq a b h = elim (same-or-not a b) [ inl e ↦ e | inr d ↦ absurd (none (one-other a b d)) ]

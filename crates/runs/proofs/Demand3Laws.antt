@@ -21,7 +21,7 @@ use Rattle.talus.proofs.TalusLaws.{row-length, row-fit}
 use Rattle.resample.specs.WorkSize.{workSize, Within}
 use Rattle.resample.specs.Blocks.{averageOf, downsampled}
 use Rattle.resample.proofs.WorkLaws.{work-within}
-use Rattle.resample.specs.Samples.{asSource}
+use Rattle.upsample.specs.Samples.{asSource}
 use Rattle.runs.specs.Plan.{fluvialPlan}
 use Rattle.runs.specs.Machine.{Course, State, after, steps, finished}
 use Rattle.runs.specs.Run.{Choice, ours, lent, orderOn, receiversOn, incisionBy, runBy, Ran, ranAs, addedBack}

@@ -1,4 +1,10 @@
+-- Theorems about whole runs: the flat machine and nested loops, plans, the sample run, and demand 3.
 pub mod SampleLaws
+pub mod PassLaws
+pub mod IterationLaws
+pub mod CourseLaws
+pub mod AskedLaws
+pub mod PlanLaws
 pub mod SameLaws
 pub mod SoundLaws
 pub mod CutLaws

@@ -18,7 +18,7 @@ use Rattle.fluvial_erosion.specs.declared.FluvialParams.{FluvialParams}
 use Rattle.talus.specs.Talus.{thresholdsOf}
 use Rattle.resample.specs.WorkSize.{workSize}
 use Rattle.resample.specs.Blocks.{downsampled}
-use Rattle.resample.specs.Samples.{FarEdge, asSource, addedOf}
+use Rattle.upsample.specs.Samples.{FarEdge, asSource, addedOf}
 use Rattle.runs.specs.Plan.{Plan, fluvialPlan, thermalPasses, thermalParams}
 use Rattle.runs.specs.Machine.{Course, State, finished}
 use Rattle.runs.specs.declared.FluvialSettings.{FluvialSettings}
