@@ -13,7 +13,7 @@ use Rattle.grid.specs.Heights.{allFinite}
 use Rattle.generators.specs.Marks.{reportOf}
 use Rattle.generators.specs.declared.Progress.{Progress}
 use Rattle.generators.proofs.MarksLaws.{report-asked-most}
-use Rattle.thermal_erosion.specs.Talus.{slideRow}
+use Rattle.talus.specs.Talus.{slideRow}
 use Rattle.thermal_erosion.specs.SlidePass as SlidePass
 use Rattle.thermal_erosion.specs.SlidePass.{Pass, fractionOf, rowsOf}
 use Rattle.runs.specs.Machine.{Course, State, start, endedBy, cut, openStep, slid, closed, rowStep, step, after, steps}
@@ -125,9 +125,13 @@ module _ (c : Course) (hs : List Float) where
 
   pub run-rows-asked : (it q r : ℕ) → it < c .iterations → q < c .passes → r ≤ c .h → rowsFrom c r (passesAfter c q (iterated c it hs)) .marks .asked ≤ steps c
   run-rows-asked it q r l k m =
-      omega
-      (arith, rows-asked c (passesAfter c q (iterated c it hs)) r, underway-asked it q, mul-le-mul-right (c .h) k,
-      mul-le-mul-right (suc (c .passes * c .h)) l)
+      omega (
+        arith,
+        rows-asked c (passesAfter c q (iterated c it hs)) r,
+        underway-asked it q,
+        mul-le-mul-right (c .h) k,
+        mul-le-mul-right (suc (c .passes * c .h)) l,
+      )
 
 -- the steps of document 01's runs
 product-within : (i p h a b d : ℕ) → i ≤ a → p ≤ b → h ≤ d → i * suc (p * h) ≤ a * suc (b * d)

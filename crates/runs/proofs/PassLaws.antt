@@ -13,7 +13,7 @@ use Rattle.grid.specs.Heights.{allFinite}
 use Rattle.generators.specs.Marks.{reportOf}
 use Rattle.generators.specs.declared.Progress.{Progress}
 use Rattle.generators.proofs.MarksLaws.{report-stopped, report-on}
-use Rattle.thermal_erosion.specs.Talus.{slideRow}
+use Rattle.talus.specs.Talus.{slideRow}
 use Rattle.thermal_erosion.specs.SlidePass as SlidePass
 use Rattle.thermal_erosion.specs.SlidePass.{Pass, fractionOf, rowsOf}
 use Rattle.runs.specs.Machine.{Course, State, endedBy, closed, rowStep, step}

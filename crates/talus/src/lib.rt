@@ -3,7 +3,6 @@
 use floats::max;
 use grid::Sides;
 use grid::neighbour;
-
 ghost use mathlib.Core.Path.{_≡_};
 ghost use Prim.Native.Nat.{suc, _+_, _*_, _<_, _≤_};
 ghost use lib.ListN.{length};
@@ -43,7 +42,16 @@ fn shed_at(ts: &[f32; 9], hmap: &[f32], c: usize, m: usize, d: usize, s: Shed) -
 }
 
 // Cell m's gain, if the excess of cell c toward it is counted.
-fn gain_at(ts: &[f32; 9], hmap: &[f32], out: &mut [f32], c: usize, m: usize, d: usize, moved: f32, total: f32)
+fn gain_at(
+    ts: &[f32; 9],
+    hmap: &[f32],
+    out: &mut [f32],
+    c: usize,
+    m: usize,
+    d: usize,
+    moved: f32,
+    total: f32,
+)
     requires { ⌜ length (now out) ≡ length (now hmap) ⌝ }
     requires { ⌜ c < length (now hmap) ⌝ }
     requires { ⌜ m < length (now hmap) ⌝ }
@@ -57,7 +65,16 @@ fn gain_at(ts: &[f32; 9], hmap: &[f32], out: &mut [f32], c: usize, m: usize, d: 
 }
 
 // Direction d, on any cell: outside the grid there is no neighbour.
-fn shed_toward(size: Sides, ts: &[f32; 9], hmap: &[f32], x: usize, y: usize, c: usize, d: usize, s: Shed) -> Shed
+fn shed_toward(
+    size: Sides,
+    ts: &[f32; 9],
+    hmap: &[f32],
+    x: usize,
+    y: usize,
+    c: usize,
+    d: usize,
+    s: Shed,
+) -> Shed
     requires { ⌜ CellAt (size .w) (size .h) (length (now hmap)) x y c ⌝ }
     requires { ⌜ d < 9 ⌝ }
     ensures { λ r. ⌜ r ≡ shedStep (size .w) (size .h) (now (ts .entry)) (now (hmap .entry)) c d s ⌝ }
@@ -69,7 +86,18 @@ fn shed_toward(size: Sides, ts: &[f32; 9], hmap: &[f32], x: usize, y: usize, c: 
     shed_at(ts, hmap, c, m, d, s)
 }
 
-fn gain_toward(size: Sides, ts: &[f32; 9], hmap: &[f32], out: &mut [f32], x: usize, y: usize, c: usize, d: usize, moved: f32, total: f32)
+fn gain_toward(
+    size: Sides,
+    ts: &[f32; 9],
+    hmap: &[f32],
+    out: &mut [f32],
+    x: usize,
+    y: usize,
+    c: usize,
+    d: usize,
+    moved: f32,
+    total: f32,
+)
     requires { ⌜ CellAt (size .w) (size .h) (length (now hmap)) x y c ⌝ }
     requires { ⌜ length (now out) ≡ length (now hmap) ⌝ }
     requires { ⌜ d < 9 ⌝ }
@@ -99,7 +127,17 @@ fn shed_around(size: Sides, ts: &[f32; 9], hmap: &[f32], x: usize, y: usize, c: 
 }
 
 // What the counted neighbours of a cell gain.
-fn gain_around(size: Sides, ts: &[f32; 9], hmap: &[f32], out: &mut [f32], x: usize, y: usize, c: usize, moved: f32, total: f32)
+fn gain_around(
+    size: Sides,
+    ts: &[f32; 9],
+    hmap: &[f32],
+    out: &mut [f32],
+    x: usize,
+    y: usize,
+    c: usize,
+    moved: f32,
+    total: f32,
+)
     requires { ⌜ CellAt (size .w) (size .h) (length (now hmap)) x y c ⌝ }
     requires { ⌜ length (now out) ≡ length (now hmap) ⌝ }
     ensures { λ _. ⌜ now (out .exit) ≡ gainsOf (size .w) (size .h) (now (ts .entry)) (now (hmap .entry)) c moved total (now (out .entry)) ⌝ }
@@ -112,7 +150,17 @@ fn gain_around(size: Sides, ts: &[f32; 9], hmap: &[f32], out: &mut [f32], x: usi
 }
 
 // One cell: below the water level, or with no excess, it sheds nothing.
-fn slide_cell(size: Sides, ts: &[f32; 9], hmap: &[f32], out: &mut [f32], strength: f32, water: f32, x: usize, y: usize, c: usize)
+fn slide_cell(
+    size: Sides,
+    ts: &[f32; 9],
+    hmap: &[f32],
+    out: &mut [f32],
+    strength: f32,
+    water: f32,
+    x: usize,
+    y: usize,
+    c: usize,
+)
     requires { ⌜ CellAt (size .w) (size .h) (length (now hmap)) x y c ⌝ }
     requires { ⌜ length (now out) ≡ length (now hmap) ⌝ }
     ensures { λ _. ⌜ now (out .exit) ≡ slideCell (size .w) (size .h) (now (ts .entry)) (now (hmap .entry)) strength water c (now (out .entry)) ⌝ }
@@ -130,7 +178,17 @@ fn slide_cell(size: Sides, ts: &[f32; 9], hmap: &[f32], out: &mut [f32], strengt
 }
 
 // The n cells of row y from column x on, from the west.
-fn slide_cells(size: Sides, ts: &[f32; 9], hmap: &[f32], out: &mut [f32], strength: f32, water: f32, y: usize, x: usize, n: usize)
+fn slide_cells(
+    size: Sides,
+    ts: &[f32; 9],
+    hmap: &[f32],
+    out: &mut [f32],
+    strength: f32,
+    water: f32,
+    y: usize,
+    x: usize,
+    n: usize,
+)
     requires { ⌜ InRow (size .w) (size .h) (length (now hmap)) y x n ⌝ }
     requires { ⌜ length (now out) ≡ length (now hmap) ⌝ }
     ensures { λ _. ⌜ now (out .exit) ≡ slideCells (size .w) (size .h) (now (ts .entry)) (now (hmap .entry)) strength water y x n (now (out .entry)) ⌝ }
@@ -138,13 +196,31 @@ fn slide_cells(size: Sides, ts: &[f32; 9], hmap: &[f32], out: &mut [f32], streng
     let w = size.w;
     let mut i: usize = 0;
     while i < n {
-        slide_cell(size, ts, hmap, out, strength, water, x + i, y, x + i + y * w);
+        slide_cell(
+            size,
+            ts,
+            hmap,
+            out,
+            strength,
+            water,
+            x + i,
+            y,
+            x + i + y * w,
+        );
         i += 1;
     }
 }
 
 // One row, from the west.
-pub fn slide_row(size: Sides, ts: &[f32; 9], hmap: &[f32], out: &mut [f32], strength: f32, water: f32, y: usize)
+pub fn slide_row(
+    size: Sides,
+    ts: &[f32; 9],
+    hmap: &[f32],
+    out: &mut [f32],
+    strength: f32,
+    water: f32,
+    y: usize,
+)
     requires { ⌜ InRow (size .w) (size .h) (length (now hmap)) y 0 (size .w) ⌝ }
     requires { ⌜ length (now out) ≡ length (now hmap) ⌝ }
     ensures { λ _. ⌜ now (out .exit) ≡ slideRow (size .w) (size .h) (now (ts .entry)) (now (hmap .entry)) strength water y (now (out .entry)) ⌝ }

@@ -11,7 +11,6 @@ use grid::bad_sides;
 use grid::first_not_finite;
 use talus::slide_row;
 use talus::thresholds;
-
 ghost use mathlib.Core.Path.{_≡_};
 ghost use Prim.Native.Nat.{_≤_};
 ghost use lib.ListN.{length};
@@ -53,7 +52,18 @@ pub fn copy_heights(hmap: &[f32], out: &mut [f32])
 }
 
 // One pass with its stop marks, from hmap to out: a question after each row, and an end where one stops. The thresholds are an argument.
-pub fn slide_pass_into(size: Sides, ts: &[f32; 9], hmap: &[f32], out: &mut [f32], strength: f32, water: f32, from: f32, to: f32, m: Progress, stop: u32) -> Progress
+pub fn slide_pass_into(
+    size: Sides,
+    ts: &[f32; 9],
+    hmap: &[f32],
+    out: &mut [f32],
+    strength: f32,
+    water: f32,
+    from: f32,
+    to: f32,
+    m: Progress,
+    stop: u32,
+) -> Progress
     requires { ⌜ Ready (size .w) (size .h) (length (now hmap)) (length (now out)) (m .asked) ⌝ }
     ensures { λ r. ⌜ _≡_ {A = Pass} (record { out = now (out .exit); marks = r }) (rowsOf (size .w) (size .h) (now (ts .entry)) strength water (now (hmap .entry)) from to stop (size .h) m) ⌝ }
 {
@@ -114,12 +124,32 @@ fn refused(refusal: Refusal, progress: Progress) -> Slid
 }
 
 // The pass on an accepted input, and its answer: a stop comes before a run-off.
-fn slide_accepted(size: Sides, hmap: &[f32], out: &mut [f32], params: ThermalParams, from: f32, to: f32, m: Progress, stop: u32) -> Slid
+fn slide_accepted(
+    size: Sides,
+    hmap: &[f32],
+    out: &mut [f32],
+    params: ThermalParams,
+    from: f32,
+    to: f32,
+    m: Progress,
+    stop: u32,
+) -> Slid
     requires { ⌜ Ready (size .w) (size .h) (length (now hmap)) (length (now out)) (m .asked) ⌝ }
     ensures { λ r. ⌜ Passed (passOf (size .w) (size .h) params (now (hmap .entry)) from to stop m) r (now (out .exit)) ⌝ }
 {
     let ts = thresholds(params.threshold);
-    let marks = slide_pass_into(size, &ts, hmap, out, params.strength, params.water_level, from, to, m, stop);
+    let marks = slide_pass_into(
+        size,
+        &ts,
+        hmap,
+        out,
+        params.strength,
+        params.water_level,
+        from,
+        to,
+        m,
+        stop,
+    );
     if marks.stopped {
         return refused(Refusal::Stopped, marks);
     }
@@ -133,7 +163,16 @@ fn slide_accepted(size: Sides, hmap: &[f32], out: &mut [f32], params: ThermalPar
 }
 
 // One pass of the source from hmap to out. On 1 to 5 nothing is written and the record comes back as given.
-pub fn slide_pass(size: Sides, hmap: &[f32], out: &mut [f32], params: ThermalParams, progress_from: f32, progress_to: f32, progress: Progress, stop: u32) -> Slid
+pub fn slide_pass(
+    size: Sides,
+    hmap: &[f32],
+    out: &mut [f32],
+    params: ThermalParams,
+    progress_from: f32,
+    progress_to: f32,
+    progress: Progress,
+    stop: u32,
+) -> Slid
     ensures { λ r. ⌜ SlideMade (size .w) (size .h) (now (hmap .entry)) (now (out .entry)) params «progress_from» «progress_to» progress stop r (now (out .exit)) ⌝ }
 {
     if bad_sides(size) {
@@ -153,5 +192,14 @@ pub fn slide_pass(size: Sides, hmap: &[f32], out: &mut [f32], params: ThermalPar
     if bad != n {
         return refused(Refusal::Height(bad), progress);
     }
-    slide_accepted(size, hmap, out, params, progress_from, progress_to, progress, stop)
+    slide_accepted(
+        size,
+        hmap,
+        out,
+        params,
+        progress_from,
+        progress_to,
+        progress,
+        stop,
+    )
 }
