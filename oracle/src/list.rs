@@ -1,0 +1,94 @@
+//! A replay list: the words that a replay program reads and those that it must write. Words are four bytes, low byte
+//! first; a float is its bits, every NaN 0x7fc00000 in an answer. README.md has the format of each task and answer.
+use std::collections::BTreeMap;
+use std::fs;
+use std::io;
+use std::path::Path;
+
+use crate::rules::Answer;
+
+const NAN_BITS: u32 = 0x7fc0_0000;
+
+pub struct List {
+    program: &'static str,
+    asked: Vec<u8>,
+    given: Vec<u8>,
+    /// how many answers of each call have each number
+    counts: BTreeMap<(&'static str, u32), usize>,
+}
+
+impl List {
+    pub fn new(program: &'static str) -> List {
+        List { program, asked: Vec::new(), given: Vec::new(), counts: BTreeMap::new() }
+    }
+
+    pub fn ask(&mut self, words: &[u32]) {
+        for w in words {
+            self.asked.extend_from_slice(&w.to_le_bytes());
+        }
+    }
+
+    pub fn ask_floats(&mut self, v: &[f32]) {
+        for x in v {
+            self.ask(&[x.to_bits()]);
+        }
+    }
+
+    /// The two words that every answer begins with: the refusal's number (0 if none) and what it carries.
+    pub fn answer<T>(&mut self, call: &'static str, a: &Answer<T>) {
+        let (number, place) = match a {
+            Ok(_) => (0, 0),
+            Err(r) => (r.number, r.place),
+        };
+        self.give(&[number, place]);
+        *self.counts.entry((call, number)).or_insert(0) += 1;
+    }
+
+    pub fn give(&mut self, words: &[u32]) {
+        for w in words {
+            self.given.extend_from_slice(&w.to_le_bytes());
+        }
+    }
+
+    pub fn give_floats(&mut self, v: &[f32]) {
+        for x in v {
+            self.give(&[if x.is_nan() { NAN_BITS } else { x.to_bits() }]);
+        }
+    }
+
+    pub fn write(&self, crates: &Path) -> io::Result<()> {
+        let dir = crates.join(self.program);
+        fs::create_dir_all(&dir)?;
+        fs::write(dir.join("stdin"), &self.asked)?;
+        fs::write(dir.join("stdout"), &self.given)
+    }
+
+    /// Whether the files in the crates folder hold this list.
+    pub fn stands(&self, crates: &Path) -> io::Result<bool> {
+        let dir = crates.join(self.program);
+        Ok(fs::read(dir.join("stdin"))? == self.asked && fs::read(dir.join("stdout"))? == self.given)
+    }
+
+    /// One line for each call: how many tasks, and how many answers of each refusal.
+    pub fn summary(&self) -> String {
+        let mut text =
+            format!("{}: stdin {} bytes, stdout {} bytes\n", self.program, self.asked.len(), self.given.len());
+        let mut calls: Vec<&str> = self.counts.keys().map(|k| k.0).collect();
+        calls.dedup();
+        for call in calls {
+            let of: Vec<(u32, usize)> =
+                self.counts.iter().filter(|(k, _)| k.0 == call).map(|(k, n)| (k.1, *n)).collect();
+            let total: usize = of.iter().map(|c| c.1).sum();
+            text.push_str(&format!("  {call}: {total} tasks"));
+            for (number, n) in of {
+                if number == 0 {
+                    text.push_str(&format!(", {n} accepted"));
+                } else {
+                    text.push_str(&format!(", {n} refused by {number}"));
+                }
+            }
+            text.push('\n');
+        }
+        text
+    }
+}

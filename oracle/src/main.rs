@@ -1,0 +1,49 @@
+//! The oracle: the published Rust source behind document 01's refusals. `oracle lists CRATES` writes the replay lists into
+//! the crates folder, `oracle verify CRATES` says whether the files there are those lists.
+mod list;
+mod maps;
+mod numbers;
+#[cfg(test)]
+mod plates;
+mod random;
+mod rules;
+mod source;
+mod standins;
+
+use std::path::Path;
+use std::process::ExitCode;
+
+/// One seed for all lists.
+const SEED: u64 = 7_616_167;
+
+fn main() -> ExitCode {
+    let args: Vec<String> = std::env::args().skip(1).collect();
+    let words: Vec<&str> = args.iter().map(String::as_str).collect();
+    let lists = [numbers::list(SEED), maps::list(SEED)];
+    match words.as_slice() {
+        ["lists", crates] => {
+            for l in &lists {
+                if let Err(e) = l.write(Path::new(crates)) {
+                    eprintln!("cannot write below {crates}: {e}");
+                    return ExitCode::FAILURE;
+                }
+                print!("{}", l.summary());
+            }
+            ExitCode::SUCCESS
+        }
+        ["verify", crates] => {
+            for l in &lists {
+                if !matches!(l.stands(Path::new(crates)), Ok(true)) {
+                    eprintln!("the files below {crates} are not the lists that the oracle makes");
+                    return ExitCode::FAILURE;
+                }
+            }
+            println!("the lists stand as the oracle makes them");
+            ExitCode::SUCCESS
+        }
+        _ => {
+            eprintln!("usage: oracle lists CRATES | oracle verify CRATES");
+            ExitCode::FAILURE
+        }
+    }
+}

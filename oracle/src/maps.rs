@@ -1,0 +1,329 @@
+//! The list of replay_maps: extent and normalisation of a map, block average, bilinear sample and sum.
+use crate::list::List;
+use crate::random::Random;
+use crate::rules::{self, Sides};
+
+const GET_MIN_MAX: u32 = 1;
+const NORMALIZE: u32 = 2;
+const DOWNSAMPLE: u32 = 3;
+const ADD_UPSAMPLED: u32 = 4;
+const BILINEAR: u32 = 5;
+
+/// the value that a result slice holds before a call
+const FILL: f32 = -77.5;
+
+const TINY: f32 = 1e-45;
+
+pub fn list(seed: u64) -> List {
+    let mut l = List::new("replay_maps");
+    let mut r = Random::new(seed);
+    extents(&mut l, &mut r);
+    downsamples(&mut l, &mut r);
+    sums(&mut l, &mut r);
+    samples(&mut l, &mut r);
+    l
+}
+
+/// The kinds of heights; each kind of map is tried on each kind of grid.
+const KINDS: usize = 7;
+
+fn height(r: &mut Random, kind: usize) -> f32 {
+    match kind {
+        0 => r.unit() * 2.0 - 1.0,
+        1 => r.pick(&[0.0, -0.0]),
+        2 => f32::from_bits(r.word() & 0x8000_0fff),
+        3 => r.within(0, 2000) as f32 - 1000.0,
+        4 => r.finite(),
+        5 => r.pick(&[3e38, -3e38, f32::MAX, f32::MIN, 1.0]),
+        _ => r.pick(&[0.0, -0.0, TINY, -TINY, f32::MIN_POSITIVE, 1.0, -1.0, 1e10]),
+    }
+}
+
+fn map(r: &mut Random, n: usize, kind: usize) -> Vec<f32> {
+    (0..n).map(|_| height(r, kind)).collect()
+}
+
+/// The heights with one, or two, that are not finite; the earlier one is what a refusal carries.
+fn spoilt(r: &mut Random, v: &[f32]) -> Vec<f32> {
+    let mut v = v.to_vec();
+    for _ in 0..r.within(1, 2) {
+        let i = r.below(v.len());
+        v[i] = r.pick(&[f32::NAN, f32::INFINITY, f32::NEG_INFINITY, f32::from_bits(0xff80_0001)]);
+    }
+    v
+}
+
+/// A map of n heights; each eighth is spoilt.
+fn some_spoilt(r: &mut Random, i: usize, n: usize, kind: usize) -> Vec<f32> {
+    let v = map(r, n, kind);
+    if i % 8 == 5 {
+        spoilt(r, &v)
+    } else {
+        v
+    }
+}
+
+fn get_min_max(l: &mut List, v: &[f32]) {
+    l.ask(&[GET_MIN_MAX, v.len() as u32]);
+    l.ask_floats(v);
+    let a = rules::get_min_max(v);
+    l.answer("get_min_max", &a);
+    let (min, max) = a.unwrap_or((0.0, 0.0));
+    l.give_floats(&[min, max]);
+}
+
+fn normalize(l: &mut List, v: &[f32], lo: f32, hi: f32) {
+    l.ask(&[NORMALIZE, lo.to_bits(), hi.to_bits(), v.len() as u32]);
+    l.ask_floats(v);
+    let mut out = v.to_vec();
+    let a = rules::normalize(&mut out, lo, hi);
+    l.answer("normalize", &a);
+    l.give_floats(&out);
+}
+
+fn extents(l: &mut List, r: &mut Random) {
+    let fixed: [&[f32]; 12] = [
+        &[],
+        &[0.0],
+        &[-0.0],
+        &[0.0, -0.0],
+        &[-0.0, 0.0],
+        &[-0.0, 0.0, -0.0],
+        &[0.0, TINY],
+        &[-3e38, 3e38],
+        &[5.0, 5.0],
+        &[1.0, 0.0],
+        &[f32::MIN, f32::MAX],
+        &[TINY, -TINY, 0.0],
+    ];
+    let targets = [(0.0, 1.0), (1.0, 0.0), (-1.0, 1.0), (0.5, 0.5), (-0.0, -0.0), (-3e38, 3e38), (0.0, TINY)];
+    let bad = [f32::NAN, f32::INFINITY, f32::NEG_INFINITY];
+    for v in fixed {
+        get_min_max(l, v);
+        for (lo, hi) in targets {
+            normalize(l, v, lo, hi);
+        }
+        for x in bad {
+            normalize(l, v, x, 1.0);
+            normalize(l, v, 0.0, x);
+        }
+    }
+    for i in 0..260 {
+        let n = r.within(1, if i % 16 == 0 { 60 } else { 12 });
+        let v = map(r, n, i % KINDS);
+        let (lo, hi) = r.pick(&targets);
+        get_min_max(l, &v);
+        normalize(l, &v, lo, hi);
+        if i % 4 == 0 {
+            let s = spoilt(r, &v);
+            get_min_max(l, &s);
+            normalize(l, &s, lo, hi);
+            normalize(l, &s, lo, r.pick(&bad));
+        }
+    }
+}
+
+/// A grid up to most × most, each fourth with one row, each fourth with one column.
+fn grid(r: &mut Random, i: usize, most: usize) -> Sides {
+    let w = if i % 4 == 1 { 1 } else { r.within(1, most) };
+    let h = if i % 4 == 3 { 1 } else { r.within(1, most) };
+    (w, h)
+}
+
+fn reduced(r: &mut Random, size: Sides) -> Sides {
+    (r.within(1, size.0), r.within(1, size.1))
+}
+
+fn words(size: Sides) -> [u32; 2] {
+    [size.0 as u32, size.1 as u32]
+}
+
+fn downsample(l: &mut List, src: &[f32], size: Sides, len: usize, small: Sides) {
+    l.ask(&[DOWNSAMPLE]);
+    l.ask(&words(size));
+    l.ask(&words(small));
+    l.ask(&[FILL.to_bits(), len as u32, src.len() as u32]);
+    l.ask_floats(src);
+    let mut dst = vec![FILL; len];
+    let a = rules::downsample(src, size, &mut dst, small);
+    l.answer("downsample", &a);
+    l.give_floats(&dst);
+}
+
+fn add_upsampled(l: &mut List, map: &[f32], size: Sides, delta: &[f32], small: Sides) {
+    l.ask(&[ADD_UPSAMPLED]);
+    l.ask(&words(size));
+    l.ask(&words(small));
+    l.ask(&[map.len() as u32, delta.len() as u32]);
+    l.ask_floats(map);
+    l.ask_floats(delta);
+    let mut out = map.to_vec();
+    let a = rules::add_upsampled(&mut out, size, delta, small);
+    l.answer("add_upsampled", &a);
+    l.give_floats(&out);
+}
+
+fn bilinear(l: &mut List, v: &[f32], x: f32, y: f32, size: Sides) {
+    l.ask(&[BILINEAR]);
+    l.ask(&words(size));
+    l.ask(&[x.to_bits(), y.to_bits(), v.len() as u32]);
+    l.ask_floats(v);
+    let a = rules::bilinear(v, x, y, size);
+    l.answer("bilinear", &a);
+    l.give_floats(&[a.unwrap_or(0.0)]);
+}
+
+/// The faults that a task can have, each a bit: they are tried alone, in pairs and all together, so that their order shows.
+const SIDE: u32 = 1;
+const REDUCED: u32 = 2;
+const LENGTH: u32 = 4;
+const OTHER_LENGTH: u32 = 8;
+const COORDINATE: u32 = 16;
+const HEIGHT: u32 = 32;
+
+fn faults(of: &[u32]) -> Vec<u32> {
+    let mut sets = vec![of.iter().sum()];
+    for (i, a) in of.iter().enumerate() {
+        sets.push(*a);
+        for b in &of[..i] {
+            sets.push(a + b);
+        }
+    }
+    sets
+}
+
+/// each set of faults is tried so often
+const TRIES: usize = 6;
+
+/// A side outside 1 to 4,096 in place of one of the two.
+fn bad_sides(r: &mut Random, size: Sides) -> Sides {
+    let bad = r.pick(&[0, 4097, u32::MAX as usize]);
+    r.pick(&[(bad, size.1), (size.0, bad), (bad, bad)])
+}
+
+fn bad_reduced(r: &mut Random, size: Sides, small: Sides) -> Sides {
+    r.pick(&[(0, small.1), (small.0, 0), (size.0 + 1, small.1), (small.0, size.1 + 1)])
+}
+
+fn downsamples(l: &mut List, r: &mut Random) {
+    for i in 0..150 {
+        let size = grid(r, i, if i % 10 == 0 { 40 } else { 14 });
+        let small = reduced(r, size);
+        let src = some_spoilt(r, i, size.0 * size.1, i % KINDS);
+        downsample(l, &src, size, small.0 * small.1, small);
+    }
+    for (size, small) in
+        [((1, 1), (1, 1)), ((3, 1), (2, 1)), ((9, 9), (9, 9)), ((4096, 1), (3, 1)), ((1, 4096), (1, 5))]
+    {
+        let src = map(r, size.0 * size.1, 3);
+        downsample(l, &src, size, small.0 * small.1, small);
+    }
+    for (w, h) in [(4097, 1), (1, 4097)] {
+        downsample(l, &map(r, 4097, 1), (w, h), 1, (1, 1));
+    }
+    for f in faults(&[SIDE, REDUCED, LENGTH, OTHER_LENGTH, HEIGHT]).repeat(TRIES) {
+        let t = faulty(r, f);
+        let src = if f & HEIGHT != 0 { spoilt(r, &t.full) } else { t.full };
+        downsample(l, &src, t.size, t.reduced.len(), t.small);
+    }
+}
+
+/// Two grids with faults in their sides and lengths.
+struct Faulty {
+    size: Sides,
+    small: Sides,
+    full: Vec<f32>,
+    reduced: Vec<f32>,
+}
+
+fn faulty(r: &mut Random, f: u32) -> Faulty {
+    let mut size = (r.within(1, 6), r.within(2, 6));
+    let mut small = reduced(r, size);
+    if f & REDUCED != 0 {
+        small = bad_reduced(r, size, small);
+    }
+    let (mut n, mut len) = (size.0 * size.1, small.0 * small.1);
+    if f & LENGTH != 0 {
+        n = r.pick(&[n - 1, n + 1]);
+    }
+    if f & OTHER_LENGTH != 0 {
+        len = if len > 1 { r.pick(&[len - 1, len + 1]) } else { len + 1 };
+    }
+    if f & SIDE != 0 {
+        size = bad_sides(r, size);
+    }
+    Faulty { size, small, full: map(r, n, 0), reduced: map(r, len, 0) }
+}
+
+fn sums(l: &mut List, r: &mut Random) {
+    for i in 0..150 {
+        let size = grid(r, i, if i % 10 == 0 { 40 } else { 12 });
+        let small = if i % 5 == 4 { size } else { reduced(r, size) };
+        let before = some_spoilt(r, i, size.0 * size.1, i % KINDS);
+        let delta = some_spoilt(r, i + 3, small.0 * small.1, (i / 7) % KINDS);
+        add_upsampled(l, &before, size, &delta, small);
+    }
+    for (size, small) in [((4, 1), (2, 1)), ((1, 1), (1, 1)), ((4096, 1), (7, 1)), ((1, 4096), (1, 4096))] {
+        let before = map(r, size.0 * size.1, 0);
+        let delta = map(r, small.0 * small.1, 0);
+        add_upsampled(l, &before, size, &delta, small);
+    }
+    for i in 0..20 {
+        let size = grid(r, i, 6);
+        let small = reduced(r, size);
+        let (before, delta) = (map(r, size.0 * size.1, 5), map(r, small.0 * small.1, 5));
+        add_upsampled(l, &before, size, &delta, small);
+    }
+    for f in faults(&[SIDE, REDUCED, LENGTH, OTHER_LENGTH, HEIGHT]).repeat(TRIES) {
+        let mut t = faulty(r, f);
+        // in either grid, or in both, where the full one comes first
+        let which = r.below(3);
+        if f & HEIGHT != 0 && which != 0 {
+            t.full = spoilt(r, &t.full);
+        }
+        if f & HEIGHT != 0 && which != 1 && !t.reduced.is_empty() {
+            t.reduced = spoilt(r, &t.reduced);
+        }
+        add_upsampled(l, &t.full, t.size, &t.reduced, t.small);
+    }
+}
+
+/// A coordinate from 0 to below the side: whole, half, just below the far edge, or anywhere.
+fn coordinate(r: &mut Random, side: usize) -> f32 {
+    let whole = r.below(side) as f32;
+    match r.below(6) {
+        0 => whole,
+        1 => whole + 0.5,
+        2 => f32::from_bits((side as f32).to_bits() - 1),
+        3 => r.pick(&[0.0, -0.0, TINY]),
+        4 => side as f32 - 1.0,
+        _ => f32::from_bits((side as f32).to_bits() - 1).min(r.unit() * side as f32),
+    }
+}
+
+fn samples(l: &mut List, r: &mut Random) {
+    for i in 0..420 {
+        let size = grid(r, i, if i % 40 == 0 { 40 } else { 5 });
+        let v = some_spoilt(r, i, size.0 * size.1, i % KINDS);
+        let (x, y) = (coordinate(r, size.0), coordinate(r, size.1));
+        bilinear(l, &v, x, y, size);
+    }
+    let v = [1.0, 2.0, 3.0, 4.0];
+    for (x, y) in [(1.5, 0.5), (0.5, 0.5), (0.5, 1.5), (1.5, 1.5), (1.0, 1.0), (0.0, 1.25)] {
+        bilinear(l, &v, x, y, (2, 2));
+    }
+    for x in [f32::NAN, f32::INFINITY, f32::NEG_INFINITY, -TINY, -1.0, 2.0, f32::MAX] {
+        bilinear(l, &v, x, 0.5, (2, 2));
+        bilinear(l, &v, 0.5, x, (2, 2));
+    }
+    for f in faults(&[SIDE, LENGTH, COORDINATE, HEIGHT]).repeat(TRIES) {
+        let t = faulty(r, f);
+        let v = if f & HEIGHT != 0 { spoilt(r, &t.full) } else { t.full };
+        let (mut x, mut y) = (r.unit(), r.unit());
+        if f & COORDINATE != 0 {
+            let bad = r.pick(&[f32::NAN, t.size.0.max(t.size.1) as f32, -1.0]);
+            (x, y) = r.pick(&[(bad, y), (x, bad), (bad, bad)]);
+        }
+        bilinear(l, &v, x, y, t.size);
+    }
+}

@@ -1,0 +1,113 @@
+//! Document 01's worked examples, tried on the source with its stand-ins.
+use crate::random::Random;
+use crate::rules;
+use crate::source::erosion::*;
+use crate::source::Record;
+
+#[test]
+fn routing() {
+    let a = route((3, 3), &[5.0, 5.0, 5.0, 5.0, 1.0, 4.0, 5.0, 5.0, 5.0], 0.0);
+    assert_eq!(a.order, [5, 4, 0, 1, 2, 3, 6, 7, 8]);
+    assert_eq!((a.spill[4], a.recv[4], a.area[5]), (4.0, 5, 2.0));
+    let b = route((3, 3), &[3.0, 4.0, 9.0, 9.0, 10.0, 9.0, 9.0, 9.0, 9.0], 0.0);
+    assert_eq!(b.order, [0, 1, 2, 3, 5, 6, 7, 8, 4]);
+    assert_eq!(b.recv[4], 1);
+}
+
+#[test]
+fn incision() {
+    for (height, uplift, after) in [(1.0, 0.0, 0.5), (1.0, 0.5, 0.75), (0.0, 0.0, 0.0)] {
+        let mut h = [height];
+        let s = Incision { k: 1.0, uplift, water_level: 0.0 };
+        incise((1, 1), &mut h, &[0], &[0], &s);
+        assert_eq!(h, [after]);
+    }
+}
+
+#[test]
+fn talus() {
+    for (threshold, water_level, after) in [(0.5, 1.0, [0.75, 0.25]), (1.0, 1.0, [1.0, 0.0]), (0.5, 2.0, [1.0, 0.0])] {
+        let h = [1.0, 0.0];
+        let mut out = h;
+        let s = Talus { threshold, strength: 0.5, water_level };
+        let (on, _) = slide_pass((2, 1), &h, &mut out, &s, (0.0, 1.0), Record::FRESH, 0);
+        assert!(on);
+        assert_eq!(out, after);
+    }
+}
+
+#[test]
+fn resampling() {
+    assert_eq!(rules::work_size((4, 3), 2), Ok((2, 2)));
+    assert_eq!(rules::work_size((513, 513), 512), Ok((512, 512)));
+    let mut dst = [0.0; 2];
+    assert_eq!(rules::downsample(&[1.0, 3.0, 5.0], (3, 1), &mut dst, (2, 1)), Ok(()));
+    assert_eq!(dst, [2.0, 5.0]);
+    let mut map = [0.0; 4];
+    assert_eq!(rules::add_upsampled(&mut map, (4, 1), &[0.0, 4.0], (2, 1)), Ok(()));
+    assert_eq!(map, [0.0, 1.0, 3.0, 4.0]);
+    assert_eq!(rules::bilinear(&[1.0, 2.0, 3.0, 4.0], 1.5, 0.5, (2, 2)), Ok(2.5));
+}
+
+/// The stream's example: one cell, with S none, 1 and 2.
+#[test]
+fn stream() {
+    let s = Settings { water_level: 0.0, strength: 1.0, talus: 0.0, uplift: 0.0, iterations: 1, work_res: 512 };
+    for (stop, bits, asked, stopped) in
+        [(0, 0x3f7c_0fc1, 2, false), (1, 0x3f80_0000, 1, true), (2, 0x3f7c_0fc1, 2, true)]
+    {
+        let mut map = [1.0f32];
+        let r = gen_fluvial_erosion((1, 1), &mut map, &s, stop);
+        assert_eq!((map[0].to_bits(), r.asked, r.stopped), (bits, asked, stopped));
+    }
+}
+
+/// Whether the whole numbers say that r is x's root, nearest, ties to even: with x = X × 4^k and r = R × 2^k the square of
+/// 2 R lies within one of R's steps of 4 X. Both have at most 24 significant bits, so u128 holds all of it.
+fn is_root(x: f32, r: f32) -> bool {
+    let parts = |v: f32| {
+        let (b, e) = (v.to_bits() & 0x7f_ffff, (v.to_bits() >> 23) as i32);
+        if e == 0 {
+            (b as u128, -149)
+        } else {
+            ((b | 0x80_0000) as u128, e - 150)
+        }
+    };
+    let ((xm, xe), (rm, re)) = (parts(x), parts(r));
+    // 4 x against (2 r ± 1)^2, all in units of 2^(2 re); a root has 24 bits, so 2 re ≤ xe
+    let four_x = xm << (xe - 2 * re + 2);
+    (2 * rm - 1).pow(2) < four_x && four_x < (2 * rm + 1).pow(2)
+}
+
+#[test]
+fn roots_are_bracketed_by_squares() {
+    let mut r = Random::new(1);
+    for i in 0..2_000_000u32 {
+        let bits = if i < 4096 { i + 1 } else { r.word() >> 1 };
+        let x = f32::from_bits(bits);
+        if x.is_finite() && x > 0.0 {
+            assert!(is_root(x, x.sqrt()), "{bits:08x}");
+        }
+    }
+}
+
+/// The questions of a one-cell run depend on binary32.
+#[test]
+fn questions() {
+    for (iterations, asked) in [(50, 59), (51, 51), (99, 99), (100, 74), (101, 68)] {
+        let s = Settings { water_level: 0.0, strength: 1.0, talus: 0.0, uplift: 0.0, iterations, work_res: 512 };
+        assert_eq!(gen_fluvial_erosion((1, 1), &mut [1.0], &s, 0).asked, asked);
+    }
+}
+
+/// The key puts -0 before +0, and a -0 reached from a +0 keeps its sign.
+#[test]
+fn zeros_of_both_signs() {
+    let mut h = [0.0; 9];
+    h[8] = -0.0;
+    let a = route((3, 3), &h, -1.0);
+    assert_eq!((a.order[0], a.recv[4]), (8, 8));
+    h[8] = 0.0;
+    h[4] = -0.0;
+    assert_eq!(route((3, 3), &h, -1.0).order[..4], [0, 4, 1, 2]);
+}
