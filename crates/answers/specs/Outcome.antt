@@ -27,6 +27,23 @@ refusalOf Cells = refused 9
 refusalOf Stopped = refused 21
 refusalOf RunOff = refused 22
 
+-- the number of a refusal, and the place that it carries (0 where it carries none), both as `refusalOf` has them
+abbrev pub numberIn : Outcome (Unit {0}) → ℕ
+numberIn (gives a) = 0
+numberIn (refused n) = n
+numberIn (refusedAt n p) = n
+
+abbrev pub placeIn : Outcome (Unit {0}) → ℕ
+placeIn (gives a) = 0
+placeIn (refused n) = 0
+placeIn (refusedAt n p) = p
+
+abbrev pub numberOf : Refusal → ℕ
+numberOf r = numberIn (refusalOf r)
+
+abbrev pub placeOf : Refusal → ℕ
+placeOf r = placeIn (refusalOf r)
+
 abbrev pub answerOf : Answer → Outcome (Unit {0})
 answerOf Answer.Done = gives tt
 answerOf (Answer.Refused r) = refusalOf r

@@ -1,7 +1,7 @@
 // What every public call answers: a value, or one of document 01's refusals. specs/Outcome.antt gives each case the paper's
 // number and the values that it carries.
 ghost use mathlib.Core.Path.{_≡_};
-ghost use Rattle.answers.specs.Outcome.{outsideOf};
+ghost use Rattle.answers.specs.Outcome.{outsideOf, numberOf, placeOf};
 
 // A refusal. Those that name a place carry it: the first bad cell, or the first bad position of a list.
 pub enum Refusal {
@@ -38,4 +38,42 @@ pub fn outside(x: f32, lo: f32, hi: f32) -> bool
         return !(x <= hi);
     }
     true
+}
+
+// Document 01's number of a refusal.
+pub fn number(r: Refusal) -> u32
+    ensures { λ n. ⌜ n ≡ numberOf r ⌝ }
+{
+    match r {
+        Refusal::Side => 1,
+        Refusal::ReducedSide => 2,
+        Refusal::Length => 3,
+        Refusal::Setting => 4,
+        Refusal::Height(_) => 5,
+        Refusal::Receiver(_) => 6,
+        Refusal::List(_) => 7,
+        Refusal::Stream => 8,
+        Refusal::Cells => 9,
+        Refusal::Stopped => 21,
+        Refusal::RunOff => 22,
+    }
+}
+
+// The place that a refusal carries, 0 where it carries none.
+pub fn place(r: Refusal) -> usize
+    ensures { λ p. ⌜ p ≡ placeOf r ⌝ }
+{
+    match r {
+        Refusal::Side => 0,
+        Refusal::ReducedSide => 0,
+        Refusal::Length => 0,
+        Refusal::Setting => 0,
+        Refusal::Height(c) => c,
+        Refusal::Receiver(c) => c,
+        Refusal::List(p) => p,
+        Refusal::Stream => 0,
+        Refusal::Cells => 0,
+        Refusal::Stopped => 0,
+        Refusal::RunOff => 0,
+    }
 }

@@ -1,0 +1,2 @@
+-- Laws of the definitions in specs/Words.antt.
+pub mod WordLaws
