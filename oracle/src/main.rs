@@ -1,5 +1,6 @@
 //! The oracle: the published Rust source behind document 01's refusals. `oracle lists CRATES` writes the replay lists into
-//! the crates folder, `oracle verify CRATES` says whether the files there are those lists.
+//! the crates folder, `oracle verify CRATES` says whether the files there are those lists, and `oracle powf` counts the
+//! floats on which `powf` with 0.5 is not the square root.
 mod list;
 mod maps;
 mod numbers;
@@ -19,10 +20,10 @@ const SEED: u64 = 7_616_167;
 fn main() -> ExitCode {
     let args: Vec<String> = std::env::args().skip(1).collect();
     let words: Vec<&str> = args.iter().map(String::as_str).collect();
-    let lists = [numbers::list(SEED), maps::list(SEED)];
+    let lists = || [numbers::list(SEED), maps::list(SEED)];
     match words.as_slice() {
         ["lists", crates] => {
-            for l in &lists {
+            for l in lists() {
                 if let Err(e) = l.write(Path::new(crates)) {
                     eprintln!("cannot write below {crates}: {e}");
                     return ExitCode::FAILURE;
@@ -32,7 +33,7 @@ fn main() -> ExitCode {
             ExitCode::SUCCESS
         }
         ["verify", crates] => {
-            for l in &lists {
+            for l in lists() {
                 if !matches!(l.stands(Path::new(crates)), Ok(true)) {
                     eprintln!("the files below {crates} are not the lists that the oracle makes");
                     return ExitCode::FAILURE;
@@ -41,8 +42,15 @@ fn main() -> ExitCode {
             println!("the lists stand as the oracle makes them");
             ExitCode::SUCCESS
         }
+        ["powf"] => {
+            let (known_late, constant) = standins::powf_differences();
+            println!(
+                "{known_late} differ where the exponent is known at run time only, {constant} with the constant 0.5"
+            );
+            ExitCode::SUCCESS
+        }
         _ => {
-            eprintln!("usage: oracle lists CRATES | oracle verify CRATES");
+            eprintln!("usage: oracle lists CRATES | oracle verify CRATES | oracle powf");
             ExitCode::FAILURE
         }
     }

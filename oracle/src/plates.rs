@@ -111,3 +111,15 @@ fn zeros_of_both_signs() {
     h[4] = -0.0;
     assert_eq!(route((3, 3), &h, -1.0).order[..4], [0, 4, 1, 2]);
 }
+
+/// A sample of the largest float alone, at fractions of every size, is finite.
+#[test]
+fn samples_of_the_largest_float() {
+    let mut r = Random::new(3);
+    let v = [f32::MAX; 4];
+    for _ in 0..400_000 {
+        let mut fraction = || f32::from_bits(r.within(0x3300_0000, 0x3f7f_ffff) as u32);
+        let (x, y) = (fraction(), fraction());
+        assert!(rules::bilinear(&v, x, y, (2, 2)).is_ok());
+    }
+}

@@ -27,3 +27,17 @@ impl StandIns for f32 {
         self * self
     }
 }
+
+/// On how many non-negative finite floats `powf` with 0.5, its exponent known at run time only, and `powf` with the
+/// constant 0.5 round otherwise than the square root, on the machine that this runs on.
+pub fn powf_differences() -> (u32, u32) {
+    let half = std::hint::black_box(0.5f32);
+    let mut differ = (0, 0);
+    for bits in 0..f32::INFINITY.to_bits() {
+        let x = f32::from_bits(bits);
+        let root = x.sqrt().to_bits();
+        differ.0 += (x.powf(half).to_bits() != root) as u32;
+        differ.1 += (x.powf(0.5).to_bits() != root) as u32;
+    }
+    differ
+}
