@@ -2,16 +2,17 @@
 use mathlib.Core.Path.{_≡_, refl, sym, ap, ap₂, _∙_}
 use mathlib.Core.Bool.{Bool, true, false, true≢false}
 use Prim.Native.Nat.{ℕ, _+_, _*_, _/_, _^_, _≤_, _<_}
-use native.Mathlib.Nat.{add-mul, mul-assoc, mul-one, mul-right-comm, mul-div-cancel, mul-pos, zero-lt-suc, lt-of-mul-lt-mul-right, mul-lt-mul-of-pos-right, eq-of-mul-eq-mul-right}
+use native.Mathlib.Nat.{mul-one, mul-right-comm, mul-div-cancel, lt-of-mul-lt-mul-right, mul-lt-mul-of-pos-right, eq-of-mul-eq-mul-right}
 use native.Mathlib.Omega.{arith}
 use lib.Dec.{T, ltb}
 use lib.IntN.{pos}
 use lib.Pow.{pow-pos}
 use lib.Ieee.{Float, nan, inf, fin, binary32, up, down, round, sum, add, lt, ofInt, ofBits, fits}
-use lib.Ieee.Back.{round-whole}
 use lib.Ieee.Exact.{HasValue}
 use lib.Ieee.Fits.{down-pos, ofInt-fits}
-use lib.Ieee.Scale.{finite, round-same}
+use lib.Ieee.Scale.{finite}
+use Rattle.floats.proofs.ValueLaws.{ofInt-value, ofInt-add}
+use Rattle.floats.proofs.FiniteLaws.{value-finite}
 use Rattle.float_order.specs.Order.{Number, rank}
 use Rattle.float_order.specs.Whole.{whole, WholeNumbers}
 use Rattle.float_order.proofs.OrderLaws.{same-lt, lt-is}
@@ -21,16 +22,10 @@ pub whole-fits : (n : ℕ) → T (fits binary32 (whole n))
 whole-fits n = ofInt-fits binary32 (pos n)
 
 pub whole-value : (n : ℕ) → n ≤ 2 ^ 24 → HasValue (whole n) false n 1
-unfolding ofInt
-whole-value n h = round-whole binary32 false n h
-
-has-finite : (x : Float) (s : Bool) (a c : ℕ) → HasValue x s a c → T (finite x)
-has-finite nan s a c v = v
-has-finite (inf t) s a c v = v
-has-finite (fin t m e) s a c v = tt
+whole-value = ofInt-value
 
 pub whole-finite : (n : ℕ) → n ≤ 2 ^ 24 → T (finite (whole n))
-whole-finite n h = has-finite (whole n) false n 1 (whole-value n h)
+whole-finite n h = value-finite (whole n) false n 1 (whole-value n h)
 
 pub whole-number : (n : ℕ) → n ≤ 2 ^ 24 → Number (whole n)
 whole-number n h = finite-number (whole n) (whole-fits n) (whole-finite n h)
@@ -67,30 +62,8 @@ whole-inj a b p q h = placed-same (2 ^ 277) (2 ^ 149) a b (pow-pos 149) (sym (wh
 
 -- ---- sums
 
--- u / e is a, v / d is b: their sum over e * d is a + b
-added : (u v e d a b : ℕ) → u * 1 ≡ a * e → v * 1 ≡ b * d → (u * d + v * e) * 1 ≡ (a + b) * (e * d)
-added u v e d a b p q =
-    mul-one (u * d + v * e)
-    ∙ ap₂ (λ (y z : ℕ). y + z)
-    (ap (λ (z : ℕ). z * d) (sym (mul-one u) ∙ p) ∙ mul-assoc a e d)
-    (ap (λ (z : ℕ). z * e) (sym (mul-one v) ∙ q) ∙ mul-right-comm b d e ∙ mul-assoc b e d)
-    ∙ sym (add-mul a b (e * d))
-
-add-values : (x y : Float) (a b : ℕ) → HasValue x false a 1 → HasValue y false b 1 → add binary32 x y ≡ round binary32 false (a + b) 1
-unfolding add sum
-add-values nan y a b v w = absurd v
-add-values (inf s) y a b v w = absurd v
-add-values (fin s m e) nan a b v w = absurd w
-add-values (fin s m e) (inf t) a b v w = absurd w
-add-values (fin true m e) (fin t n d) a b v w = absurd (true≢false (v .0))
-add-values (fin false m e) (fin true n d) a b v w = absurd (true≢false (w .0))
-add-values (fin false m e) (fin false n d) a b v w =
-    round-same binary32 false (m * up e * down d + n * up d * down e) (down e * down d) (a + b) 1 (mul-pos (down-pos e) (down-pos d)) (zero-lt-suc 0)
-    (added (m * up e) (n * up d) (down e) (down d) a b (v .1) (w .1))
-
 pub whole-sum : (a b : ℕ) → a + b ≤ 2 ^ 24 → add binary32 (whole a) (whole b) ≡ whole (a + b)
-unfolding ofInt
-whole-sum a b h = add-values (whole a) (whole b) a b (whole-value a (omega arith)) (whole-value b (omega arith))
+whole-sum a b h = ofInt-add a b (omega arith) (omega arith)
 
 pub whole-zero : whole 0 ≡ ofBits binary32 0
 unfolding ofInt ofBits
