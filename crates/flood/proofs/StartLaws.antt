@@ -22,53 +22,16 @@ use Rattle.drainage.proofs.TallyLaws.{same-or-not, one-same, one-other}
 use Rattle.heap.specs.Queue.{placeOf, within, Heap, Pushed}
 use Rattle.flood.specs.Slices.{stateOf, markOf, rowMarked, Queued, Gathered, Started}
 
--- a list filled from the front, one store more, and filled
-module _ {A : Type 0} (f : ℕ → A) (old l : List A) (i : ℕ) (e : l ≡ filled f i old) where
-  pub stored-more : (v : A) → i < length old → v ≡ f i → set l i v ≡ filled f (i + 1) old
-  stored-more v h s = ap₂ (λ t x. set t i x) e s ∙ filled-more f i old h
-
-  pub stored-done : i ≤ length old → length old ≤ i → l ≡ tabulate (length old) f
-  stored-done a b =
-      let all : i ≡ length old = omega arith in
-      e ∙ ap (λ i. filled f i old) all ∙ filled-done f (length old) old refl
-
 module _ (w h : ℕ) (hs : List Float) (water : Float) where
-  -- the marks of a row, one more
-  pub row-more :
-      (y x : ℕ) (l l′ : List ℕ) (v : ℕ) → l ≡ rowMarked w h hs water y x l′ → v ≡ markOf w h x y (getD hs (cellOf w x y) nan) water
-      → set l (cellOf w x y) v ≡ rowMarked w h hs water y (x + 1) l′
-  row-more y x l l′ v e s = ap₂ (λ t m. set t (cellOf w x y) m) e s ∙ sym (turns-more _ x l′)
-
+  -- the marks of all cells, and that of column x, row y
   abbrev pub marks : ℕ → ℕ
   marks c = cond (baseOf w h water hs c) 1 0
 
-  -- the first x cells of a row, after the rows above it
-  row-filled : (y : ℕ) → y < h → (old : List ℕ) → length old ≡ w * h → (x : ℕ) → x ≤ w → rowMarked w h hs water y x (filled marks (y * w) old) ≡ filled marks (x + y * w) old
-  unfolding turns
-  row-filled y m old e zero l = let z : y * w ≡ 0 + y * w = omega arith in ap (λ i. filled marks i old) z
-  row-filled y m old e (suc x) l =
-      ap₂ (λ t v. set t (cellOf w x y) v) (row-filled y m old e x (omega arith)) (ap (λ b. cond b 1 0) (base-cell w h x y water hs l))
-      ∙ filled-more marks (x + y * w) old (omega (arith, cell-lt w x y l h m))
-      ∙ ap (λ i. filled marks i old) next
-    where
-      next : x + y * w + 1 ≡ suc x + y * w
-      next = omega arith
+  abbrev pub markAt : ℕ → ℕ → List ℕ → ℕ
+  markAt x y l = markOf w h x y (getD hs (cellOf w x y) nan) water
 
-  -- one row more
-  pub rows-more :
-      (y : ℕ) → y < h → (old l l′ : List ℕ) → length old ≡ w * h → l ≡ filled marks (y * w) old → l′ ≡ rowMarked w h hs water y w l
-      → l′ ≡ filled marks ((y + 1) * w) old
-  rows-more y m old l l′ n e f =
-      let next : w + y * w ≡ (y + 1) * w = omega arith in
-      f ∙ ap (rowMarked w h hs water y w) e ∙ row-filled y m old n w (omega arith) ∙ ap (λ i. filled marks i old) next
-
-  pub rows-none : (old : List ℕ) → old ≡ filled marks (0 * w) old
-  rows-none old = filled-none marks old ∙ (let z : 0 ≡ 0 * w = omega arith in ap (λ i. filled marks i old) z)
-
-  pub rows-done : (y : ℕ) → y ≤ h → h ≤ y → (old l : List ℕ) → length old ≡ w * h → l ≡ filled marks (y * w) old → l ≡ tabulate (w * h) marks
-  rows-done y a b old l n e =
-      let all : y ≡ h = omega arith in
-      e ∙ ap (λ y. filled marks (y * w) old) all ∙ filled-done marks (h * w) old (n ∙ mul-comm w h) ∙ ap (λ n. tabulate n marks) (mul-comm h w)
+  pub mark-is : (x y : ℕ) → x < w → markOf w h x y (getD hs (cellOf w x y) nan) water ≡ marks (cellOf w x y)
+  mark-is x y l = ap (λ b. cond b 1 0) (base-cell w h x y water hs l)
 
 module _ (status : List ℕ) (spill : List Float) where
   pub gathered-none : (queue : List ℕ) → Gathered status spill 0 0 queue

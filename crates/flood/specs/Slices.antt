@@ -36,9 +36,13 @@ pub record Sizes (n : ℕ) (hs : List Float) (status : List ℕ) (spill : List F
 abbrev pub markOf : ℕ → ℕ → ℕ → ℕ → Float → Float → ℕ
 markOf w h x y height water = cond (onBorder w h x y || le height water) 1 0
 
--- the first x cells of row y marked
-abbrev pub rowMarked : ℕ → ℕ → List Float → Float → ℕ → ℕ → List ℕ → List ℕ
-rowMarked w h hs water y x = turns x (λ x l. set l (cellOf w x y) (markOf w h x y (getD hs (cellOf w x y) nan) water))
+-- the first x cells of row y stored, each made from the list so far
+abbrev pub rowBy : {A : Type 0} → ℕ → (ℕ → ℕ → List A → A) → ℕ → ℕ → List A → List A
+rowBy w make y x = turns x (λ x l. set l (cellOf w x y) (make x y l))
+
+-- a row of marks
+abbrev pub rowMarked : ℕ → ℕ → List Float → Float → ℕ → List ℕ → List ℕ
+rowMarked w h hs water y = rowBy w (λ x y l. markOf w h x y (getD hs (cellOf w x y) nan) water) y w
 
 -- The queue holds those of the first i cells that wait.
 pub record Gathered (status : List ℕ) (spill : List Float) (i len : ℕ) (queue : List ℕ) : Type 0 where

@@ -31,7 +31,7 @@ fn mark_row(g: Sides, y: usize, h: &[f32], water: f32, status: &mut [u8])
     requires { ⌜ y < g .h ⌝ }
     requires { ⌜ length (now h) ≡ g .w * g .h ⌝ }
     requires { ⌜ length (now status) ≡ g .w * g .h ⌝ }
-    ensures { λ _. ⌜ now (status .exit) ≡ rowMarked (g .w) (g .h) (now (h .entry)) water y (g .w) (now (status .entry)) ⌝ }
+    ensures { λ _. ⌜ now (status .exit) ≡ rowMarked (g .w) (g .h) (now (h .entry)) water y (now (status .entry)) ⌝ }
 {
     let w = g.w;
     let row = y * w;

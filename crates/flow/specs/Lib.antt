@@ -1,2 +1,3 @@
--- What the public call `route` answers and leaves in its result slices.
+-- What the functions of routing do to their slices, and what the public call `route` answers and leaves in its result slices.
+pub mod Passes
 pub mod Route

@@ -2,3 +2,4 @@
 pub mod SettleLaws
 pub mod IndependenceLaws
 pub mod PlateLaws
+pub mod CellLaws

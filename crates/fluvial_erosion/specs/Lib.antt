@@ -2,3 +2,4 @@
 pub mod Incision
 pub mod Incise
 pub mod Independence
+pub mod Along

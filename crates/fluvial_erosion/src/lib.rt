@@ -1,12 +1,105 @@
 // The source's fluvial_erosion.rs, one incision: every cell is lowered toward the cell it drains into, in proportion to the square root of its
 // drainage area, in the order of a work list.
-use answers::Answer;
-use answers::Refusal;
+use floats::max;
 use grid::Sides;
+use square_root::root_of;
+use thermal_erosion::copy_heights;
+use ways::accumulate;
+use ways::receiver_distance;
+ghost use mathlib.Core.Path.{_≡_};
+ghost use Prim.Native.Nat.{_*_, _<_};
+ghost use lib.ListN.{length, set};
+ghost use Rattle.drainage.specs.Ground.{gridGround};
+ghost use Rattle.fluvial_erosion.specs.Incision.{incisionCoef, inciseAlong};
+ghost use Rattle.fluvial_erosion.specs.Along.{drainedTo, cutAt, CellOf, Drains, Lengths, Carved};
 
 // The settings of an incision on its grid.
 pub struct FluvialParams {
     pub k: f32,
     pub uplift: f32,
     pub water_level: f32,
+}
+
+// Incision coefficient of a cell draining `area` cells out of `n_cells`, `d` cells away from its receiver; areas below 1e-4 of the map share
+// that floor's rate.
+fn incision_coef(area: f32, n_cells: f32, k: f32, d: f32) -> f32
+    ensures { λ r. ⌜ r ≡ incisionCoef area «n_cells» k d ⌝ }
+{
+    k * root_of(max(area, 0.0001 * n_cells) / n_cells) / d
+}
+
+// The height that cell c drains to: the water level if it is its own receiver, and never less.
+fn drains_to(c: usize, r: usize, below: f32, water: f32) -> f32
+    ensures { λ h. ⌜ h ≡ drainedTo c r below water ⌝ }
+{
+    if r == c {
+        return water;
+    }
+    max(below, water)
+}
+
+// Incises one cell, from the heights as they stand. A cell that is not above the water is skipped.
+fn incise_cell(
+    size: Sides,
+    params: FluvialParams,
+    n_cells: f32,
+    area: &[f32],
+    recv: &[u32],
+    out: &mut [f32],
+    c: usize,
+)
+    requires { ⌜ CellOf (size .w) (now area) (now recv) (now out) c ⌝ }
+    ensures { λ _. ⌜ now (out .exit) ≡ set (now (out .entry)) c (cutAt (size .w) params «n_cells» (now (area .entry)) (now (recv .entry)) (now (out .entry)) c) ⌝ }
+{
+    let height = out[c];
+    if height <= params.water_level {
+        return;
+    }
+    let r = recv[c] as usize;
+    let d = receiver_distance(c, r, size.w);
+    let coef = incision_coef(area[c], n_cells, params.k, d);
+    let down = drains_to(c, r, out[r], params.water_level);
+    out[c] = (height + params.uplift + coef * down) / (1.0 + coef);
+}
+
+// Incises every cell of `out`, forward along the list, by areas that are given.
+pub fn incise_along(
+    size: Sides,
+    params: FluvialParams,
+    area: &[f32],
+    recv: &[u32],
+    order: &[u32],
+    out: &mut [f32],
+)
+    requires { ⌜ Drains (size .w) (size .h) (now recv) (now order) ⌝ }
+    requires { ⌜ length (now area) ≡ size .w * size .h ⌝ }
+    requires { ⌜ length (now out) ≡ size .w * size .h ⌝ }
+    ensures { λ _. ⌜ now (out .exit) ≡ inciseAlong (gridGround (size .w) (size .h) (params .«water_level») (now (out .entry))) params (now (area .entry)) (now (recv .entry)) (now (order .entry)) (now (out .entry)) ⌝ }
+{
+    let n_cells = (size.w * size.h) as f32;
+    let len = order.len();
+    let mut i: usize = 0;
+    while i < len {
+        incise_cell(size, params, n_cells, area, recv, out, order[i] as usize);
+        i += 1;
+    }
+}
+
+// The heights of `hmap` in `out`, incised along the list, with the areas along it in `area`.
+pub fn incise_into(
+    size: Sides,
+    hmap: &[f32],
+    params: FluvialParams,
+    recv: &[u32],
+    order: &[u32],
+    out: &mut [f32],
+    area: &mut [f32],
+)
+    requires { ⌜ Drains (size .w) (size .h) (now recv) (now order) ⌝ }
+    requires { ⌜ Lengths (size .w * size .h) (length (now hmap)) (length (now out)) (length (now area)) ⌝ }
+    ensures { λ _. ⌜ Carved (size .w) (size .h) (now (hmap .entry)) params (now (recv .entry)) (now (order .entry)) (now (out .exit)) (now (area .exit)) ⌝ }
+{
+    copy_heights(hmap, out);
+    accumulate(recv, order, area);
+    incise_along(size, params, area, recv, order, out);
 }

@@ -1,10 +1,12 @@
 -- The first number that a test fails of: it exists, and only one number is it.
-use Prim.Native.Nat.{ℕ, zero, suc, _≤_, _<_}
+use Prim.Native.Nat.{ℕ, zero, suc, _+_, _-_, _*_, _≤_, _<_}
+use native.Mathlib.Nat.{mul-comm}
 use native.Mathlib.Omega.{arith}
 use native.Mathlib.Decide.{decLt}
 use mathlib.Core.Path.{_≡_, refl, sym, ap, _∙_, subst}
 use mathlib.Core.Bool.{Bool, true, false, cond, true≢false}
 use lib.Dec.{eqb}
+use lib.Arith.{digits-lt}
 use borrow.Author.Tests.{eqb-true, eqb-false}
 use Rattle.lent.specs.Lent.{firstFailing, First}
 
@@ -52,3 +54,32 @@ first-all n p h = sym (first-is (record { bound = omega arith; earlier = h; fail
 
 pub all-first : (n : ℕ) (p : ℕ → Bool) → firstFailing n p ≡ n → (i : ℕ) → i < n → p i ≡ true
 all-first n p e i l = first-of n p .earlier i (omega arith)
+
+-- a search that stops at a number that fails, or comes to the end
+pub first-stop : {n : ℕ} {p : ℕ → Bool} {f : ℕ} → ((i : ℕ) → i < f → p i ≡ true) → f ≤ n → p f ≡ false → First n p f
+first-stop h l e = record { bound = l; earlier = h; fails = λ k. e }
+
+pub first-end : {n : ℕ} {p : ℕ → Bool} → ((i : ℕ) → i < n → p i ≡ true) → First n p n
+first-end h = record { bound = omega arith; earlier = h; fails = λ k. absurd (omega arith) }
+
+-- row after row of w numbers
+module _ (p : ℕ → Bool) (w y : ℕ) (passed : (c : ℕ) → c < y * w → p c ≡ true) {x : ℕ} (s : First w (λ i. p (i + y * w)) x) where
+  in-row : (c : ℕ) → c < x + y * w → p c ≡ true
+  in-row c l = go (decLt c (y * w))
+    where
+      go : Dec (c < y * w) → p c ≡ true
+      go (yes k) = passed c k
+      go (no k) =
+          let e : c ≡ (c - y * w) + y * w = omega arith in
+          ap p e ∙ s .earlier (c - y * w) (omega arith)
+
+  pub rows-more : w ≤ x → (c : ℕ) → c < (y + 1) * w → p c ≡ true
+  rows-more h c l = in-row c (omega (arith, s .bound))
+
+  pub rows-stop : {h : ℕ} → x < w → y < h → First (w * h) p (x + y * w)
+  rows-stop {h} l k = record { bound = omega (arith, digits-lt k l, mul-comm w h); earlier = in-row; fails = λ m. s .fails l }
+
+pub rows-end : (p : ℕ → Bool) (w h y : ℕ) → ((c : ℕ) → c < y * w → p c ≡ true) → y ≤ h → h ≤ y → First (w * h) p (w * h)
+rows-end p w h y passed a b =
+    let same : y ≡ h = omega arith in
+    first-end (λ c l. passed c (omega (arith, ap (λ (k : ℕ). k * w) same, mul-comm w h)))

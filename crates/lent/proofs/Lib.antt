@@ -3,3 +3,4 @@ pub mod FirstLaws
 pub mod ListLaws
 pub mod SeenLaws
 pub mod StretchLaws
+pub mod ReceiverLaws

@@ -36,7 +36,7 @@ times-take c (suc i) [] = omega arith
 times-take c (suc i) (a ∷ l) = let e = times-take c i l in omega (arith, e)
 
 -- the test and what it means
-both : (a b : Bool) → (a && b) ≡ true → (a ≡ true) × (b ≡ true)
+pub both : (a b : Bool) → (a && b) ≡ true → (a ≡ true) × (b ≡ true)
 both true b e = (refl, e)
 both false b e = absurd (true≢false (sym e))
 

@@ -25,9 +25,13 @@ unfoldable pub goodReceiver : ℕ → ℕ → ℕ → ℕ → Bool
 unfolding turns
 goodReceiver w h c r = ltb r (w * h) && (eqb r c || turns 8 (λ i found. found || eqb (neighbourAt w h c (suc i)) r) false)
 
+-- the receiver of cell c is good
+abbrev pub receiverTest : ℕ → ℕ → List ℕ → ℕ → Bool
+receiverTest w h recv c = goodReceiver w h c (getD recv c 0)
+
 -- refusal 6: the first cell with a receiver that is not good
 abbrev pub firstBadReceiver : ℕ → ℕ → List ℕ → ℕ
-firstBadReceiver w h recv = firstFailing (w * h) (λ c. goodReceiver w h c (getD recv c 0))
+firstBadReceiver w h recv = firstFailing (w * h) (receiverTest w h recv)
 
 -- the entry at a position is a cell, did not stand earlier, and any other cell that it drains into did
 unfoldable pub goodEntry : ℕ → List ℕ → List ℕ → ℕ → Bool

@@ -1,9 +1,105 @@
 // Checks of a lent network: refusal 6 for its receivers, refusal 7 for its list. Nothing lent is written before both are decided.
+use grid::Sides;
 ghost use mathlib.Core.Path.{_≡_};
-ghost use Prim.Native.Nat.{_+_, _≤_, _<_};
+ghost use mathlib.Core.Bool.{not};
+ghost use Prim.Native.Nat.{_+_, _-_, _*_, min, _≤_, _<_};
 ghost use lib.ListN.{length};
-ghost use Rattle.lent.specs.Lent.{firstBadEntry};
+ghost use Rattle.grid.specs.Sides.{InRange, cellOf};
+ghost use Rattle.grid.specs.Directions.{Place};
+ghost use Rattle.lent.specs.Lent.{First, goodReceiver, receiverTest, firstBadReceiver, firstBadEntry};
 ghost use Rattle.lent.specs.Seen.{span, isMarked, marking, stoodIn, lackedIn, noting, Scanned, Lengths};
+
+// The cell before cell c of column x in its row, or c itself in the first column.
+fn cell_before(x: usize, c: usize) -> usize
+    requires { ⌜ x ≤ c ⌝ }
+    ensures { λ r. ⌜ r ≡ c - min x 1 ⌝ }
+{
+    if x == 0 {
+        return c;
+    }
+    c - 1
+}
+
+// The cell after cell c of column x in its row, or c itself in the last column.
+fn cell_after(w: usize, x: usize, c: usize) -> usize
+    requires { ⌜ (x < w) × (w ≤ 4096) × (c < 4096 * 4096) ⌝ }
+    ensures { λ r. ⌜ r ≡ c + min (w - 1 - x) 1 ⌝ }
+{
+    if x + 1 == w {
+        return c;
+    }
+    c + 1
+}
+
+// Whether r is neither the cell of column x and row y nor a neighbour of it: those stand from one column before it to one after it, in three rows.
+fn bad_receiver(size: Sides, x: usize, y: usize, r: usize) -> bool
+    requires { ⌜ Place (size .w) (size .h) x y ⌝ }
+    ensures { λ b. ⌜ b ≡ not (goodReceiver (size .w) (size .h) (cellOf (size .w) x y) r) ⌝ }
+{
+    let w = size.w;
+    if w * size.h <= r {
+        return true;
+    }
+    let c = x + y * w;
+    let from = cell_before(x, c);
+    let to = cell_after(w, x, c);
+    if r + w < from {
+        return true;
+    }
+    if r + w <= to {
+        return false;
+    }
+    if r < from {
+        return true;
+    }
+    if r <= to {
+        return false;
+    }
+    if r < from + w {
+        return true;
+    }
+    if r <= to + w {
+        return false;
+    }
+    true
+}
+
+// The first column of row y with a bad receiver, the number of columns where it has none.
+fn first_in_row(size: Sides, recv: &[u32], y: usize) -> usize
+    requires { ⌜ InRange (size .w) (size .h) ⌝ }
+    requires { ⌜ length (now recv) ≡ size .w * size .h ⌝ }
+    requires { ⌜ y < size .h ⌝ }
+    ensures { λ r. ⌜ First (size .w) (λ x. receiverTest (size .w) (size .h) (now (recv .entry)) (cellOf (size .w) x y)) r ⌝ }
+{
+    let w = size.w;
+    let mut x: usize = 0;
+    while x < w {
+        if bad_receiver(size, x, y, recv[x + y * w] as usize) {
+            return x;
+        }
+        x += 1;
+    }
+    w
+}
+
+// Refusal 6: the first cell with a bad receiver, the number of cells where every receiver is good.
+pub fn first_bad_receiver(size: Sides, recv: &[u32]) -> usize
+    requires { ⌜ InRange (size .w) (size .h) ⌝ }
+    requires { ⌜ length (now recv) ≡ size .w * size .h ⌝ }
+    ensures { λ r. ⌜ r ≡ firstBadReceiver (size .w) (size .h) (now (recv .entry)) ⌝ }
+{
+    let w = size.w;
+    let h = size.h;
+    let mut y: usize = 0;
+    while y < h {
+        let x = first_in_row(size, recv, y);
+        if x < w {
+            return x + y * w;
+        }
+        y += 1;
+    }
+    w * h
+}
 
 // Whether place i of a stretch is marked.
 fn marked(seen: &[u64; 8192], i: usize) -> bool

@@ -1,6 +1,6 @@
 -- The blocks of a side are the source's. With s the side and r the reduced side, block b starts at the least x with b × s ≤ x × r.
-use Prim.Native.Nat.{ℕ, suc, _+_, _-_, _*_, _/_, _^_, _≤_, _<_}
-use mathlib.Core.Path.{_≡_, refl, sym, ap, _∙_, subst}
+use Prim.Native.Nat.{ℕ, _+_, _-_, _*_, _/_, _^_, _≤_, _<_}
+use mathlib.Core.Path.{_≡_, sym, subst}
 use native.Mathlib.Nat.{div-lt-iff-lt-mul, le-div-iff-mul-le, div-eq-of-lt-le, mul-comm, lt-div-mul-add, mul-le-mul, mul-le-mul-right}
 use native.Mathlib.Omega.{arith}
 use lib.Dec.{T}
@@ -9,7 +9,7 @@ use lib.Ieee.{binary32, inFloat}
 use Rattle.resample.specs.WorkSize.{Within}
 use Rattle.resample.specs.Places.{Part}
 use Rattle.resample.proofs.WorkLaws.{float-in}
-use Rattle.resample.specs.Blocks.{blockOf, firstOf, SourceBlocks}
+use Rattle.resample.specs.Blocks.{firstOf, SourceBlocks}
 
 module _ (s r : ℕ) (low : 1 ≤ r) where
   -- at or past the first column of block b

@@ -11,19 +11,14 @@ use Rattle.answers.specs.Outcome.{Outcome, gives, refused, refusedAt, refusalOf
 use Rattle.answers.specs.declared.Answer.{Answer}
 use Rattle.answers.specs.declared.Refusal.{Refusal}
 use Rattle.answers.specs.declared.Refusal.the-variants.{Side, ReducedSide, Length, Setting, Height, Receiver, Stream, Cells, Stopped, RunOff}
-use Rattle.grid.specs.Sides.{badSide, badSides}
+use Rattle.grid.specs.Sides.{badSides}
+use Rattle.grid.proofs.SidesLaws.{good-sides}
 use Rattle.resample.specs.WorkSize.{Within}
 use Rattle.resample.specs.Blocks.{badReduced, shapeRefusal}
 
 pub neither : (a b : Bool) → (a || b) ≡ false → (a ≡ false) × (b ≡ false)
 neither true b e = absurd (true≢false e)
 neither false b e = (refl, e)
-
-pub side-good : (s : ℕ) → badSide s ≡ false → (1 ≤ s) × (s ≤ 4096)
-side-good s e =
-    let p = neither (eqb s 0) (ltb 4096 s) e in
-    let n : s ≡ 0 → ⊥ = eqb-false s 0 (p .0) in
-    omega (arith, ltb-false 4096 s (p .1))
 
 reduced-good : (r s : ℕ) → badReduced r s ≡ false → (1 ≤ r) × (r ≤ s)
 reduced-good r s e =
@@ -32,7 +27,7 @@ reduced-good r s e =
     omega (arith, ltb-false s r (p .1))
 
 pub sides-good : (w h : ℕ) → badSides w h ≡ false → (w ≤ 4096) × (h ≤ 4096)
-sides-good w h e = let p = neither (badSide w) (badSide h) e in (side-good w (p .0) .1, side-good h (p .1) .1)
+sides-good w h e = let r = good-sides w h e in (r .wide, r .high)
 
 -- sides and reduced sides in range
 pub within-good : (w h dw dh : ℕ) → badSides w h ≡ false → (badReduced dw w || badReduced dh h) ≡ false → Within w h dw dh

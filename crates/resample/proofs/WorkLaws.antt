@@ -3,23 +3,21 @@
 use Prim.Native.Nat.{ℕ, zero, suc, max, _+_, _*_, _/_, _^_, _≤_, _<_}
 use mathlib.Core.Path.{_≡_, refl, sym, ap, _∙_, subst}
 use mathlib.Core.Bool.{Bool, true, false, true≢false, cond, _&&_, _||_}
-use native.Mathlib.Nat.{le-of-mul-le-mul-right, mul-le-mul-right, mul-le-mul-left, div-lt-iff-lt-mul, mul-pos, mul-le-mul, le-trans, le-of-eq, mul-one}
+use native.Mathlib.Nat.{le-of-mul-le-mul-right, mul-le-mul-right, mul-le-mul-left, div-lt-iff-lt-mul, mul-pos, le-trans, le-of-eq}
 use native.Mathlib.Omega.{arith}
 use lib.IntN.{pos}
 use lib.Dec.{T, leb, ltb, eqb, lit≤, le→leb, ltb→lt, eqb→eq, eqb·suc-zero}
-use lib.Pow.{pow-pos}
-use lib.Ieee.{Float, nan, inf, fin, Format, binary32, prec, low, emax, up, down, round, units, odd, ofInt, mul, div, le, lt, eq, toUnsigned, inFloat}
-use lib.Ieee.Bits.{cond-no, is-true}
+use lib.Ieee.{Float, nan, inf, fin, binary32, low, up, down, round, units, odd, ofInt, mul, div, le, lt, eq, toUnsigned, inFloat}
 use lib.Ieee.Fits.{round-is, down-pos}
 use lib.Ieee.Exact.{HasValue, odd-sign}
 use lib.Ieee.Order.{round-mono, drop, kept}
 use lib.Ieee.Back.{round-whole, unsigned-back}
-use borrow.Author.Tests.{eqb-true, eqb-false, ltb-true, ltb-false, leb-true, leb-false, le-leb, lt-leb}
+use borrow.Author.Tests.{leb-false, le-leb, lt-leb}
 use Rattle.floats.specs.Stand.{roundOf}
 use Rattle.resample.specs.WorkSize.{float, scaledSide, workSize, Within, WorkWithin}
-use Rattle.grid.specs.Sides.{badSide}
+use Rattle.grid.specs.Sides.{InRange}
 use Rattle.grid.specs.declared.Sides.{Sides}
-use Rattle.resample.proofs.RefusalLaws.{neither, side-good}
+use Rattle.grid.proofs.SidesLaws.{good-sides}
 
 -- finite, not negative, and at most n
 abbrev Below : Float → ℕ → Type 0
@@ -150,24 +148,21 @@ pub work-within : WorkWithin
 unfolding workSize ofInt
 work-within w h res good = go (leb (max w h) res) (leb-false (max w h) res)
   where
-    sw : (1 ≤ w) × (w ≤ 4096)
-    sw = side-good w (neither (badSide w) (badSide h) good .0)
-
-    sh : (1 ≤ h) × (h ≤ 4096)
-    sh = side-good h (neither (badSide w) (badSide h) good .1)
+    r : InRange w h
+    r = good-sides w h good
 
     same : Within w h w h
-    same = omega (arith, sw, sh)
+    same = omega (arith, r)
 
     scaled : (coef : Float) → Below coef 1 → Within w h (scaledSide coef w) (scaledSide coef h)
-    scaled coef b = omega (arith, sw, sh, scaled-within coef w b (sw .0) (sw .1), scaled-within coef h b (sh .0) (sh .1))
+    scaled coef b = omega (arith, r, scaled-within coef w b (r .columns) (r .wide), scaled-within coef h b (r .rows) (r .high))
 
     go : (t : Bool) → (t ≡ false → res < max w h) → let coef = div binary32 (float res) (float (max w h)) in
         let g : Sides = cond t (record { w = w; h = h }) (record { w = scaledSide coef w; h = scaledSide coef h }) in Within w h (g .w) (g .h)
     go true l = same
     go false l =
-        let r : res < max w h = l refl in
-        let m : max w h ≤ 4096 = omega (arith, sw, sh) in
+        let q : res < max w h = l refl in
+        let m : max w h ≤ 4096 = omega (arith, r) in
         scaled (div binary32 (float res) (float (max w h)))
         (div-below (float res) (float (max w h)) res (max w h) 1 (round-whole binary32 false res (omega arith)) (round-whole binary32 false (max w h) (omega arith)) (omega arith) (lit≤ tt) (omega arith))
 

@@ -10,6 +10,7 @@ use lib.Dec.{eqb, ltb}
 use lib.Ieee.{Float, nan, binary32, ofBits, add, div}
 use Rattle.answers.specs.Outcome.{Outcome, gives, refused, refusedAt, answerOf}
 use Rattle.answers.specs.declared.Answer.{Answer}
+use Rattle.float_order.specs.Fit.{Fit}
 use Rattle.lists.specs.Loops.{tabulate}
 use Rattle.grid.specs.Sides.{badSides}
 use Rattle.grid.specs.Heights.{firstNotFinite, allFinite}
@@ -56,6 +57,11 @@ averageOf src w h dw dh bx by =
 unfoldable pub downsampled : List Float → ℕ → ℕ → ℕ → ℕ → List Float
 unfolding averageOf tabulate
 downsampled src w h dw dh = tabulate (dw * dh) (λ c. averageOf src w h dw dh (c % dw) (c / dw))
+
+-- n values that binary32 holds
+pub record Values (n : ℕ) (l : List Float) : Type 0 where
+  pub count : length l ≡ n
+  pub fit : Fit l
 
 -- refusal 2: a reduced side that is 0 or greater than the full one
 abbrev pub badReduced : ℕ → ℕ → Bool

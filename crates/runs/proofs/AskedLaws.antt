@@ -1,24 +1,22 @@
 -- Each step asks at most one question, so a run asks few enough to count in 32 bits.
-use Prim.Native.Nat.{ℕ, zero, suc, _+_, _-_, _*_, _^_, _≤_, _<_}
-use mathlib.Core.Path.{_≡_, refl, sym, ap, _∙_, subst}
+use Prim.Native.Nat.{ℕ, suc, _+_, _*_, _^_, _≤_, _<_}
+use mathlib.Core.Path.{_≡_, refl}
 use mathlib.Core.Bool.{Bool, true, false, not, _&&_, _||_, cond}
 use mathlib.Core.List.{List}
 use native.Mathlib.Nat.{mul-le-mul, mul-le-mul-right, le-trans, lt-of-le-of-lt, suc-le-suc-iff}
 use native.Mathlib.Omega.{arith}
 use lib.Dec.{eqb, leb, ltb, lit<}
 use lib.Ieee.{Float}
-use Rattle.lists.specs.Loops.{turns}
 use Rattle.lists.proofs.TurnLaws.{turns-hold}
 use Rattle.grid.specs.Heights.{allFinite}
 use Rattle.generators.specs.Marks.{reportOf}
 use Rattle.generators.specs.declared.Progress.{Progress}
 use Rattle.generators.proofs.MarksLaws.{report-asked-most}
 use Rattle.talus.specs.Talus.{slideRow}
-use Rattle.thermal_erosion.specs.SlidePass as SlidePass
-use Rattle.thermal_erosion.specs.SlidePass.{Pass, fractionOf, rowsOf}
+use Rattle.thermal_erosion.specs.SlidePass.{Pass, fractionOf}
+use Rattle.thermal_erosion.proofs.PassLaws as Rows
 use Rattle.runs.specs.Machine.{Course, State, start, endedBy, cut, openStep, slid, closed, rowStep, step, after, steps}
 use Rattle.runs.specs.Nested.{rowsFrom, passDone, onePass, oneOpening, passesAfter, oneIteration, iterated}
-use Rattle.runs.proofs.PassLaws.{rows-none, rows-marks}
 
 -- choices between states with one record keep that record
 chosen : (a b d : Bool) (x y z u : State) (m : Progress) → x .marks ≡ m → y .marks ≡ m → z .marks ≡ m → u .marks ≡ m
@@ -74,9 +72,9 @@ after-asked c hs n =
 
 -- r rows at most r
 pub rows-asked : (c : Course) (s : State) (r : ℕ) → rowsFrom c r s .marks .asked ≤ s .marks .asked + r
-rows-asked c s zero = rw rows-none (omega arith)
-rows-asked c s (suc r) =
-    rw rows-marks (le-trans (report-asked-most (rowsFrom c r s .marks) _ (c .stop)) (omega (arith, rows-asked c s r)))
+rows-asked c s r =
+    Rows.rows-asked (c .w) (c .h) (c .thresholds) (c .strength) (c .water) (s .heights) (c .begins (s .iteration) (s .pass)) (c .begins (s .iteration) (suc (s .pass)))
+    (c .stop) (s .marks) r
 
 module _ (c : Course) (s : State) where
   pub pass-asked : onePass c s .marks .asked ≤ s .marks .asked + c .h

@@ -1,19 +1,27 @@
 -- The run step by step ends as the run by its loops.
-use Prim.Native.Nat.{ℕ, zero, suc, _+_, _*_, _≤_, _<_}
-use mathlib.Core.Path.{_≡_, refl, sym, ap, _∙_, subst}
-use mathlib.Core.Bool.{Bool, true, false, not, _&&_, _||_, cond}
+use Prim.Native.Nat.{ℕ, suc, _+_, _*_, _≤_, _<_}
+use mathlib.Core.Path.{_≡_, refl, sym, ap, ap₂, _∙_, subst}
+use mathlib.Core.Bool.{Bool, true, false, cond}
 use mathlib.Core.List.{List}
 use native.Mathlib.Omega.{arith}
 use borrow.Author.Tests.{lt-leb, le-leb, eqb-true, eqb-false, eq-eqb}
 use lib.Dec.{eqb, leb}
 use lib.Ieee.{Float}
 use Rattle.lists.specs.Loops.{turns}
-use Rattle.lists.proofs.TurnLaws.{turns-none, turns-hold, turns-kept, turns-through, turns-split, turns-product}
+use Rattle.lists.proofs.TurnLaws.{turns-hold, turns-kept, turns-through, turns-split, turns-product}
 use Rattle.grid.specs.Heights.{allFinite}
 use Rattle.generators.specs.Marks.{reportOf}
+use Rattle.grid.specs.Sides.{badSides}
+use Rattle.resample.specs.WorkSize.{workSize}
+use Rattle.resample.proofs.WorkLaws.{work-within}
+use Rattle.resample.specs.Blocks.{downsampled}
+use Rattle.upsample.specs.Samples.{FarEdge, asSource}
 use Rattle.runs.specs.Machine.{Course, State, start, endedBy, cut, openStep, step, after, steps, finished}
-use Rattle.runs.specs.Run.{Ran, ranAs}
-use Rattle.runs.specs.Nested.{onePass, oneOpening, passesAfter, oneIteration, iterated, nested, Due, Underway, dropped}
+use Rattle.runs.specs.Run.{Choice, Ran, runFrom, runOn, thermalCourse, runBy, thermalRun}
+use Rattle.runs.specs.Demand3.{courseOf}
+use Rattle.runs.specs.declared.FluvialSettings.{FluvialSettings}
+use Rattle.runs.specs.declared.ThermalSettings.{ThermalSettings}
+use Rattle.runs.specs.Nested.{onePass, oneOpening, oneIteration, iterated, nested, Due, Underway, dropped}
 use Rattle.runs.proofs.PassLaws.{step-ended, pass-ended, pass-steps}
 use Rattle.runs.proofs.IterationLaws.{opening-ended, iteration-ended, opening-is, opening-none, After, Place, underway-opening, underway-pass, due-pass, due-start, due-iteration}
 
@@ -189,6 +197,25 @@ module _ (c : Course) where
             ∙ turns-split (step c) rest (c .iterations * iterationSteps) (start c hs)
             ∙ turns-kept (λ i. step c) _ rest (λ i. step-past _ (due-after (c .iterations) (omega arith)))
 
-    -- so both give the same answer
-    pub ran-nested : (number : ℕ) (map : List Float) → ranAs number (finished c hs) map ≡ ranAs number (nested c hs) map
-    ran-nested number map = ap (λ (s : State). ranAs number s map) finished-nested
+-- so both give the same answer
+pub run-nested : (kind : FarEdge) (w h : ℕ) (c : Course) (map : List Float) → 0 < c .h → 0 < c .passes
+    → runOn kind w h c map ≡ runFrom kind w h c map (nested c (downsampled map w h (c .w) (c .h))) (nested c map)
+run-nested kind w h c map high some =
+    ap₂ (runFrom kind w h c map) (finished-nested c high some (downsampled map w h (c .w) (c .h))) (finished-nested c high some map)
+
+-- whole runs on sides of 1 to 4,096, by the states that their loops end in
+module _ (w h stop : ℕ) (map : List Float) (good : badSides w h ≡ false) where
+  abbrev pub byLoops : Course → Ran
+  byLoops c = runFrom asSource w h c map (nested c (downsampled map w h (c .w) (c .h))) (nested c map)
+
+  pub fluvial-nested : (s : FluvialSettings) (choose : Choice) → runBy w h s stop choose map ≡ byLoops (courseOf w h s stop map choose)
+  unfolding runBy
+  fluvial-nested s choose =
+      run-nested asSource w h (courseOf w h s stop map choose) map (work-within w h (s .«work_res») good .dh-low) (omega arith)
+
+  pub thermal-nested : (s : ThermalSettings)
+      → thermalRun w h s stop map ≡ byLoops (thermalCourse (workSize w h (s .«work_res») .w) (workSize w h (s .«work_res») .h) s stop)
+  unfolding thermalRun
+  thermal-nested s =
+      run-nested asSource w h (thermalCourse (workSize w h (s .«work_res») .w) (workSize w h (s .«work_res») .h) s stop) map
+      (work-within w h (s .«work_res») good .dh-low) (omega arith)

@@ -1,20 +1,19 @@
 -- The run as its loops go: a state that has not ended stands at a place between passes, and the place fixes its counts.
-use Prim.Native.Nat.{ℕ, zero, suc, _+_, _*_, _≤_, _<_}
+use Prim.Native.Nat.{ℕ, suc, _+_, _-_, _≤_, _<_}
 use mathlib.Core.Path.{_≡_, refl, sym, ap, _∙_, subst}
-use mathlib.Core.Bool.{Bool, true, false, not, _&&_, cond}
+use mathlib.Core.Bool.{Bool, true, false, _&&_, cond}
 use mathlib.Core.List.{List}
 use native.Mathlib.Omega.{arith}
 use borrow.Author.Tests.{lt-leb, le-leb, eqb-true, eq-eqb}
 use lib.Dec.{eqb, leb}
 use lib.Ieee.{Float}
 use Rattle.lists.specs.Loops.{turns}
-use Rattle.lists.proofs.TurnLaws.{turns-hold, turns-kept}
+use Rattle.lists.proofs.TurnLaws.{turns-hold, turns-kept, turns-stay}
 use Rattle.grid.specs.Heights.{allFinite}
 use Rattle.generators.specs.Marks.{reportOf}
-use Rattle.generators.specs.declared.Progress.{Progress}
-use Rattle.thermal_erosion.specs.SlidePass.{Pass}
-use Rattle.runs.specs.Machine.{Course, State, start, endedBy, cut, openStep, closed}
-use Rattle.runs.specs.Nested.{rowsFrom, passDone, onePass, oneOpening, passesAfter, oneIteration, iterated, Due, Underway}
+use Rattle.thermal_erosion.specs.SlidePass.{Pass, rowsOf}
+use Rattle.runs.specs.Machine.{Course, State, start, cut, openStep, closed}
+use Rattle.runs.specs.Nested.{rowsFrom, passDone, onePass, oneOpening, passesAfter, oneIteration, iterated, nested, Due, Underway}
 use Rattle.runs.proofs.PassLaws.{pass-ended}
 
 module _ (c : Course) (s : State) where
@@ -115,13 +114,18 @@ module _ (c : Course) (s : State) where
 -- a run begins due to begin iteration 0
 pub due-start : (c : Course) (hs : List Float) → Due c 0 (start c hs)
 due-start c hs =
-    record { number = refl; iteration = refl; pass = refl; opened = refl; row = refl; copy = refl; incisions = go (c .cutting); passes = omega arith }
+    record { number = refl; iteration = refl; pass = refl; opened = refl; row = refl; copy = refl; incisions = go (c .cutting); passes = omega arith; unstopped = refl }
   where
     go : (b : Bool) → _≡_ {A = ℕ} 0 (cond b 0 0)
     go true = refl
     go false = refl
 
 module _ (c : Course) (it : ℕ) (s : State) where
+  -- the rows of a pass by its place
+  pub rows-at : (q : ℕ) → Underway c it q s → (n : ℕ)
+      → rowsFrom c n s ≡ rowsOf (c .w) (c .h) (c .thresholds) (c .strength) (c .water) (s .heights) (c .begins it q) (c .begins it (suc q)) (c .stop) n (s .marks)
+  rows-at q u n = rw (u .iteration, u .pass)
+
   -- the opening of an iteration leads to its pass 0
   pub underway-opening : Due c it s → oneOpening c s .number ≡ 0 → Underway c it 0 (oneOpening c s)
   underway-opening d after = go (c .cutting) refl
@@ -138,6 +142,7 @@ module _ (c : Course) (it : ℕ) (s : State) where
             copy = refl;
             incisions = rw e (ap suc (d .incisions ∙ rw e));
             passes = omega (arith, d .passes);
+            unstopped = opening-on c s e after .unstopped;
           })
       go false e =
           subst (λ (t : State). Underway c it 0 t) (sym (opening-none c s e))
@@ -150,6 +155,7 @@ module _ (c : Course) (it : ℕ) (s : State) where
             copy = d .copy;
             incisions = d .incisions ∙ rw e;
             passes = omega (arith, d .passes);
+            unstopped = d .unstopped;
           })
 
   module _ (q : ℕ) (u : Underway c it q s) (after : onePass c s .number ≡ 0) where
@@ -170,6 +176,7 @@ module _ (c : Course) (it : ℕ) (s : State) where
           copy = refl;
           incisions = u .incisions;
           passes = omega (arith, u .passes);
+          unstopped = pass-on c s after .unstopped;
         })
 
     -- the last one to the next iteration
@@ -186,6 +193,7 @@ module _ (c : Course) (it : ℕ) (s : State) where
           copy = refl;
           incisions = u .incisions;
           passes = omega (arith, u .passes);
+          unstopped = pass-on c s after .unstopped;
         })
 
 -- the place after n passes of iteration `it`: pass n of it, or the next iteration after all of them
@@ -222,3 +230,15 @@ module _ (c : Course) (some : 0 < c .passes) where
 
     pub underway-iterated : (it q : ℕ) → q < c .passes → passesAfter c q (iterated c it hs) .number ≡ 0 → Underway c it q (passesAfter c q (iterated c it hs))
     underway-iterated it q = underway-passes it (iterated c it hs) (due-iterated it) q
+
+-- an iteration that ends early, and a run that does
+pub iteration-stays : (c : Course) (s : State) (q : ℕ) → q ≤ c .passes → eqb (passesAfter c q s .number) 0 ≡ false → oneIteration c s ≡ passesAfter c q s
+unfolding oneIteration
+iteration-stays c s q l ended =
+    let e : c .passes ≡ q + (c .passes - q) = omega arith in
+    ap (λ (n : ℕ). passesAfter c n s) e ∙ turns-stay (λ i. onePass c) (oneOpening c s) q (c .passes - q) (λ i. pass-ended c (passesAfter c q s) ended)
+
+pub nested-stays : (c : Course) (hs : List Float) (n : ℕ) → n ≤ c .iterations → eqb (iterated c n hs .number) 0 ≡ false → nested c hs ≡ iterated c n hs
+nested-stays c hs n l ended =
+    let e : c .iterations ≡ n + (c .iterations - n) = omega arith in
+    ap (λ (n : ℕ). iterated c n hs) e ∙ turns-stay (λ i. oneIteration c) (start c hs) n (c .iterations - n) (λ i. iteration-ended c (iterated c n hs) ended)

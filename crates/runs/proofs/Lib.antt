@@ -4,7 +4,9 @@ pub mod PassLaws
 pub mod IterationLaws
 pub mod CourseLaws
 pub mod AskedLaws
+pub mod KeptLaws
 pub mod PlanLaws
+pub mod BoundLaws
 pub mod SameLaws
 pub mod SoundLaws
 pub mod CutLaws

@@ -1,14 +1,13 @@
 -- The rows of a pass, step by step, make the pass: h steps from a state that is about to begin one are `onePass`.
-use Prim.Native.Nat.{ℕ, zero, suc, _+_, _≤_, _<_}
+use Prim.Native.Nat.{ℕ, zero, suc, _≤_, _<_}
 use mathlib.Core.Path.{_≡_, refl, sym, ap, _∙_, subst}
-use mathlib.Core.Bool.{Bool, true, false, not, _||_, cond}
+use mathlib.Core.Bool.{Bool, true, false, cond}
 use mathlib.Core.List.{List}
 use native.Mathlib.Omega.{arith}
 use borrow.Author.Tests.{lt-ltb, le-ltb, lt-leb}
-use lib.Dec.{eqb, leb, ltb}
+use lib.Dec.{eqb, leb}
 use lib.Ieee.{Float}
 use Rattle.lists.specs.Loops.{turns}
-use Rattle.lists.proofs.TurnLaws.{turns-kept}
 use Rattle.grid.specs.Heights.{allFinite}
 use Rattle.generators.specs.Marks.{reportOf}
 use Rattle.generators.specs.declared.Progress.{Progress}
@@ -91,17 +90,13 @@ module _ (c : Course) (s : State) where
     next-on : questioned r p .stopped ≡ false → next r p ≡ slidden
     next-on h = ap (λ (b : Bool). cond b p slidden) (report-on (p .marks) _ (c .stop) h)
 
-  pub rows-none : rowsFrom c 0 s ≡ record { out = s .heights; marks = s .marks }
+  rows-none : rowsFrom c 0 s ≡ record { out = s .heights; marks = s .marks }
   unfolding rowsOf turns
   rows-none = refl
 
   rows-next : (r : ℕ) → rowsFrom c (suc r) s ≡ next r (rowsFrom c r s)
   unfolding rowsOf turns
   rows-next r = refl
-
-  -- the question of row r
-  pub rows-marks : (r : ℕ) → rowsFrom c (suc r) s .marks ≡ questioned r (rowsFrom c r s)
-  rows-marks r = ap (λ (p : Pass). p .marks) (rows-next r) ∙ next-marks r (rowsFrom c r s)
 
 module _ (c : Course) (s : State) (due : leb (c .iterations) (s .iteration) ≡ false) (opened : s .opened ≡ true) where
   module _ (r : ℕ) (p : Pass) where

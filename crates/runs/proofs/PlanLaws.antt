@@ -1,23 +1,21 @@
 -- The number of passes as whole numbers have it: the scale and iterations × scale are exact, so passes = ⌈iterations × longest side / 512⌉, at least 1.
-use Prim.Native.Nat.{ℕ, zero, suc, _+_, _-_, _*_, _/_, _^_, _≤_, _<_, max, min}
+use Prim.Native.Nat.{ℕ, _+_, _-_, _*_, _/_, _^_, _≤_, _<_, max, min}
 use mathlib.Core.Path.{_≡_, refl, sym, ap, _∙_, subst}
 use mathlib.Core.Bool.{Bool, true, false, true≢false}
 use mathlib.Core.Logic.{_⊎_, inl, inr}
-use native.Mathlib.Nat.{eq-or-lt-of-le, lt-of-lt-of-le, le-trans, mul-assoc, mul-comm, mul-pos, mul-le-mul, mul-le-mul-right, le-of-mul-le-mul-right, lt-of-mul-lt-mul-right, mul-lt-mul-of-pos-right, div-eq-of-lt-le, div-mul-le-self, lt-div-mul-add, div-one, mul-mul-mul-comm}
+use native.Mathlib.Nat.{eq-or-lt-of-le, lt-of-lt-of-le, mul-assoc, mul-pos, mul-le-mul, mul-le-mul-right, le-of-mul-le-mul-right, lt-of-mul-lt-mul-right, mul-lt-mul-of-pos-right, div-eq-of-lt-le, mul-mul-mul-comm}
 use native.Mathlib.Omega.{arith}
-use lib.IntN.{ℤ, pos}
-use lib.Dec.{T, eqb, lit<, lit≤}
-use lib.Pow.{shl-lt, pow-pos}
-use lib.Ieee.{Float, nan, inf, fin, Format, binary32, up, down, unlike, ofBits, ofInt, round, mul, div, fits, toUnsigned}
+use lib.IntN.{pos}
+use lib.Dec.{T, lit<, lit≤}
+use lib.Pow.{shl-lt}
+use lib.Ieee.{Float, fin, Format, binary32, up, down, unlike, ofBits, ofInt, round, mul, div, fits, toUnsigned}
 use lib.Ieee.Fits.{down-pos, mul-fits}
 use lib.Ieee.Exact.{HasValue, round-exact}
 use lib.Ieee.Scale.{round-same}
 use Rattle.floats.specs.Stand.{ceilOf}
 use Rattle.floats.proofs.ValueLaws.{ofInt-value, cut-value}
 use Rattle.floats.proofs.WholeLaws.{ceilOf-value}
-use Rattle.runs.specs.Plan.{scaleOf, passesOf, fluvialPlan, thermalPasses}
-use Rattle.runs.specs.declared.FluvialSettings.{FluvialSettings}
-use Rattle.runs.specs.declared.ThermalSettings.{ThermalSettings}
+use Rattle.runs.specs.Plan.{scaleOf, passesOf}
 
 -- a product of two floats that are not negative, by any fractions that they equal
 mul-values : (f : Format) (x y : Float) (a c b d : ℕ) → 0 < c → 0 < d → HasValue x false a c → HasValue y false b d → mul f x y ≡ round f false (a * b) (c * d)

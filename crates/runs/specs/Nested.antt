@@ -1,15 +1,15 @@
 -- The run of Machine.antt as its loops go: iterations; in each its opening and its passes; in each pass all its rows. proofs/CourseLaws.antt shows
 -- that both ways end in the same state.
-use Prim.Native.Nat.{ℕ, suc, _+_, _*_}
+use Prim.Native.Nat.{ℕ, suc, _+_, _*_, _^_, _≤_, _<_}
 use mathlib.Core.Path.{_≡_}
-use mathlib.Core.Bool.{Bool, true, not, _&&_, cond}
+use mathlib.Core.Bool.{true, false, not, _&&_, cond}
 use mathlib.Core.List.{List}
-use lib.Dec.{eqb, leb}
+use lib.Dec.{eqb}
 use lib.Ieee.{Float}
 use Rattle.lists.specs.Loops.{turns}
 use Rattle.grid.specs.Heights.{allFinite}
 use Rattle.thermal_erosion.specs.SlidePass.{Pass, rowsOf}
-use Rattle.runs.specs.Machine.{Course, State, start, endedBy, openStep, closed}
+use Rattle.runs.specs.Machine.{Course, State, start, endedBy, openStep, closed, steps}
 
 module _ (c : Course) where
   -- the first n rows of the pass that a state is about to begin
@@ -57,6 +57,7 @@ pub record Due (c : Course) (it : ℕ) (s : State) : Type 0 where
   pub copy : s .copy ≡ s .heights
   pub incisions : s .incisions ≡ cond (c .cutting) it 0
   pub passes : s .passes ≡ it * c .passes
+  pub unstopped : s .marks .stopped ≡ false
 
 -- or it is due to begin pass q of that iteration, which has been opened.
 pub record Underway (c : Course) (it q : ℕ) (s : State) : Type 0 where
@@ -68,6 +69,19 @@ pub record Underway (c : Course) (it q : ℕ) (s : State) : Type 0 where
   pub copy : s .copy ≡ s .heights
   pub incisions : s .incisions ≡ cond (c .cutting) (suc it) 0
   pub passes : s .passes ≡ it * c .passes + q
+  pub unstopped : s .marks .stopped ≡ false
+
+-- what the ranges of document 01 give of a course: every count fits in 32 bits
+pub record Bounded (c : Course) : Type 0 where
+  pub columns : 1 ≤ c .w
+  pub rows : 1 ≤ c .h
+  pub wide : c .w ≤ 4096
+  pub high : c .h ≤ 4096
+  pub due : 1 ≤ c .iterations
+  pub some : 1 ≤ c .passes
+  pub iterations : c .iterations ≤ 32768
+  pub passes : c .iterations * c .passes ≤ 32768
+  pub steps : steps c < 2 ^ 28
 
 -- an ended state without the row in which it ended, which no answer shows
 abbrev pub dropped : State → State

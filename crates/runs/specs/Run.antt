@@ -119,16 +119,18 @@ addedBack kind w h dw dh map small s =
     let sum = addedOf kind map w h delta dw dh in
     cond (allFinite delta && allFinite sum) (ranAs 0 s sum) (ranAs 22 s map)
 
--- a course on the w × h map: on the map itself where the working sides are its own, else on its block averages
-abbrev pub runOn : FarEdge → ℕ → ℕ → Course → List Float → Ran
-runOn kind w h c map =
+-- What a course on the w × h map ends with, by the states that it ends in on the map's block averages and on the map itself: on the map where the
+-- working sides are its own, else on the averages.
+abbrev pub runFrom : FarEdge → ℕ → ℕ → Course → List Float → State → State → Ran
+runFrom kind w h c map s full =
     let small = downsampled map w h (c .w) (c .h) in
-    let s = finished c small in
-    let full = finished c map in
     cond (eqb (c .w) w && eqb (c .h) h) (ranAs (full .number) full (full .heights))
     (cond (allFinite small)
     (cond (eqb (s .number) 0) (addedBack kind w h (c .w) (c .h) map small s) (ranAs (s .number) s map))
     (record { number = 22; incisions = 0; passes = 0; questions = 0; map = map }))
+
+abbrev pub runOn : FarEdge → ℕ → ℕ → Course → List Float → Ran
+runOn kind w h c map = runFrom kind w h c map (finished c (downsampled map w h (c .w) (c .h))) (finished c map)
 
 -- a whole fluvial run by the work lists that `choose` gives
 unfoldable pub runBy : ℕ → ℕ → FluvialSettings → ℕ → Choice → List Float → Ran

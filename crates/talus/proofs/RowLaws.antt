@@ -1,13 +1,14 @@
 -- A row as a run of cells.
-use Prim.Native.Nat.{ℕ, suc, _+_, _*_, _≤_, _<_}
-use mathlib.Core.Path.{_≡_, refl, sym, ap, _∙_}
+use Prim.Native.Nat.{ℕ, zero, suc, _+_, _-_, _*_, _≤_, _<_}
+use mathlib.Core.Path.{_≡_, refl, sym, ap, ap₂, _∙_}
 use mathlib.Core.List.{List}
 use native.Mathlib.Omega.{arith}
 use lib.Ieee.{Float}
 use Rattle.lists.specs.Loops.{turns}
 use Rattle.lists.proofs.TurnLaws.{turns-none, turns-more, turns-same}
 use Rattle.grid.proofs.SidesLaws.{cell-lt}
-use Rattle.talus.specs.Talus.{slideCell, slideCells, slideRow, CellAt, InRow}
+use Rattle.talus.specs.Talus.{slideCell, slideCells, slideRow}
+use Rattle.talus.specs.Places.{CellAt, InRow}
 
 -- column x + i of a row
 pub row-cell-at : {w h cells y x n : ℕ} (i : ℕ) → InRow w h cells y x n → i < n → CellAt w h cells (x + i) y (x + i + y * w)
@@ -34,10 +35,3 @@ module _ (w h : ℕ) (ts hs : List Float) (strength water : Float) (y x : ℕ) (
   cells-more i s r e f =
       f ∙ ap (slideCell w h ts hs strength water (x + i + y * w)) e
       ∙ sym (turns-more (λ i. slideCell w h ts hs strength water (x + i + y * w)) i out)
-
--- the whole row is the run of its w cells
-pub row-cells : (w h : ℕ) (ts hs : List Float) (strength water : Float) (y : ℕ) (out : List Float)
-    → slideCells w h ts hs strength water y 0 w out ≡ slideRow w h ts hs strength water y out
-unfolding slideCells slideRow
-row-cells w h ts hs strength water y out =
-    turns-same _ _ out w (λ i t l. let e : 0 + i + y * w ≡ i + y * w = omega arith in ap (λ (c : ℕ). slideCell w h ts hs strength water c t) e)

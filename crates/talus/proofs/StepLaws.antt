@@ -10,7 +10,8 @@ use Rattle.lists.specs.Loops.{turns}
 use Rattle.lists.proofs.TurnLaws.{turns-none, turns-more}
 use Rattle.grid.specs.Directions.{neighbourOf, neighbourAt}
 use Rattle.grid.proofs.SidesLaws.{cell-lt, column-cell, row-cell}
-use Rattle.talus.specs.Talus.{shedTo, shedStep, gainTo, gainStep, CellAt}
+use Rattle.talus.specs.Talus.{shedTo, shedStep, gainTo, gainStep}
+use Rattle.talus.specs.Places.{CellAt}
 use Rattle.talus.specs.declared.Shed.{Shed}
 
 module _ {w h n x y c : ℕ} (a : CellAt w h n x y c) where

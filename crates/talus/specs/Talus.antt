@@ -1,7 +1,6 @@
 -- Document 01, 'Talus': heights are read from the map at entry and the gains added to a copy, cells in number order. The thresholds of the
 -- directions are an argument, entry d that of direction d; entry 0 stands for no direction.
-use Prim.Native.Nat.{ℕ, suc, _+_, _*_, _≤_, _<_}
-use mathlib.Core.Path.{_≡_}
+use Prim.Native.Nat.{ℕ, suc, _+_, _*_}
 use mathlib.Core.Bool.{Bool, _&&_, cond}
 use mathlib.Core.List.{List, [], _∷_}
 use lib.ListN.{getD, set}
@@ -9,7 +8,7 @@ use lib.Dec.{ltb}
 use lib.Ieee.{Float, nan, binary32, ofBits, add, sub, mul, div, lt, le}
 use Rattle.lists.specs.Loops.{turns}
 use Rattle.floats.specs.Stand.{maxOf}
-use Rattle.grid.specs.Directions.{Place, neighbourAt}
+use Rattle.grid.specs.Directions.{neighbourAt}
 use Rattle.talus.specs.declared.Shed.{Shed}
 
 -- the threshold toward the sides, and × `SQRT_2` toward the corners
@@ -85,17 +84,3 @@ module _ (w h : ℕ) (ts : List Float) (hs : List Float) where
   unfoldable pub slideRow : Float → Float → ℕ → List Float → List Float
   unfolding turns slideCell
   slideRow strength water y out = turns w (λ x. slideCell strength water (x + y * w)) out
-
--- column x, row y is cell c of a w × h map of n heights
-pub record CellAt (w h n x y c : ℕ) : Type 0 where
-  pub place : Place w h x y
-  pub cells : n ≡ w * h
-  pub cell : c ≡ x + y * w
-
--- n columns from column x on, in row y of a w × h map of `cells` heights
-pub record InRow (w h cells y x n : ℕ) : Type 0 where
-  pub columns : x + n ≤ w
-  pub row : y < h
-  pub wide : w ≤ 4096
-  pub high : h ≤ 4096
-  pub size : cells ≡ w * h

@@ -6,7 +6,8 @@ use grid::neighbour;
 ghost use mathlib.Core.Path.{_≡_};
 ghost use Prim.Native.Nat.{suc, _+_, _*_, _<_, _≤_};
 ghost use lib.ListN.{length};
-ghost use Rattle.talus.specs.Talus.{thresholdsOf, shedTo, shedStep, shedOf, gainTo, gainStep, gainsOf, slideCell, slideCells, slideRow, CellAt, InRow};
+ghost use Rattle.talus.specs.Talus.{thresholdsOf, shedTo, shedStep, shedOf, gainTo, gainStep, gainsOf, slideCell, slideCells};
+ghost use Rattle.talus.specs.Places.{CellAt, InRow};
 
 // The total of the excesses counted so far, and the greatest of them.
 pub struct Shed {
@@ -25,7 +26,7 @@ pub fn thresholds(t: f32) -> [f32; 9]
 }
 
 // The excess of cell c toward cell m in direction d is counted if it is above 0.
-fn shed_at(ts: &[f32; 9], hmap: &[f32], c: usize, m: usize, d: usize, s: Shed) -> Shed
+pub fn shed_at(ts: &[f32; 9], hmap: &[f32], c: usize, m: usize, d: usize, s: Shed) -> Shed
     requires { ⌜ c < length (now hmap) ⌝ }
     requires { ⌜ m < length (now hmap) ⌝ }
     requires { ⌜ d < 9 ⌝ }
@@ -42,7 +43,7 @@ fn shed_at(ts: &[f32; 9], hmap: &[f32], c: usize, m: usize, d: usize, s: Shed) -
 }
 
 // Cell m's gain, if the excess of cell c toward it is counted.
-fn gain_at(
+pub fn gain_at(
     ts: &[f32; 9],
     hmap: &[f32],
     out: &mut [f32],
@@ -178,7 +179,7 @@ fn slide_cell(
 }
 
 // The n cells of row y from column x on, from the west.
-fn slide_cells(
+pub fn slide_cells(
     size: Sides,
     ts: &[f32; 9],
     hmap: &[f32],
@@ -209,21 +210,4 @@ fn slide_cells(
         );
         i += 1;
     }
-}
-
-// One row, from the west.
-pub fn slide_row(
-    size: Sides,
-    ts: &[f32; 9],
-    hmap: &[f32],
-    out: &mut [f32],
-    strength: f32,
-    water: f32,
-    y: usize,
-)
-    requires { ⌜ InRow (size .w) (size .h) (length (now hmap)) y 0 (size .w) ⌝ }
-    requires { ⌜ length (now out) ≡ length (now hmap) ⌝ }
-    ensures { λ _. ⌜ now (out .exit) ≡ slideRow (size .w) (size .h) (now (ts .entry)) (now (hmap .entry)) strength water y (now (out .entry)) ⌝ }
-{
-    slide_cells(size, ts, hmap, out, strength, water, y, 0, size.w);
 }

@@ -2,3 +2,4 @@
 pub mod PassLaws
 pub mod CopyLaws
 pub mod SlideLaws
+pub mod PlateLaws

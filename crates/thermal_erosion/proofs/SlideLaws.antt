@@ -30,16 +30,20 @@ neither : (a b : Bool) → (a || b) ≡ false → (a ≡ false) × (b ≡ false)
 neither true b e = absurd (true≢false e)
 neither false b e = (refl, e)
 
-side-most : (s : ℕ) → badSide s ≡ false → s ≤ 4096
-side-most s e = ltb-false _ _ (neither (eqb s 0) (ltb 4096 s) e .1)
+-- a side in range
+side-good : (s : ℕ) → badSide s ≡ false → (1 ≤ s) × (s ≤ 4096)
+side-good s e =
+    let p = neither (eqb s 0) (ltb 4096 s) e in
+    let n : s ≡ 0 → ⊥ = eqb-false s 0 (p .0) in
+    omega (arith, ltb-false 4096 s (p .1))
 
-pub sides-most : (w h : ℕ) → badSides w h ≡ false → (w ≤ 4096) × (h ≤ 4096)
-sides-most w h e =
-    let n : (badSide w ≡ false) × (badSide h ≡ false) = neither (badSide w) (badSide h) e in
-    (side-most w (n .0), side-most h (n .1))
+sides-good : (w h : ℕ) → badSides w h ≡ false → (1 ≤ w) × ((w ≤ 4096) × (h ≤ 4096))
+sides-good w h e =
+    let n = neither (badSide w) (badSide h) e in
+    omega (arith, side-good w (n .0), side-good h (n .1))
 
 pub cells-fit-sides : (w h : ℕ) → badSides w h ≡ false → Fits w64 (w * h)
-cells-fit-sides w h e = let m : (w ≤ 4096) × (h ≤ 4096) = sides-most w h e in cells-fit w h (m .0) (m .1)
+cells-fit-sides w h e = let m = sides-good w h e in cells-fit w h (m .1 .0) (m .1 .1)
 
 asked-most : (p : ThermalParams) (from to : Float) (m : Progress) → badPass p from to m ≡ false → m .asked ≤ 2 ^ 31
 asked-most p from to m e =
@@ -59,8 +63,8 @@ pub slide-ready : (w h map copy : ℕ) (p : ThermalParams) (from to : Float) (m 
     → badPass p from to m ≡ false
     → Ready w h map copy (m .asked)
 slide-ready w h map copy p from to m sides a b set =
-    let s : (w ≤ 4096) × (h ≤ 4096) = sides-most w h sides in
-    record { wide = s .0; high = s .1; heights = a; copied = b ∙ sym a; questions = omega (arith, asked-most p from to m set) }
+    let s = sides-good w h sides in
+    record { some = s .0; wide = s .1 .0; high = s .1 .1; heights = a; copied = b ∙ sym a; questions = omega (arith, asked-most p from to m set) }
 
 -- the ends of a pass: stopped, complete, run off
 module _ (s : Pass) (new : List Float) (m : Progress) (e : _≡_ {A = Pass} (record { out = new; marks = m }) s) where

@@ -42,6 +42,7 @@ module _ (w h : ℕ) (ts : List Float) (strength water : Float) (hs : List Float
 
 -- what a pass asks of its grid, of the lengths of the map and the copy, and of the questions asked before it: each row may ask one more
 pub record Ready (w h map copy asked : ℕ) : Type 0 where
+  pub some : 1 ≤ w
   pub wide : w ≤ 4096
   pub high : h ≤ 4096
   pub heights : map ≡ w * h

@@ -10,10 +10,9 @@ use lib.Dec.{eqb, ltb}
 use lib.Ieee.{Float, nan}
 use borrow.Author.Tests.{ltb-true, eqb-true, not-false}
 use Rattle.floats.specs.Stand.{indexOf}
-use Rattle.grid.specs.Sides.{badSide, badSides}
+use Rattle.grid.specs.Sides.{badSides}
 use Rattle.grid.specs.Directions.{Place}
-use Rattle.grid.proofs.SidesLaws.{cells-bound}
-use Rattle.resample.proofs.RefusalLaws.{neither, side-good}
+use Rattle.grid.proofs.SidesLaws.{cells-bound, good-sides}
 use Rattle.upsample.specs.Places.{Grid}
 use Rattle.upsample.specs.Samples.{asSource, northEast, southWest, southEast, between, bilinearAt}
 
@@ -68,5 +67,5 @@ grid-row {w} {h} {len} {y} g l = omega (arith, rows w h y l, cells-bound w h (g 
 
 pub grid-good : (w h len : ℕ) → badSides w h ≡ false → not (eqb len (w * h)) ≡ false → Grid w h len
 grid-good w h len e f =
-    let p = neither (badSide w) (badSide h) e in
-    omega (arith, side-good w (p .0), side-good h (p .1), eqb-true len (w * h) (not-false (eqb len (w * h)) f))
+    let r = good-sides w h e in
+    record { w-low = r .columns; w-high = r .wide; h-low = r .rows; h-high = r .high; size = eqb-true len (w * h) (not-false (eqb len (w * h)) f) }

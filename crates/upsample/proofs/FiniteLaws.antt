@@ -1,20 +1,16 @@
 -- Values f 0, f 1, … that are all finite, as a loop finds them so, and `allFinite` of their list.
-use Prim.Native.Nat.{ℕ, zero, suc, _+_, _-_, _*_, _≤_, _<_}
+use Prim.Native.Nat.{ℕ, _+_, _-_, _*_, _≤_, _<_}
 use mathlib.Core.Path.{_≡_, refl, sym, ap, _∙_, subst}
-use mathlib.Core.Logic.{inl, inr}
-use mathlib.Core.Bool.{Bool, true, false, true≢false, cond}
-use mathlib.Core.List.{List, [], _∷_}
-use native.Mathlib.Nat.{mul-comm, mul-le-mul-right, eq-or-lt-of-le}
+use mathlib.Core.Bool.{Bool, true, false, true≢false}
+use native.Mathlib.Nat.{mul-comm, mul-le-mul-right}
 use native.Mathlib.Decide.{decLt}
 use native.Mathlib.Omega.{arith}
-use lib.ListN.{length, getD}
 use lib.Ieee.{Float, nan}
 use lib.Ieee.Scale.{finite}
-use borrow.Author.Tests.{eq-eqb, eqb-true}
 use Rattle.lists.specs.Loops.{tabulate}
 use Rattle.lists.proofs.TableLaws.{length-tabulate, getD-tabulate}
-use Rattle.grid.specs.Heights.{firstNotFinite, allFinite, FiniteBelow}
-use Rattle.grid.proofs.HeightsLaws.{first-none}
+use Rattle.grid.specs.Heights.{allFinite}
+use Rattle.grid.proofs.HeightsLaws.{below-all, all-at}
 
 pub record Finites (f : ℕ → Float) (n : ℕ) : Type 0 where
   pub each : (k : ℕ) → k < n → finite (f k) ≡ true
@@ -32,33 +28,18 @@ finites-more {f} {i} p e = record { each = λ k l. go k l (decLt k i) }
     go k l (yes q) = p .each k q
     go k l (no q) = let same : k ≡ i = omega arith in ap (λ (j : ℕ). finite (f j)) same ∙ e
 
--- what comes before the first bad cell is finite
-first-below : (hs : List Float) (i : ℕ) → i < firstNotFinite hs → finite (getD hs i nan) ≡ true
-unfolding firstNotFinite
-first-below [] i l = absurd (omega arith)
-first-below (x ∷ xs) i l = go (λ k. first-below xs k) (finite x) refl i l
-  where
-    go : ((k : ℕ) → k < firstNotFinite xs → finite (getD xs k nan) ≡ true) → (b : Bool) → finite x ≡ b → (i : ℕ) → i < cond b (suc (firstNotFinite xs)) 0
-        → finite (getD (x ∷ xs) i nan) ≡ true
-    go r true e zero l = e
-    go r true e (suc i) l = r i (omega arith)
-    go r false e i l = absurd (omega arith)
-
 module _ (f : ℕ → Float) (n : ℕ) where
   pub finites-all : Finites f n → allFinite (tabulate n f) ≡ true
-  unfolding allFinite
   finites-all p =
-      eq-eqb (firstNotFinite (tabulate n f)) (length (tabulate n f)) (first-none (tabulate n f) (record {
+      below-all (record {
         each = λ i l.
             let h : i < n = subst (λ (k : ℕ). i < k) (length-tabulate f n) l in ap finite (getD-tabulate f n i nan h) ∙ p .each i h;
-      }))
+      })
 
   pub finites-back : allFinite (tabulate n f) ≡ true → Finites f n
-  unfolding allFinite
   finites-back e = record {
     each = λ k l.
-        let q : firstNotFinite (tabulate n f) ≡ length (tabulate n f) = eqb-true (firstNotFinite (tabulate n f)) (length (tabulate n f)) e in
-        ap finite (sym (getD-tabulate f n k nan l)) ∙ first-below (tabulate n f) k (omega (arith, length-tabulate f n));
+        ap finite (sym (getD-tabulate f n k nan l)) ∙ all-at (tabulate n f) e k (subst (λ (m : ℕ). k < m) (sym (length-tabulate f n)) l);
   }
 
   pub finites-not : (i : ℕ) → i < n → finite (f i) ≡ false → allFinite (tabulate n f) ≡ false

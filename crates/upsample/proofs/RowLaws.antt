@@ -1,7 +1,7 @@
 -- One row of the sum, and the rows of the map together.
-use Prim.Native.Nat.{ℕ, zero, suc, _+_, _-_, _*_, _/_, _%_, _≤_, _<_}
-use mathlib.Core.Path.{_≡_, refl, sym, ap, ap₂, _∙_, subst}
-use mathlib.Core.Bool.{Bool, true, false}
+use Prim.Native.Nat.{ℕ, zero, suc, _+_, _-_, _*_, _≤_, _<_}
+use mathlib.Core.Path.{_≡_, sym, ap, ap₂, _∙_, subst}
+use mathlib.Core.Bool.{Bool}
 use mathlib.Core.List.{List, [], _∷_, _++_, append-assoc, append-nil}
 use native.Mathlib.Nat.{mul-comm, mul-le-mul-right}
 use native.Mathlib.Omega.{arith}
@@ -9,14 +9,16 @@ use lib.ListN.{length, getD, take, drop, length-take, length-drop}
 use lib.Seq.{getD-take, getD-drop, take-at, drop-at, drop-drop}
 use lib.Arith.{digits-div, digits-mod}
 use lib.Ieee.{Float, nan, binary32, div}
+use lib.Ieee.Fits.{add-fits}
 use borrow.Rule.Slice.PartMut.{putMid, post-is}
 use Rattle.floats.specs.Stand.{fractOf, indexOf}
 use Rattle.grid.specs.Heights.{allFinite}
 use Rattle.lists.specs.Loops.{tabulate}
-use Rattle.lists.proofs.TableLaws.{length-tabulate, getD-tabulate, tabulate-same}
-use Rattle.resample.proofs.FillLaws.{Filling, filling-none, filling-next, filling-done}
+use Rattle.lists.proofs.TableLaws.{length-tabulate, tabulate-same}
+use Rattle.resample.proofs.FillLaws.{Filling, filling-none, filling-next, filling-done, table-values}
 use Rattle.resample.specs.WorkSize.{float}
-use Rattle.upsample.specs.Samples.{asSource, centreBy, centreOf, bilinearOf, addedIn, addedRow, addedAt}
+use Rattle.resample.specs.Blocks.{Values}
+use Rattle.upsample.specs.Samples.{asSource, centreBy, centreOf, bilinearOf, addedIn, addedRow, addedAt, addedOf}
 
 -- the sum at column x of a row
 abbrev pub rowAt : List Float → Float → List Float → ℕ → ℕ → Float → ℕ → Float
@@ -106,3 +108,8 @@ filling-rows {f} w {h} {y} p e l = filling-done p (w * h) e (omega (arith, mul-c
 
 pub part-small : (map : List Float) (w y : ℕ) → w ≤ 4096 → length (take (y * w + w - y * w) (drop (y * w) map)) ≤ 4096
 part-small map w y l = simp length-take (omega arith)
+
+-- the sum is one value for each cell
+pub added-values : (map : List Float) (w h : ℕ) (delta : List Float) (dw dh : ℕ) → Values (w * h) (addedOf asSource map w h delta dw dh)
+unfolding addedOf
+added-values map w h delta dw dh = table-values (addedAt asSource map w h delta dw dh) (λ c. add-fits binary32 _ _) (w * h)

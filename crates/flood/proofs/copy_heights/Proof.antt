@@ -1,4 +1,4 @@
-use Rattle.flood.proofs.StartLaws.{stored-more, stored-done}
+use Rattle.flood.proofs.RowLaws.{stored-more, stored-done}
 use Prim.Native.Nat.{ℕ}
 use lib.Ieee.{Float}
 use Rattle.lists.specs.Loops.{tabulate}

@@ -1,4 +1,6 @@
-use Rattle.flood.proofs.StartLaws.{row-more}
+use Rattle.flood.specs.Slices.{rowBy}
+use Rattle.flood.proofs.StartLaws.{markAt}
+use Rattle.flood.proofs.RowLaws.{row-more}
 use Rattle.grid.specs.Sides.{cellOf}
 use Prim.Native.Nat.{_-_, _*_, _≤_, _<_}
 use native.Mathlib.Nat.{le-antisymm, mul-le-mul-right, mul-comm}
@@ -7,12 +9,11 @@ use mathlib.Core.Path.{_≡_, refl, sym, ap, ap₂, _∙_}
 use lib.ListN.{length, set, length-set}
 use Rattle.grid.proofs.SidesLaws.{cell-lt}
 use Rattle.lists.proofs.TurnLaws.{turns-none, turns-more}
-use Rattle.flood.specs.Slices.{rowMarked}
 use Rattle.flood.proofs.mark_row.Statement.{statement}
 use Rattle.flood.proofs.mark_row.Tie as tie
 
 abbrev Inv-loop : tie.InvT-loop
-Inv-loop g y h water status₀ w row x₀ status x = (x ≤ w) × (length status ≡ length status₀) × (status ≡ rowMarked (g .w) (g .h) h water y x status₀)
+Inv-loop g y h water status₀ w row x₀ status x = (x ≤ w) × (length status ≡ length status₀) × (status ≡ rowBy (g .w) (markAt (g .w) (g .h) h water) y x status₀)
 
 abbrev μ-loop : tie.MeasureT-loop
 μ-loop g y h water status₀ w row x₀ status x = w - x
@@ -50,7 +51,7 @@ loop-less c = omega arith
 loop-again : tie.Need-loop-again Inv-loop μ-loop
 loop-again c =
     let a = c .before .before .before .before .before .before .args in
-    (omega arith, simp length-set (c .before .before .before .loop .inv .1), row-more (a .g .w) (a .g .h) (a .h .now) (a .water) (a .y) _ _ _ _ (c .before .before .before .loop .inv .2) (c .mark .ensures))
+    (omega arith, simp length-set (c .before .before .before .loop .inv .1), row-more (a .g .w) (markAt (a .g .w) (a .g .h) (a .h .now) (a .water)) (a .y) _ _ _ _ (c .before .before .before .loop .inv .2) (c .mark .ensures))
 
 same-length : tie.Need-same-length Inv-loop μ-loop
 same-length c = c .before .loop .inv .1
@@ -59,7 +60,7 @@ returns : tie.Need-returns Inv-loop μ-loop
 returns c =
     let a = c .before .before .before .before .args in
     let all : c .before .loop .x ≡ a .g .w = omega arith in
-    c .before .loop .inv .2 ∙ ap (λ x. rowMarked (a .g .w) (a .g .h) (a .h .now) (a .water) (a .y) x (a .status .now)) all
+    c .before .loop .inv .2 ∙ ap (λ x. rowBy (a .g .w) (markAt (a .g .w) (a .g .h) (a .h .now) (a .water)) (a .y) x (a .status .now)) all
 
 pub mark-row-spec : {M : Type 1} → statement M
 mark-row-spec =

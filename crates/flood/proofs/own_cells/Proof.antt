@@ -1,4 +1,4 @@
-use Rattle.flood.proofs.StartLaws.{stored-more, stored-done}
+use Rattle.flood.proofs.RowLaws.{stored-more, stored-done}
 use Prim.Native.Nat.{_-_, _≤_}
 use native.Mathlib.Omega.{arith}
 use mathlib.Core.Path.{_≡_, refl, sym, ap, _∙_}

@@ -1,15 +1,10 @@
 use borrow.Author.Needs.{needs}
-use mathlib.Core.Path.{_≡_}
 use Prim.Native.Nat.{_<_, _≤_}
 use native.Mathlib.Omega.{arith}
 use Rattle.resample.specs.Blocks.{averageOf}
 use Rattle.resample.proofs.BlockLaws.{run-of, block-part, block-cells, block-float}
 use Rattle.resample.proofs.average.Statement.{statement}
 use Rattle.resample.proofs.average.Tie as tie
-use Rattle.resample.proofs.average.Reads as reads
-use Rattle.resample.proofs.average.Lts as lts
-use Rattle.resample.proofs.block_sum.Reads as block-sum-reads
-use Rattle.resample.proofs.first_of.Reads as first-of-reads
 
 -- the columns and the rows of the block
 across : (c : tie.After-first-of3) → (c .before .before .first-of .result < c .first-of3 .result) × (c .first-of3 .result ≤ c .before .before .before .before .args .size .w)
@@ -18,51 +13,39 @@ across c = run-of _ _ _ _ _ (c .before .before .before .before .pre .0 .dw-low) 
 along : (c : tie.After-first-of4) → (c .before .before .first-of2 .result < c .first-of4 .result) × (c .first-of4 .result ≤ c .before .before .before .before .before .args .size .h)
 along c = run-of _ _ _ _ _ (c .before .before .before .before .before .pre .0 .dh-low) (c .before .before .before .before .before .pre .0 .dh-high) (c .before .before .before .before .before .pre .1 .1 .1) (c .before .before .first-of2 .ensures) (c .first-of4 .ensures)
 
--- src/lib.rt:64:9
 first-of-requires : tie.Need-first-of-requires
 first-of-requires c κs = search needs
 
--- src/lib.rt:65:9
 first-of-requires-2 : tie.Need-first-of-requires-2
 first-of-requires-2 c κs = search needs
 
--- src/lib.rt:66:40
 add-first-of : tie.Need-add-first-of
 add-first-of c = search needs
 
--- src/lib.rt:66:14
 first-of-requires-3 : tie.Need-first-of-requires-3
 first-of-requires-3 c κs = search needs
 
--- src/lib.rt:66:14
 sub-nx : tie.Need-sub-nx
 sub-nx c = omega (arith, across c)
 
--- src/lib.rt:67:40
 add-first-of-2 : tie.Need-add-first-of-2
 add-first-of-2 c = search needs
 
--- src/lib.rt:67:14
 first-of-requires-4 : tie.Need-first-of-requires-4
 first-of-requires-4 c κs = search needs
 
--- src/lib.rt:67:14
 sub-ny : tie.Need-sub-ny
 sub-ny c = omega (arith, along c)
 
--- src/lib.rt:68:5
 block-sum-requires : tie.Need-block-sum-requires
 block-sum-requires c κs = block-part (c .before .before .before .before .before .pre .0) _ _ _ _ (across (c .before)) (along c) _ (c .before .before .before .before .before .pre .1 .0)
 
--- src/lib.rt:68:45
 mul-result : tie.Need-mul-result
 mul-result c = omega (arith, block-cells (c .before .before .before .before .before .before .pre .0) _ _ _ _ (across (c .before .before)) (along (c .before)))
 
--- src/lib.rt:68:44
 int-to-float-result : tie.Need-int-to-float-result
 int-to-float-result c = block-float (c .before .before .before .before .before .before .before .pre .0) _ _ _ _ (across (c .before .before .before)) (along (c .before .before))
 
--- src/lib.rt:57:1
 returns : tie.Need-returns
 unfolding averageOf
 returns c = cc

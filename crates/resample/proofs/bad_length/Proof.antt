@@ -3,14 +3,10 @@ use Rattle.grid.proofs.SidesLaws.{cells-bound}
 use borrow.Author.Needs.{needs}
 use Rattle.resample.proofs.bad_length.Statement.{statement}
 use Rattle.resample.proofs.bad_length.Tie as tie
-use Rattle.resample.proofs.bad_length.Reads as reads
-use Rattle.resample.proofs.bad_length.Lts as lts
 
--- src/lib.rt:168:12
 mul-result : tie.Need-mul-result
 mul-result c = omega (arith, cells-bound _ _ (c .before .pre .0) (c .before .pre .1))
 
--- src/lib.rt:163:1
 returns : tie.Need-returns
 returns c = search needs
 

@@ -5,9 +5,6 @@ use Rattle.resample.specs.Blocks.{blockSum}
 use Rattle.resample.proofs.SumLaws.{block-none, block-more, part-row}
 use Rattle.resample.proofs.block_sum.Statement.{statement}
 use Rattle.resample.proofs.block_sum.Tie as tie
-use Rattle.resample.proofs.block_sum.Reads as reads
-use Rattle.resample.proofs.block_sum.Lts as lts
-use Rattle.resample.proofs.row_sum.Reads as row-sum-reads
 
 abbrev Inv-loop : tie.InvT-loop
 Inv-loop src w x n y rows sum₀ i₀ sum i = (sum ≡ blockSum src w x n y i) × (i ≤ rows)
@@ -15,39 +12,30 @@ Inv-loop src w x n y rows sum₀ i₀ sum i = (sum ≡ blockSum src w x n y i) �
 abbrev μ-loop : tie.MeasureT-loop
 μ-loop src w x n y rows sum₀ i₀ sum i = rows - i
 
--- src/lib.rt:50:5
 loop-holds : tie.Need-loop-holds Inv-loop μ-loop
 loop-holds c = (block-none _ _ _ _ _, omega arith)
 
--- src/lib.rt:51:33
 add-row-sum : tie.Need-add-row-sum Inv-loop μ-loop
 add-row-sum c = omega arith
 
--- src/lib.rt:51:32
 mul-row-sum : tie.Need-mul-row-sum Inv-loop μ-loop
 mul-row-sum c = omega (arith, part-row (c .before .before .before .pre) (c .loop-test .taken))
 
--- src/lib.rt:51:28
 add-row-sum-2 : tie.Need-add-row-sum-2 Inv-loop μ-loop
 add-row-sum-2 c = omega (arith, part-row (c .before .before .before .pre) (c .loop-test .taken))
 
--- src/lib.rt:51:9
 row-sum-requires : tie.Need-row-sum-requires Inv-loop μ-loop
 row-sum-requires c κs = part-row (c .before .before .before .pre) (c .loop-test .taken) .0
 
--- src/lib.rt:52:9
 add-i : tie.Need-add-i Inv-loop μ-loop
 add-i c = omega arith
 
--- src/lib.rt:50:5
 loop-less : tie.Need-loop-less Inv-loop μ-loop
 loop-less c = omega arith
 
--- src/lib.rt:50:5
 loop-again : tie.Need-loop-again Inv-loop μ-loop
 loop-again c = (block-more _ _ _ _ _ _ _ _ (c .before .before .loop .inv .0) (c .row-sum .ensures), omega arith)
 
--- src/lib.rt:43:1
 returns : tie.Need-returns Inv-loop μ-loop
 returns c = let e : c .before .loop .i ≡ c .before .before .before .args .rows = omega arith in cc
 

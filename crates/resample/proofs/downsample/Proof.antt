@@ -1,4 +1,4 @@
-use mathlib.Core.Path.{_≡_, sym, _∙_}
+use mathlib.Core.Path.{sym, _∙_}
 use denote.Ref.{now}
 use lib.ListN.{length}
 use borrow.Author.Tests.{not-true, not-false}
@@ -7,22 +7,13 @@ use Rattle.resample.proofs.DownsampleLaws.{down-refused, down-height, d
 use borrow.Author.Needs.{needs}
 use Rattle.resample.proofs.downsample.Statement.{statement}
 use Rattle.resample.proofs.downsample.Tie as tie
-use Rattle.resample.proofs.downsample.Reads as reads
-use Rattle.resample.proofs.downsample.Lts as lts
-use Rattle.grid.proofs.all_finite.Reads as all-finite-reads
-use Rattle.grid.proofs.first_not_finite.Reads as first-not-finite-reads
-use Rattle.resample.proofs.downsample_into.Reads as downsample-into-reads
-use Rattle.resample.proofs.shape_refusal.Reads as shape-refusal-reads
 
--- src/lib.rt:194:9
 shape-refusal-requires : tie.Need-shape-refusal-requires
 shape-refusal-requires c κs = search needs
 
--- src/lib.rt:196:9
 enum-told : tie.Need-enum-told
 enum-told c = search needs
 
--- src/lib.rt:196:9
 returns : tie.Need-returns
 returns c = down-refused _ (c .enum-told .given .0 .0) (c .before .before .shape-refusal .ensures) (c .enum-told .given .1)
 
@@ -33,41 +24,32 @@ shaped c = shape-good _ _ _ _ _ _ _ (c .before .before .shape-refusal .ensures) 
 enum-told-2 : tie.Need-enum-told-2
 enum-told-2 c = search needs
 
--- src/lib.rt:198:9
 all-finite-requires : tie.Need-all-finite-requires
 all-finite-requires c κs = shaped c .full
 
--- src/lib.rt:199:48
 first-not-finite-requires : tie.Need-first-not-finite-requires
 first-not-finite-requires c κs = shaped (c .before .before) .full
 
--- src/lib.rt:199:9
 returns-2 : tie.Need-returns-2
 returns-2 c = down-height (shaped (c .before .before .before)) _ (c .first-not-finite .ensures) (sym (c .before .before .all-finite .ensures) ∙ not-true _ (c .before .if1 .taken))
 
--- src/lib.rt:201:5
 downsample-into-requires : tie.Need-downsample-into-requires
 downsample-into-requires c κs = let s = shaped (c .before .before .before) in (s .in-grid, (s .full, s .small))
 
--- src/lib.rt:202:9
 all-finite-requires-2 : tie.Need-all-finite-requires-2
 all-finite-requires-2 c κs = c .before .before .before .downsample-into .kept .1 .1 .0 ∙ shaped (c .before .before .before .before .before .before .before) .small
 
--- src/lib.rt:203:9
 same-length : tie.Need-same-length
 same-length c = search needs
 
--- src/lib.rt:203:9
 returns-3 : tie.Need-returns-3
 returns-3 c =
     down-run-off (shaped (c .before .before .before .before .before .before .before .before .before)) (sym (c .before .before .before .before .before .before .before .before .all-finite .ensures) ∙ not-false _ (c .before .before .before .before .before .before .before .if1 .left)) _ (c .before .before .before .before .before .downsample-into .ensures)
     (sym (c .before .all-finite2 .ensures) ∙ not-true _ (c .if2 .taken))
 
--- src/lib.rt:191:1
 same-length-2 : tie.Need-same-length-2
 same-length-2 c = search needs
 
--- src/lib.rt:191:1
 returns-4 : tie.Need-returns-4
 returns-4 c =
     down-done (shaped (c .before .before .before .before .before .before .before .before .before)) (sym (c .before .before .before .before .before .before .before .before .all-finite .ensures) ∙ not-false _ (c .before .before .before .before .before .before .before .if1 .left)) _ (c .before .before .before .before .before .downsample-into .ensures)

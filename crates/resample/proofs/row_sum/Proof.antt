@@ -1,13 +1,10 @@
 use Prim.Native.Nat.{_≤_, _-_}
 use mathlib.Core.Path.{_≡_}
 use native.Mathlib.Omega.{arith}
-use borrow.Author.Needs.{needs}
 use Rattle.resample.specs.Blocks.{rowSum}
 use Rattle.resample.proofs.SumLaws.{row-none, row-more}
 use Rattle.resample.proofs.row_sum.Statement.{statement}
 use Rattle.resample.proofs.row_sum.Tie as tie
-use Rattle.resample.proofs.row_sum.Reads as reads
-use Rattle.resample.proofs.row_sum.Lts as lts
 
 abbrev Inv-loop : tie.InvT-loop
 Inv-loop src at n acc sum₀ i₀ sum i = (sum ≡ rowSum src at i acc) × (i ≤ n)

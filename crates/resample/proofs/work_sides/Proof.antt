@@ -3,36 +3,25 @@ use Rattle.resample.proofs.WorkLaws.{float-in, work-full, work-scaled}
 use borrow.Author.Needs.{needs}
 use Rattle.resample.proofs.work_sides.Statement.{statement}
 use Rattle.resample.proofs.work_sides.Tie as tie
-use Rattle.resample.proofs.work_sides.Reads as reads
-use Rattle.resample.proofs.work_sides.Lts as lts
-use Rattle.resample.proofs.longest_of.Reads as longest-of-reads
-use Rattle.resample.proofs.scaled_side.Reads as scaled-side-reads
 
--- src/lib.rt:50:9
 longest-of-requires : tie.Need-longest-of-requires
 longest-of-requires c κs = search needs
 
--- src/lib.rt:53:9
 returns : tie.Need-returns
 returns c = work-full _ _ _ (c .before .longest-of .ensures) (c .if1 .taken)
 
--- src/lib.rt:55:16
 int-to-float-coef : tie.Need-int-to-float-coef
 int-to-float-coef c = float-in _ (omega (arith, c .before .before .longest-of .ensures, c .before .before .before .pre .0, c .before .before .before .pre .1))
 
--- src/lib.rt:55:29
 int-to-float-coef-2 : tie.Need-int-to-float-coef-2
 int-to-float-coef-2 c = float-in _ (omega (arith, c .before .before .before .longest-of .ensures, c .before .before .before .before .pre .0, c .before .before .before .before .pre .1))
 
--- src/lib.rt:56:16
 scaled-side-requires : tie.Need-scaled-side-requires
 scaled-side-requires c κs = c .before .before .before .before .pre .0
 
--- src/lib.rt:56:46
 scaled-side-requires-2 : tie.Need-scaled-side-requires-2
 scaled-side-requires-2 c κs = c .before .before .before .before .before .pre .1
 
--- src/lib.rt:46:1
 returns-2 : tie.Need-returns-2
 returns-2 c = work-scaled _ _ _ _ _ _ (c .before .before .before .before .before .longest-of .ensures) (c .before .before .before .before .if1 .left) (c .before .scaled-side .ensures) (c .scaled-side2 .ensures)
 

@@ -25,7 +25,7 @@ returns : tie.Need-returns Inv-loop μ-loop
 returns c = rowed-stopped (c .before .before .loop .inv) (c .if1 .taken)
 
 slide-row-requires : tie.Need-slide-row-requires Inv-loop μ-loop
-slide-row-requires c κs = (record { columns = omega arith; row = c .before .before .loop-test .taken; wide = c .before .before .before .before .before .before .before .before .before .before .pre .wide; high = c .before .before .before .before .before .before .before .before .before .before .pre .high; size = c .before .before .before .before .before .before .before .before .before .before .pre .heights }, rowed-length (c .before .before .before .loop .inv))
+slide-row-requires c κs = (c .before .before .before .before .before .before .before .before .before .before .pre .some, (record { columns = omega arith; row = c .before .before .loop-test .taken; wide = c .before .before .before .before .before .before .before .before .before .before .pre .wide; high = c .before .before .before .before .before .before .before .before .before .before .pre .high; size = c .before .before .before .before .before .before .before .before .before .before .pre .heights }, rowed-length (c .before .before .before .loop .inv)))
 
 fraction-requires : tie.Need-fraction-requires Inv-loop μ-loop
 fraction-requires c κs = (omega (arith, c .before .before .before .before .before .before .before .before .before .before .before .before .before .pre), c .before .before .before .before .before .before .before .before .before .before .before .before .before .pre .high)

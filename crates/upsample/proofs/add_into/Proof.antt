@@ -4,15 +4,10 @@ use Rattle.upsample.proofs.CornerLaws.{grid-row}
 use Rattle.resample.proofs.FillLaws.{Filling, filling-length}
 use Rattle.resample.proofs.WorkLaws.{float-in}
 use Rattle.upsample.specs.Samples.{asSource, addedAt, addedOf}
-use mathlib.Core.Path.{_≡_, sym, ap, _∙_}
 use native.Mathlib.Omega.{arith}
 use Prim.Native.Nat.{_≤_, _-_, _*_}
 use Rattle.upsample.proofs.add_into.Statement.{statement}
 use Rattle.upsample.proofs.add_into.Tie as tie
-use Rattle.upsample.proofs.add_into.Reads as reads
-use Rattle.upsample.proofs.add_into.Lts as lts
-use Rattle.upsample.proofs.add_row.Reads as add-row-reads
-use Rattle.upsample.proofs.centre.Reads as centre-reads
 
 abbrev Inv-loop : tie.InvT-loop
 Inv-loop map₀ delta dsize w h cx cy y₀ map y = Filling (addedAt asSource map₀ w h delta (dsize .w) (dsize .h)) (y * w) map₀ map × (y ≤ h)
@@ -20,67 +15,51 @@ Inv-loop map₀ delta dsize w h cx cy y₀ map y = Filling (addedAt asSource map
 abbrev μ-loop : tie.MeasureT-loop
 μ-loop map₀ delta dsize w h cx cy y₀ map y = h - y
 
--- src/lib.rt:212:14
 int-to-float-cx : tie.Need-int-to-float-cx Inv-loop μ-loop
 int-to-float-cx c = float-in _ (omega (arith, c .before .before .before .pre .1 .w-high))
 
--- src/lib.rt:212:31
 int-to-float-cx-2 : tie.Need-int-to-float-cx-2 Inv-loop μ-loop
 int-to-float-cx-2 c = float-in _ (omega (arith, c .before .before .before .before .pre .0 .w-high))
 
--- src/lib.rt:213:14
 int-to-float-cy : tie.Need-int-to-float-cy Inv-loop μ-loop
 int-to-float-cy c = float-in _ (omega (arith, c .before .before .before .before .before .pre .1 .h-high))
 
--- src/lib.rt:213:31
 int-to-float-cy-2 : tie.Need-int-to-float-cy-2 Inv-loop μ-loop
 int-to-float-cy-2 c = float-in _ (omega (arith, c .before .before .before .before .before .before .pre .0 .h-high))
 
--- src/lib.rt:215:5
 loop-holds : tie.Need-loop-holds Inv-loop μ-loop
 loop-holds c = (filling-start _, omega arith)
 
--- src/lib.rt:216:20
 mul-from : tie.Need-mul-from Inv-loop μ-loop
 mul-from c = omega (arith, grid-row (c .before .before .before .before .before .before .before .before .pre .0) (c .loop-test .taken))
 
--- src/lib.rt:217:18
 add-to : tie.Need-add-to Inv-loop μ-loop
 add-to c = omega (arith, grid-row (c .before .before .before .before .before .before .before .before .pre .0) (c .loop-test .taken))
 
--- src/lib.rt:218:13
 centre-requires : tie.Need-centre-requires Inv-loop μ-loop
 centre-requires c κs = omega (arith, c .before .before .before .before .before .before .before .before .pre .0 .h-high)
 
--- src/lib.rt:219:17
 mul-add-row : tie.Need-mul-add-row Inv-loop μ-loop
 mul-add-row c = omega (arith, grid-row (c .before .before .before .before .before .before .before .before .before .pre .0) (c .before .loop-test .taken))
 
--- src/lib.rt:219:17
 sub-add-row : tie.Need-sub-add-row Inv-loop μ-loop
 sub-add-row c = omega (arith, grid-row (c .before .before .before .before .before .before .before .before .before .pre .0) (c .before .loop-test .taken))
 
--- src/lib.rt:219:17
 part-add-row-start : tie.Need-part-add-row-start Inv-loop μ-loop
 part-add-row-start c = omega (arith, grid-row (c .before .before .before .before .before .before .before .before .before .pre .0) (c .before .loop-test .taken))
 
--- src/lib.rt:219:17
 part-add-row-end : tie.Need-part-add-row-end Inv-loop μ-loop
 part-add-row-end c = omega (arith, grid-row (c .before .before .before .before .before .before .before .before .before .pre .0) (c .before .loop-test .taken), filling-length (c .before .before .loop .inv .0))
 
--- src/lib.rt:219:9
 add-row-requires : tie.Need-add-row-requires Inv-loop μ-loop
 add-row-requires c κs = (part-small _ _ _ (c .before .before .before .before .before .before .before .before .before .before .pre .0 .w-high), c .before .before .before .before .before .before .before .before .before .before .pre .1)
 
--- src/lib.rt:220:9
 add-y : tie.Need-add-y Inv-loop μ-loop
 add-y c = omega (arith, c .before .before .before .before .before .before .before .before .before .before .before .before .before .pre .0 .h-high)
 
--- src/lib.rt:215:5
 loop-less : tie.Need-loop-less Inv-loop μ-loop
 loop-less c = omega arith
 
--- src/lib.rt:215:5
 loop-again : tie.Need-loop-again Inv-loop μ-loop
 loop-again c =
     let a = c .before .before .before .before .before .before .before .before .before .before .before .before .before .args in (
@@ -89,11 +68,9 @@ loop-again c =
       omega arith,
     )
 
--- src/lib.rt:205:1
 same-length : tie.Need-same-length Inv-loop μ-loop
 same-length c = filling-length (c .before .loop .inv .0)
 
--- src/lib.rt:205:1
 returns : tie.Need-returns Inv-loop μ-loop
 unfolding addedOf
 returns c = filling-rows _ (c .before .loop .inv .0) (c .before .before .before .before .before .before .before .before .pre .0 .size) (c .loop-test .left)

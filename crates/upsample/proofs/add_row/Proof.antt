@@ -6,14 +6,9 @@ use Rattle.upsample.specs.Samples.{addedRow}
 use mathlib.Core.Path.{refl}
 use lib.ListN.{length}
 use native.Mathlib.Omega.{arith}
-use Prim.Native.Nat.{_≤_, _-_}
+use Prim.Native.Nat.{_-_}
 use Rattle.upsample.proofs.add_row.Statement.{statement}
 use Rattle.upsample.proofs.add_row.Tie as tie
-use Rattle.upsample.proofs.add_row.Reads as reads
-use Rattle.upsample.proofs.add_row.Lts as lts
-use Rattle.floats.proofs.fract.Reads as fract-reads
-use Rattle.floats.proofs.index.Reads as index-reads
-use Rattle.upsample.proofs.added.Reads as added-reads
 
 abbrev Inv-loop : tie.InvT-loop
 Inv-loop row₀ coef delta dsize v y dy w x₀ row x = Filling (rowAt row₀ coef delta (dsize .w) (dsize .h) v) x row₀ row
@@ -21,58 +16,45 @@ Inv-loop row₀ coef delta dsize v y dy w x₀ row x = Filling (rowAt row₀ coe
 abbrev μ-loop : tie.MeasureT-loop
 μ-loop row₀ coef delta dsize v y dy w x₀ row x = length row₀ - x
 
--- src/lib.rt:170:9
 index-requires : tie.Need-index-requires Inv-loop μ-loop
 index-requires c κs = tt
 
--- src/lib.rt:171:9
 fract-requires : tie.Need-fract-requires Inv-loop μ-loop
 fract-requires c κs = tt
 
--- src/lib.rt:174:5
 loop-holds : tie.Need-loop-holds Inv-loop μ-loop
 loop-holds c = filling-none
 
--- src/lib.rt:175:22
 mul-height : tie.Need-mul-height Inv-loop μ-loop
 mul-height c = omega arith
 
--- src/lib.rt:175:22
 slice-read-height : tie.Need-slice-read-height Inv-loop μ-loop
 slice-read-height c = omega (arith, filling-length (c .before .before .loop .inv))
 
--- src/lib.rt:176:18
 added-requires : tie.Need-added-requires Inv-loop μ-loop
 added-requires c κs = (omega (arith, c .before .before .before .before .before .before .before .pre .0), (c .before .before .before .before .before .before .before .pre .1, index-in _ _ (c .before .before .before .before .index .ensures) (c .before .before .before .before .before .before .before .pre .1 .h-low)))
 
--- src/lib.rt:176:9
 mul-row : tie.Need-mul-row Inv-loop μ-loop
 mul-row c = omega arith
 
--- src/lib.rt:176:9
 slice-write-row : tie.Need-slice-write-row Inv-loop μ-loop
 slice-write-row c = omega (arith, filling-length (c .before .before .before .loop .inv))
 
--- src/lib.rt:177:9
 add-x : tie.Need-add-x Inv-loop μ-loop
 add-x c = omega arith
 
--- src/lib.rt:174:5
 loop-less : tie.Need-loop-less Inv-loop μ-loop
 loop-less c = omega arith
 
--- src/lib.rt:174:5
 loop-again : tie.Need-loop-again Inv-loop μ-loop
 loop-again c =
     let a = c .before .before .before .before .before .before .before .before .args in
     filling-more (c .before .before .before .loop .inv) (row-next (now (a .row)) (a .coef) (now (a .delta)) (a .dsize .w) (a .dsize .h) (a .v) (c .before .before .before .loop .inv) (c .before .before .before .before .before .index .ensures) (c .before .before .before .before .fract .ensures) (c .added .ensures))
     (c .before .before .loop-test .taken)
 
--- src/lib.rt:165:1
 same-length : tie.Need-same-length Inv-loop μ-loop
 same-length c = filling-length (c .before .loop .inv)
 
--- src/lib.rt:165:1
 returns : tie.Need-returns Inv-loop μ-loop
 unfolding addedRow
 returns c = filling-done (c .before .loop .inv) _ refl (c .loop-test .left)

@@ -7,23 +7,13 @@ use mathlib.Core.Path.{sym, _∙_}
 use borrow.Author.Needs.{needs}
 use Rattle.upsample.proofs.add_upsampled.Statement.{statement}
 use Rattle.upsample.proofs.add_upsampled.Tie as tie
-use Rattle.upsample.proofs.add_upsampled.Reads as reads
-use Rattle.upsample.proofs.add_upsampled.Lts as lts
-use Rattle.grid.proofs.all_finite.Reads as all-finite-reads
-use Rattle.grid.proofs.first_not_finite.Reads as first-not-finite-reads
-use Rattle.resample.proofs.shape_refusal.Reads as shape-refusal-reads
-use Rattle.upsample.proofs.add_into.Reads as add-into-reads
-use Rattle.upsample.proofs.sums_finite.Reads as sums-finite-reads
 
--- src/lib.rt:229:9
 shape-refusal-requires : tie.Need-shape-refusal-requires
 shape-refusal-requires c κs = search needs
 
--- src/lib.rt:231:9
 enum-told : tie.Need-enum-told
 enum-told c = search needs
 
--- src/lib.rt:231:9
 returns : tie.Need-returns
 returns c = add-refused _ (c .enum-told .given .0 .0) (c .before .before .shape-refusal .ensures) (c .enum-told .given .1)
 
@@ -34,59 +24,45 @@ shaped c = shape-good _ _ _ _ _ _ _ (c .before .before .shape-refusal .ensures) 
 enum-told-2 : tie.Need-enum-told-2
 enum-told-2 c = search needs
 
--- src/lib.rt:233:9
 all-finite-requires : tie.Need-all-finite-requires
 all-finite-requires c κs = shaped (c .before) .full
 
--- src/lib.rt:234:48
 first-not-finite-requires : tie.Need-first-not-finite-requires
 first-not-finite-requires c κs = shaped (c .before .before .before .before) .full
 
--- src/lib.rt:234:9
 same-length : tie.Need-same-length
 same-length c = search needs
 
--- src/lib.rt:234:9
 returns-2 : tie.Need-returns-2
 returns-2 c = add-height (shaped (c .before .before .before .before .before)) _ (c .first-not-finite .ensures) (sym (c .before .before .before .all-finite .ensures) ∙ not-true _ (c .before .before .if1 .taken))
 
--- src/lib.rt:236:9
 all-finite-requires-2 : tie.Need-all-finite-requires-2
 all-finite-requires-2 c κs = shaped (c .before .before .before) .small
 
--- src/lib.rt:237:48
 first-not-finite-requires-2 : tie.Need-first-not-finite-requires-2
 first-not-finite-requires-2 c κs = shaped (c .before .before .before .before .before) .small
 
--- src/lib.rt:237:9
 same-length-2 : tie.Need-same-length-2
 same-length-2 c = search needs
 
--- src/lib.rt:237:9
 returns-3 : tie.Need-returns-3
 returns-3 c = add-small (shaped (c .before .before .before .before .before .before)) (sym (c .before .before .before .before .all-finite .ensures) ∙ not-false _ (c .before .before .before .if1 .left)) _ (c .first-not-finite2 .ensures) (sym (c .before .before .all-finite2 .ensures) ∙ not-true _ (c .before .if2 .taken))
 
--- src/lib.rt:239:9
 sums-finite-requires : tie.Need-sums-finite-requires
 sums-finite-requires c κs = let s = shaped (c .before .before .before .before .before .before) in (full-grid s, small-grid s)
 
--- src/lib.rt:240:9
 same-length-3 : tie.Need-same-length-3
 same-length-3 c = search needs
 
--- src/lib.rt:240:9
 returns-4 : tie.Need-returns-4
 returns-4 c = add-run-off (shaped (c .before .before .before .before .before .before .before .before)) (sym (c .before .before .before .before .before .before .all-finite .ensures) ∙ not-false _ (c .before .before .before .before .before .if1 .left)) (sym (c .before .before .before .before .all-finite2 .ensures) ∙ not-false _ (c .before .before .before .if2 .left)) (sym (c .before .sums-finite .ensures) ∙ not-true _ (c .if3 .taken))
 
--- src/lib.rt:242:5
 add-into-requires : tie.Need-add-into-requires
 add-into-requires c κs = let s = shaped (c .before .before .before .before .before .before .before .before .before) in (full-grid s, small-grid s)
 
--- src/lib.rt:226:1
 same-length-4 : tie.Need-same-length-4
 same-length-4 c = search needs
 
--- src/lib.rt:226:1
 returns-5 : tie.Need-returns-5
 returns-5 c = add-done (shaped (c .before .before .before .before .before .before .before .before .before .before .before .before)) (sym (c .before .before .before .before .before .before .before .before .before .before .all-finite .ensures) ∙ not-false _ (c .before .before .before .before .before .before .before .before .before .if1 .left)) (sym (c .before .before .before .before .before .before .before .before .all-finite2 .ensures) ∙ not-false _ (c .before .before .before .before .before .before .before .if2 .left)) (sym (c .before .before .before .before .before .sums-finite .ensures) ∙ not-false _ (c .before .before .before .before .if3 .left)) _ (c .before .before .add-into .ensures)
 

@@ -2,18 +2,13 @@ use Rattle.resample.proofs.WorkLaws.{float-in}
 use native.Mathlib.Omega.{arith}
 use Rattle.upsample.proofs.bad_coordinate.Statement.{statement}
 use Rattle.upsample.proofs.bad_coordinate.Tie as tie
-use Rattle.upsample.proofs.bad_coordinate.Reads as reads
-use Rattle.upsample.proofs.bad_coordinate.Lts as lts
 
--- src/lib.rt:95:22
 int-to-float-result : tie.Need-int-to-float-result
 int-to-float-result c = float-in _ (omega (arith, c .before .before .pre))
 
--- src/lib.rt:95:9
 returns : tie.Need-returns
 returns c = rw (c .before .if1 .taken)
 
--- src/lib.rt:90:1
 returns-2 : tie.Need-returns-2
 returns-2 c = rw (c .if1 .left)
 

@@ -8,29 +8,16 @@ use mathlib.Core.Path.{sym, _∙_}
 use borrow.Author.Needs.{needs}
 use Rattle.upsample.proofs.bilinear.Statement.{statement}
 use Rattle.upsample.proofs.bilinear.Tie as tie
-use Rattle.upsample.proofs.bilinear.Reads as reads
-use Rattle.upsample.proofs.bilinear.Lts as lts
-use Rattle.floats.proofs.is_finite.Reads as is-finite-reads
-use Rattle.grid.proofs.all_finite.Reads as all-finite-reads
-use Rattle.grid.proofs.bad_sides.Reads as bad-sides-reads
-use Rattle.grid.proofs.first_not_finite.Reads as first-not-finite-reads
-use Rattle.resample.proofs.bad_length.Reads as bad-length-reads
-use Rattle.upsample.proofs.bad_coordinate.Reads as bad-coordinate-reads
-use Rattle.upsample.proofs.sample.Reads as sample-reads
 
--- src/lib.rt:104:8
 bad-sides-requires : tie.Need-bad-sides-requires
 bad-sides-requires c κs = search needs
 
--- src/lib.rt:105:9
 returns : tie.Need-returns
 returns c = rw (sym (c .before .bad-sides .ensures) ∙ c .if1 .taken)
 
--- src/lib.rt:107:8
 bad-length-requires : tie.Need-bad-length-requires
 bad-length-requires c κs = sides-good _ _ (sym (c .before .bad-sides .ensures) ∙ c .if1 .left)
 
--- src/lib.rt:108:9
 returns-2 : tie.Need-returns-2
 returns-2 c = rw (sym (c .before .before .before .bad-sides .ensures) ∙ c .before .before .if1 .left, sym (c .before .bad-length .ensures) ∙ c .if2 .taken)
 
@@ -38,47 +25,36 @@ returns-2 c = rw (sym (c .before .before .before .bad-sides .ensures) ∙ c .bef
 good : (c : tie.Else2) → let a = c .before .before .before .before .before .args in Grid (a .size .w) (a .size .h) (length (now (a .v)))
 good c = grid-good _ _ _ (sym (c .before .before .before .bad-sides .ensures) ∙ c .before .before .if1 .left) (sym (c .before .bad-length .ensures) ∙ c .if2 .left)
 
--- src/lib.rt:110:8
 bad-coordinate-requires : tie.Need-bad-coordinate-requires
 bad-coordinate-requires c κs = good c .w-high
 
--- src/lib.rt:111:9
 returns-3 : tie.Need-returns-3
 returns-3 c = rw (sym (c .before .before .before .before .before .bad-sides .ensures) ∙ c .before .before .before .before .if1 .left, sym (c .before .before .before .bad-length .ensures) ∙ c .before .before .if2 .left, sym (c .before .bad-coordinate .ensures) ∙ c .if3 .taken)
 
--- src/lib.rt:113:8
 bad-coordinate-requires-2 : tie.Need-bad-coordinate-requires-2
 bad-coordinate-requires-2 c κs = good (c .before .before) .h-high
 
--- src/lib.rt:114:9
 returns-4 : tie.Need-returns-4
 returns-4 c = rw (sym (c .before .before .before .before .before .before .before .bad-sides .ensures) ∙ c .before .before .before .before .before .before .if1 .left, sym (c .before .before .before .before .before .bad-length .ensures) ∙ c .before .before .before .before .if2 .left, sym (c .before .before .before .bad-coordinate .ensures) ∙ c .before .before .if3 .left, sym (c .before .bad-coordinate2 .ensures) ∙ c .if4 .taken)
 
--- src/lib.rt:116:9
 all-finite-requires : tie.Need-all-finite-requires
 all-finite-requires c κs = good (c .before .before .before .before) .size
 
--- src/lib.rt:117:47
 first-not-finite-requires : tie.Need-first-not-finite-requires
 first-not-finite-requires c κs = good (c .before .before .before .before .before .before) .size
 
--- src/lib.rt:117:9
 returns-5 : tie.Need-returns-5
 returns-5 c = rw (sym (c .before .before .before .before .before .before .before .before .before .before .bad-sides .ensures) ∙ c .before .before .before .before .before .before .before .before .before .if1 .left, sym (c .before .before .before .before .before .before .before .before .bad-length .ensures) ∙ c .before .before .before .before .before .before .before .if2 .left, sym (c .before .before .before .before .before .before .bad-coordinate .ensures) ∙ c .before .before .before .before .before .if3 .left, sym (c .before .before .before .before .bad-coordinate2 .ensures) ∙ c .before .before .before .if4 .left, sym (c .before .before .all-finite .ensures) ∙ not-true _ (c .before .if5 .taken), c .first-not-finite .ensures)
 
--- src/lib.rt:119:9
 sample-requires : tie.Need-sample-requires
 sample-requires c κs = good (c .before .before .before .before .before .before)
 
--- src/lib.rt:120:9
 is-finite-requires : tie.Need-is-finite-requires
 is-finite-requires c κs = search needs
 
--- src/lib.rt:121:9
 returns-6 : tie.Need-returns-6
 returns-6 c = rw (sym (c .before .before .before .before .before .before .before .before .before .before .before .before .bad-sides .ensures) ∙ c .before .before .before .before .before .before .before .before .before .before .before .if1 .left, sym (c .before .before .before .before .before .before .before .before .before .before .bad-length .ensures) ∙ c .before .before .before .before .before .before .before .before .before .if2 .left, sym (c .before .before .before .before .before .before .before .before .bad-coordinate .ensures) ∙ c .before .before .before .before .before .before .before .if3 .left, sym (c .before .before .before .before .before .before .bad-coordinate2 .ensures) ∙ c .before .before .before .before .before .if4 .left, sym (c .before .before .before .before .all-finite .ensures) ∙ not-false _ (c .before .before .before .if5 .left), ← c .before .before .sample .ensures, sym (c .before .is-finite .ensures) ∙ not-true _ (c .if6 .taken))
 
--- src/lib.rt:101:1
 returns-7 : tie.Need-returns-7
 returns-7 c = rw (sym (c .before .before .before .before .before .before .before .before .before .before .before .before .bad-sides .ensures) ∙ c .before .before .before .before .before .before .before .before .before .before .before .if1 .left, sym (c .before .before .before .before .before .before .before .before .before .before .bad-length .ensures) ∙ c .before .before .before .before .before .before .before .before .before .if2 .left, sym (c .before .before .before .before .before .before .before .before .bad-coordinate .ensures) ∙ c .before .before .before .before .before .before .before .if3 .left, sym (c .before .before .before .before .before .before .bad-coordinate2 .ensures) ∙ c .before .before .before .before .before .if4 .left, sym (c .before .before .before .before .all-finite .ensures) ∙ not-false _ (c .before .before .before .if5 .left), ← c .before .before .sample .ensures, sym (c .before .is-finite .ensures) ∙ not-false _ (c .if6 .left))
 

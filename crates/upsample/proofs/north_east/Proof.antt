@@ -4,38 +4,28 @@ use native.Mathlib.Omega.{arith}
 use borrow.Author.Needs.{needs}
 use Rattle.upsample.proofs.north_east.Statement.{statement}
 use Rattle.upsample.proofs.north_east.Tie as tie
-use Rattle.upsample.proofs.north_east.Reads as reads
-use Rattle.upsample.proofs.north_east.Lts as lts
 
--- src/lib.rt:31:12
 sub-if1 : tie.Need-sub-if1
 sub-if1 c = search needs
 
--- src/lib.rt:32:16
 add-result : tie.Need-add-result
 add-result c = search needs
 
--- src/lib.rt:32:24
 mul-result : tie.Need-mul-result
 mul-result c = omega (arith, place-fits (c .before .before .before .pre))
 
--- src/lib.rt:32:16
 add-result-2 : tie.Need-add-result-2
 add-result-2 c = omega (arith, place-fits (c .before .before .before .pre))
 
--- src/lib.rt:32:9
 returns : tie.Need-returns
 returns c = rw (lt-ltb _ _ (c .before .if1 .taken))
 
--- src/lib.rt:34:9
 mul-result-2 : tie.Need-mul-result-2
 mul-result-2 c = omega (arith, place-fits (c .before .before .before .pre))
 
--- src/lib.rt:34:5
 add-result-3 : tie.Need-add-result-3
 add-result-3 c = omega (arith, place-fits (c .before .before .before .pre))
 
--- src/lib.rt:27:1
 returns-2 : tie.Need-returns-2
 returns-2 c = rw (le-ltb _ _ (c .before .if1 .left))
 

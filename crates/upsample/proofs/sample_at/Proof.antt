@@ -5,78 +5,55 @@ use native.Mathlib.Omega.{arith}
 use borrow.Author.Needs.{needs}
 use Rattle.upsample.proofs.sample_at.Statement.{statement}
 use Rattle.upsample.proofs.sample_at.Tie as tie
-use Rattle.upsample.proofs.sample_at.Reads as reads
-use Rattle.upsample.proofs.sample_at.Lts as lts
-use Rattle.upsample.proofs.mixed.Reads as mixed-reads
-use Rattle.upsample.proofs.north_east.Reads as north-east-reads
-use Rattle.upsample.proofs.south_east.Reads as south-east-reads
-use Rattle.upsample.proofs.south_west.Reads as south-west-reads
 
--- src/lib.rt:74:20
 mul-nw : tie.Need-mul-nw
 mul-nw c = omega (arith, place-fits (c .before .before .pre .0))
 
--- src/lib.rt:74:16
 add-nw : tie.Need-add-nw
 add-nw c = omega (arith, place-fits (c .before .before .pre .0), c .before .before .pre .0 .column)
 
--- src/lib.rt:74:14
 mul-nw-2 : tie.Need-mul-nw-2
 mul-nw-2 c = omega (arith, nw-in (c .before .before .pre .0), place-fits (c .before .before .pre .0))
 
--- src/lib.rt:74:14
 shared-slice-read-nw : tie.Need-shared-slice-read-nw
 shared-slice-read-nw c = omega (arith, nw-in (c .before .before .before .pre .0), c .before .before .before .pre .1)
 
--- src/lib.rt:75:16
 north-east-requires : tie.Need-north-east-requires
 north-east-requires c κs = search needs
 
--- src/lib.rt:75:14
 mul-ne : tie.Need-mul-ne
 mul-ne c = omega (arith, ne-in (c .before .before .before .before .pre .0), place-fits (c .before .before .before .before .pre .0), c .north-east .ensures)
 
--- src/lib.rt:75:14
 shared-slice-read-ne : tie.Need-shared-slice-read-ne
 shared-slice-read-ne c = omega (arith, ne-in (c .before .before .before .before .before .pre .0), c .before .before .before .before .before .pre .1, c .before .north-east .ensures)
 
--- src/lib.rt:76:16
 south-west-requires : tie.Need-south-west-requires
 south-west-requires c κs = search needs
 
--- src/lib.rt:76:14
 mul-sw : tie.Need-mul-sw
 mul-sw c = omega (arith, sw-in (c .before .before .before .before .before .before .pre .0), place-fits (c .before .before .before .before .before .before .pre .0), c .south-west .ensures)
 
--- src/lib.rt:76:14
 shared-slice-read-sw : tie.Need-shared-slice-read-sw
 shared-slice-read-sw c = omega (arith, sw-in (c .before .before .before .before .before .before .before .pre .0), c .before .before .before .before .before .before .before .pre .1, c .before .south-west .ensures)
 
--- src/lib.rt:77:16
 south-east-requires : tie.Need-south-east-requires
 south-east-requires c κs = search needs
 
--- src/lib.rt:77:14
 mul-se : tie.Need-mul-se
 mul-se c = omega (arith, se-in (c .before .before .before .before .before .before .before .before .pre .0), place-fits (c .before .before .before .before .before .before .before .before .pre .0), c .south-east .ensures)
 
--- src/lib.rt:77:14
 shared-slice-read-se : tie.Need-shared-slice-read-se
 shared-slice-read-se c = omega (arith, se-in (c .before .before .before .before .before .before .before .before .before .pre .0), c .before .before .before .before .before .before .before .before .before .pre .1, c .before .south-east .ensures)
 
--- src/lib.rt:78:15
 mixed-requires : tie.Need-mixed-requires
 mixed-requires c κs = search needs
 
--- src/lib.rt:78:34
 mixed-requires-2 : tie.Need-mixed-requires-2
 mixed-requires-2 c κs = search needs
 
--- src/lib.rt:78:5
 mixed-requires-3 : tie.Need-mixed-requires-3
 mixed-requires-3 c κs = search needs
 
--- src/lib.rt:69:1
 returns : tie.Need-returns
 returns c =
     let a = c .before .before .before .before .before .before .before .before .before .before .before .before .args in

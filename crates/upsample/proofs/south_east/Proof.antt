@@ -4,58 +4,43 @@ use native.Mathlib.Omega.{arith}
 use borrow.Author.Needs.{needs}
 use Rattle.upsample.proofs.south_east.Statement.{statement}
 use Rattle.upsample.proofs.south_east.Tie as tie
-use Rattle.upsample.proofs.south_east.Reads as reads
-use Rattle.upsample.proofs.south_east.Lts as lts
 
--- src/lib.rt:53:8
 sub-if1 : tie.Need-sub-if1
 sub-if1 c = search needs
 
--- src/lib.rt:54:20
 mul-result : tie.Need-mul-result
 mul-result c = omega (arith, place-fits (c .before .before .before .pre))
 
--- src/lib.rt:54:16
 add-result : tie.Need-add-result
 add-result c = omega (arith, place-fits (c .before .before .before .pre))
 
--- src/lib.rt:54:9
 returns : tie.Need-returns
 returns c = rw (le-ltb _ _ (c .before .if1 .taken))
 
--- src/lib.rt:56:8
 sub-if2 : tie.Need-sub-if2
 sub-if2 c = search needs
 
--- src/lib.rt:57:20
 mul-result-2 : tie.Need-mul-result-2
 mul-result-2 c = omega (arith, place-fits (c .before .before .before .before .before .pre))
 
--- src/lib.rt:57:16
 add-result-2 : tie.Need-add-result-2
 add-result-2 c = omega (arith, place-fits (c .before .before .before .before .before .pre))
 
--- src/lib.rt:57:9
 returns-2 : tie.Need-returns-2
 returns-2 c = rw (lt-ltb _ _ (c .before .before .before .if1 .left), le-ltb _ _ (c .before .if2 .taken))
 
--- src/lib.rt:59:5
 add-result-3 : tie.Need-add-result-3
 add-result-3 c = search needs
 
--- src/lib.rt:59:14
 add-result-4 : tie.Need-add-result-4
 add-result-4 c = search needs
 
--- src/lib.rt:59:13
 mul-result-3 : tie.Need-mul-result-3
 mul-result-3 c = omega (arith, place-fits (c .before .before .before .before .before .pre))
 
--- src/lib.rt:59:5
 add-result-5 : tie.Need-add-result-5
 add-result-5 c = omega (arith, place-fits (c .before .before .before .before .before .pre))
 
--- src/lib.rt:49:1
 returns-3 : tie.Need-returns-3
 returns-3 c = rw (lt-ltb _ _ (c .before .before .before .if1 .left), lt-ltb _ _ (c .before .if2 .left))
 

@@ -4,38 +4,28 @@ use native.Mathlib.Omega.{arith}
 use borrow.Author.Needs.{needs}
 use Rattle.upsample.proofs.south_west.Statement.{statement}
 use Rattle.upsample.proofs.south_west.Tie as tie
-use Rattle.upsample.proofs.south_west.Reads as reads
-use Rattle.upsample.proofs.south_west.Lts as lts
 
--- src/lib.rt:42:12
 sub-if1 : tie.Need-sub-if1
 sub-if1 c = search needs
 
--- src/lib.rt:43:21
 add-result : tie.Need-add-result
 add-result c = search needs
 
--- src/lib.rt:43:20
 mul-result : tie.Need-mul-result
 mul-result c = omega (arith, place-fits (c .before .before .before .pre))
 
--- src/lib.rt:43:16
 add-result-2 : tie.Need-add-result-2
 add-result-2 c = omega (arith, place-fits (c .before .before .before .pre))
 
--- src/lib.rt:43:9
 returns : tie.Need-returns
 returns c = rw (lt-ltb _ _ (c .before .if1 .taken))
 
--- src/lib.rt:45:9
 mul-result-2 : tie.Need-mul-result-2
 mul-result-2 c = omega (arith, place-fits (c .before .before .before .pre))
 
--- src/lib.rt:45:5
 add-result-3 : tie.Need-add-result-3
 add-result-3 c = omega (arith, place-fits (c .before .before .before .pre))
 
--- src/lib.rt:38:1
 returns-2 : tie.Need-returns-2
 returns-2 c = rw (le-ltb _ _ (c .before .if1 .left))
 

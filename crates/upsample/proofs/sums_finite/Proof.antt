@@ -7,15 +7,11 @@ use Rattle.upsample.proofs.CornerLaws.{grid-row}
 use Rattle.upsample.proofs.FiniteLaws.{Finites, finites-start, rows-all, row-more, row-not}
 use Rattle.resample.proofs.WorkLaws.{float-in}
 use Rattle.upsample.specs.Samples.{asSource, addedAt, addedOf}
-use mathlib.Core.Path.{_≡_, sym, ap, _∙_}
+use mathlib.Core.Path.{_≡_, sym, _∙_}
 use native.Mathlib.Omega.{arith}
 use Prim.Native.Nat.{_+_, _≤_, _-_, _*_}
 use Rattle.upsample.proofs.sums_finite.Statement.{statement}
 use Rattle.upsample.proofs.sums_finite.Tie as tie
-use Rattle.upsample.proofs.sums_finite.Reads as reads
-use Rattle.upsample.proofs.sums_finite.Lts as lts
-use Rattle.upsample.proofs.centre.Reads as centre-reads
-use Rattle.upsample.proofs.row_finite.Reads as row-finite-reads
 
 abbrev Inv-loop : tie.InvT-loop
 Inv-loop map delta dsize w h cx cy y₀ y = Finites (addedAt asSource map w h delta (dsize .w) (dsize .h)) (y * w) × (y ≤ h)
@@ -23,55 +19,42 @@ Inv-loop map delta dsize w h cx cy y₀ y = Finites (addedAt asSource map w h de
 abbrev μ-loop : tie.MeasureT-loop
 μ-loop map delta dsize w h cx cy y₀ y = h - y
 
--- src/lib.rt:190:14
 int-to-float-cx : tie.Need-int-to-float-cx Inv-loop μ-loop
 int-to-float-cx c = float-in _ (omega (arith, c .before .before .before .pre .1 .w-high))
 
--- src/lib.rt:190:31
 int-to-float-cx-2 : tie.Need-int-to-float-cx-2 Inv-loop μ-loop
 int-to-float-cx-2 c = float-in _ (omega (arith, c .before .before .before .before .pre .0 .w-high))
 
--- src/lib.rt:191:14
 int-to-float-cy : tie.Need-int-to-float-cy Inv-loop μ-loop
 int-to-float-cy c = float-in _ (omega (arith, c .before .before .before .before .before .pre .1 .h-high))
 
--- src/lib.rt:191:31
 int-to-float-cy-2 : tie.Need-int-to-float-cy-2 Inv-loop μ-loop
 int-to-float-cy-2 c = float-in _ (omega (arith, c .before .before .before .before .before .before .pre .0 .h-high))
 
--- src/lib.rt:193:5
 loop-holds : tie.Need-loop-holds Inv-loop μ-loop
 loop-holds c = (finites-start _, omega arith)
 
--- src/lib.rt:194:20
 mul-from : tie.Need-mul-from Inv-loop μ-loop
 mul-from c = omega (arith, grid-row (c .before .before .before .before .before .before .before .before .pre .0) (c .loop-test .taken))
 
--- src/lib.rt:195:18
 add-to : tie.Need-add-to Inv-loop μ-loop
 add-to c = omega (arith, grid-row (c .before .before .before .before .before .before .before .before .pre .0) (c .loop-test .taken))
 
--- src/lib.rt:196:24
 mul-row-finite : tie.Need-mul-row-finite Inv-loop μ-loop
 mul-row-finite c = omega (arith, grid-row (c .before .before .before .before .before .before .before .before .pre .0) (c .loop-test .taken))
 
--- src/lib.rt:196:24
 sub-row-finite : tie.Need-sub-row-finite Inv-loop μ-loop
 sub-row-finite c = omega (arith, grid-row (c .before .before .before .before .before .before .before .before .pre .0) (c .loop-test .taken))
 
--- src/lib.rt:196:24
 part-row-finite-start : tie.Need-part-row-finite-start Inv-loop μ-loop
 part-row-finite-start c = omega (arith, grid-row (c .before .before .before .before .before .before .before .before .pre .0) (c .loop-test .taken))
 
--- src/lib.rt:196:24
 part-row-finite-end : tie.Need-part-row-finite-end Inv-loop μ-loop
 part-row-finite-end c = omega (arith, grid-row (c .before .before .before .before .before .before .before .before .pre .0) (c .loop-test .taken))
 
--- src/lib.rt:196:58
 centre-requires : tie.Need-centre-requires Inv-loop μ-loop
 centre-requires c κs = omega (arith, c .before .before .before .before .before .before .before .before .before .pre .0 .h-high)
 
--- src/lib.rt:196:13
 row-finite-requires : tie.Need-row-finite-requires Inv-loop μ-loop
 row-finite-requires c κs = (part-small _ _ _ (c .before .before .before .before .before .before .before .before .before .before .pre .0 .w-high), c .before .before .before .before .before .before .before .before .before .before .pre .1)
 
@@ -83,24 +66,19 @@ row-test c =
     row-tested (now (a .map)) (a .size .w) (a .size .h) (now (a .delta)) (a .dsize .w) (a .dsize .h) (c .before .before .before .before .loop .y) (grid-row (c .before .before .before .before .before .before .before .before .before .before .before .pre .0) (c .before .before .before .loop-test .taken) .0) _ _
     (c .before .centre .ensures) (c .row-finite .ensures)
 
--- src/lib.rt:197:13
 returns : tie.Need-returns Inv-loop μ-loop
 unfolding addedOf
 returns c = sym (row-not _ _ _ _ (c .before .before .before .before .loop-test .taken) (sym (row-test (c .before)) ∙ not-true _ (c .if1 .taken)))
 
--- src/lib.rt:199:9
 add-y : tie.Need-add-y Inv-loop μ-loop
 add-y c = omega (arith, c .before .before .before .before .before .before .before .before .before .before .before .before .pre .0 .h-high)
 
--- src/lib.rt:193:5
 loop-less : tie.Need-loop-less Inv-loop μ-loop
 loop-less c = omega arith
 
--- src/lib.rt:193:5
 loop-again : tie.Need-loop-again Inv-loop μ-loop
 loop-again c = (row-more _ _ _ _ (c .before .before .before .before .loop-test .taken) (c .before .before .before .before .before .loop .inv .0) (sym (row-test (c .before)) ∙ not-false _ (c .if1 .left)), omega arith)
 
--- src/lib.rt:183:1
 returns-2 : tie.Need-returns-2 Inv-loop μ-loop
 unfolding addedOf
 returns-2 c = sym (rows-all _ _ _ _ (c .before .loop .inv .0) (c .before .loop .inv .1) (c .loop-test .left))

@@ -1,0 +1,4 @@
+-- Laws of the passes and of the public call.
+pub mod DistanceLaws
+pub mod ReceiverLaws
+pub mod PassLaws

@@ -1,0 +1,22 @@
+use borrow.Author.Tests.{eq-eqb, ne-eqb}
+use borrow.Author.Needs.{needs}
+use Rattle.fluvial_erosion.proofs.drains_to.Statement.{statement}
+use Rattle.fluvial_erosion.proofs.drains_to.Tie as tie
+use Rattle.fluvial_erosion.proofs.drains_to.Reads as reads
+use Rattle.fluvial_erosion.proofs.drains_to.Lts as lts
+use Rattle.floats.proofs.max.Reads as max-reads
+
+-- src/lib.rt:37:9
+returns : tie.Need-returns
+returns c = rw (eq-eqb _ _ (c .if1 .taken))
+
+-- src/lib.rt:39:5
+max-requires : tie.Need-max-requires
+max-requires c κs = search needs
+
+-- src/lib.rt:33:1
+returns-2 : tie.Need-returns-2
+returns-2 c = rw (ne-eqb _ _ (c .before .if1 .left)) (c .max .ensures)
+
+pub drains-to-spec : {M : Type 1} → statement M
+drains-to-spec = tie.close (tie.spec returns max-requires returns-2)

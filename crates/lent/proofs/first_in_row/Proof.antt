@@ -1,0 +1,88 @@
+use Prim.Native.Nat.{ℕ, _-_, _≤_, _<_}
+use mathlib.Core.Path.{_≡_, sym, _∙_}
+use mathlib.Core.Bool.{true}
+use native.Mathlib.Omega.{arith}
+use borrow.Author.Count.{below-none, below-more}
+use borrow.Author.Tests.{not-true, not-false}
+use Rattle.grid.specs.Sides.{cellOf}
+use Rattle.grid.proofs.SidesLaws.{cell-lt, cells-bound}
+use Rattle.lent.specs.Lent.{receiverTest}
+use Rattle.lent.proofs.FirstLaws.{first-stop, first-end}
+use Rattle.lent.proofs.first_in_row.Statement.{statement}
+use Rattle.lent.proofs.first_in_row.Tie as tie
+use Rattle.lent.proofs.first_in_row.Reads as reads
+use Rattle.lent.proofs.first_in_row.Lts as lts
+use Rattle.lent.proofs.bad_receiver.Reads as bad-receiver-reads
+
+abbrev Inv-loop : tie.InvT-loop
+Inv-loop size recv y w x₀ x = (x ≤ size .w) × ((i : ℕ) → i < x → receiverTest (size .w) (size .h) recv (cellOf (size .w) i y) ≡ true)
+
+abbrev μ-loop : tie.MeasureT-loop
+μ-loop size recv y w x₀ x = size .w - x
+
+-- src/lib.rt:76:5
+loop-holds : tie.Need-loop-holds Inv-loop μ-loop
+loop-holds c = (omega arith, below-none _)
+
+-- src/lib.rt:77:46
+mul-bad-receiver : tie.Need-mul-bad-receiver Inv-loop μ-loop
+mul-bad-receiver c = omega (arith, cell-lt _ _ _ (c .loop-test .taken) _ (c .before .before .before .pre .1 .1), cells-bound _ _ (c .before .before .before .pre .0 .wide) (c .before .before .before .pre .0 .high))
+
+-- src/lib.rt:77:42
+add-bad-receiver : tie.Need-add-bad-receiver Inv-loop μ-loop
+add-bad-receiver c = omega (arith, cell-lt _ _ _ (c .loop-test .taken) _ (c .before .before .before .pre .1 .1), cells-bound _ _ (c .before .before .before .pre .0 .wide) (c .before .before .before .pre .0 .high))
+
+-- src/lib.rt:77:37
+mul-bad-receiver-2 : tie.Need-mul-bad-receiver-2 Inv-loop μ-loop
+mul-bad-receiver-2 c = omega (arith, cell-lt _ _ _ (c .loop-test .taken) _ (c .before .before .before .pre .1 .1), cells-bound _ _ (c .before .before .before .pre .0 .wide) (c .before .before .before .pre .0 .high))
+
+-- src/lib.rt:77:37
+shared-slice-read-bad-receiver : tie.Need-shared-slice-read-bad-receiver Inv-loop μ-loop
+shared-slice-read-bad-receiver c = omega (arith, cell-lt _ _ _ (c .before .loop-test .taken) _ (c .before .before .before .before .pre .1 .1), c .before .before .before .before .pre .1 .0)
+
+-- src/lib.rt:77:37
+cast-bad-receiver : tie.Need-cast-bad-receiver Inv-loop μ-loop
+cast-bad-receiver c = omega (arith, c .shared-slice-known2 .given (cellOf (c .before .before .before .before .args .size .w) (c .before .before .loop .x) (c .before .before .before .before .args .y)))
+
+-- src/lib.rt:77:12
+bad-receiver-requires : tie.Need-bad-receiver-requires Inv-loop μ-loop
+bad-receiver-requires c κs = record { column = c .before .loop-test .taken; row = c .before .before .before .before .pre .1 .1; wide = c .before .before .before .before .pre .0 .wide; high = c .before .before .before .before .pre .0 .high }
+
+-- src/lib.rt:78:13
+returns : tie.Need-returns Inv-loop μ-loop
+returns c = first-stop (c .before .before .before .before .loop .inv .1) (c .before .before .before .before .loop .inv .0) (not-true _ (sym (c .before .bad-receiver .ensures) ∙ c .if1 .taken))
+
+-- src/lib.rt:80:9
+add-x : tie.Need-add-x Inv-loop μ-loop
+add-x c = omega (arith, c .before .before .before .loop-test .taken, c .before .before .before .before .before .before .pre .0 .wide)
+
+-- src/lib.rt:76:5
+loop-less : tie.Need-loop-less Inv-loop μ-loop
+loop-less c = omega (arith, c .before .before .before .loop-test .taken)
+
+-- src/lib.rt:76:5
+loop-again : tie.Need-loop-again Inv-loop μ-loop
+loop-again c = (omega (arith, c .before .before .before .loop-test .taken), below-more _ _ (c .before .before .before .before .loop .inv .1) (not-false _ (sym (c .before .bad-receiver .ensures) ∙ c .if1 .left)))
+
+-- src/lib.rt:68:1
+returns-2 : tie.Need-returns-2 Inv-loop μ-loop
+returns-2 c = first-end (λ i l. c .before .loop .inv .1 i (omega (arith, c .loop-test .left)))
+
+pub first-in-row-spec : {M : Type 1} → statement M
+first-in-row-spec =
+    tie.close
+    (tie.spec
+    Inv-loop
+    μ-loop
+    loop-holds
+    mul-bad-receiver
+    add-bad-receiver
+    mul-bad-receiver-2
+    shared-slice-read-bad-receiver
+    cast-bad-receiver
+    bad-receiver-requires
+    returns
+    add-x
+    loop-less
+    loop-again
+    returns-2)

@@ -1,0 +1,59 @@
+-- The courses of document 01's runs, and that their questions can be counted.
+use Prim.Native.Nat.{ℕ, _+_, _^_, _≤_, _<_, max}
+use mathlib.Core.List.{List}
+use native.Mathlib.Nat.{mul-le-mul}
+use native.Mathlib.Omega.{arith}
+use lib.Ieee.{Float}
+use Rattle.grid.specs.Sides.{InRange}
+use Rattle.drainage.specs.Ground.{Ground}
+use Rattle.runs.specs.Plan.{scaleOf, passesOf, fluvialPlan}
+use Rattle.runs.specs.Machine.{Course, steps}
+use Rattle.runs.specs.Run.{Choice, fluvialCourse, thermalCourse}
+use Rattle.runs.specs.Nested.{passesAfter, iterated, Bounded}
+use Rattle.runs.specs.declared.FluvialSettings.{FluvialSettings}
+use Rattle.runs.specs.declared.ThermalSettings.{ThermalSettings}
+use Rattle.runs.proofs.AskedLaws.{run-asked, opened-asked, steps-fluvial, steps-thermal}
+use Rattle.runs.proofs.PlanLaws.{Counted, thermal-passes, fluvial-passes}
+
+module _ (w h : ℕ) (sides : InRange w h) where
+  pub fluvial-bounded : (ground : List Float → Ground) (s : FluvialSettings) (stop : ℕ) (choose : Choice) → s .iterations ≤ 4096
+      → Bounded (fluvialCourse ground w h (fluvialPlan w h s) stop choose)
+  fluvial-bounded ground s stop choose l =
+      let p : Counted 8 (passesOf 1 (scaleOf w h)) = fluvial-passes w h (sides .wide) (sides .high) in
+      let its : max (s .iterations) 1 ≤ 4096 = omega arith in
+      record {
+        columns = sides .columns;
+        rows = sides .rows;
+        wide = sides .wide;
+        high = sides .high;
+        due = omega arith;
+        some = p .some;
+        iterations = omega arith;
+        passes = mul-le-mul its (p .few);
+        steps = steps-fluvial (fluvialCourse ground w h (fluvialPlan w h s) stop choose) its (p .few) (sides .high);
+      }
+
+  pub thermal-bounded : (s : ThermalSettings) (stop : ℕ) → s .iterations ≤ 4096 → Bounded (thermalCourse w h s stop)
+  thermal-bounded s stop l =
+      let p : Counted 32768 (passesOf (s .iterations) (scaleOf w h)) = thermal-passes w h (sides .wide) (sides .high) (s .iterations) l in
+      record {
+        columns = sides .columns;
+        rows = sides .rows;
+        wide = sides .wide;
+        high = sides .high;
+        due = p .some;
+        some = omega arith;
+        iterations = p .few;
+        passes = omega (arith, p .few);
+        steps = steps-thermal (thermalCourse w h s stop) (p .few) (omega arith) (sides .high);
+      }
+
+-- the record before a pass leaves room for a question after each row, and so does the one before an opening
+module _ (c : Course) (b : Bounded c) (hs : List Float) where
+  pub asked-room : (it q : ℕ) → it < c .iterations → q < c .passes → passesAfter c q (iterated c it hs) .marks .asked + c .h < 2 ^ 32
+  asked-room it q l m =
+      let n : q ≤ c .passes = omega arith in
+      omega (arith, opened-asked c hs it q l n, b .steps, b .high)
+
+  pub asked-due : (n : ℕ) → n ≤ c .iterations → iterated c n hs .marks .asked + 1 < 2 ^ 32
+  asked-due n l = omega (arith, run-asked c hs n l, b .steps)

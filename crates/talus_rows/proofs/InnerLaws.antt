@@ -1,0 +1,154 @@
+-- Inner cells: their neighbours are all in the grid, at the same eight offsets.
+use Prim.Native.Nat.{ℕ, zero, suc, _+_, _-_, _*_, _^_, _≤_, _<_}
+use mathlib.Core.Path.{_≡_, refl, sym, ap, ap₂, _∙_}
+use mathlib.Core.Bool.{Bool, true, false, cond, _||_}
+use mathlib.Core.List.{List, []}
+use native.Mathlib.Nat.{mul-le-mul}
+use native.Mathlib.Omega.{arith}
+use lib.Dec.{eqb, ltb, lit≤}
+use lib.IntN.{ℤ, pos, negsuc, natAbs}
+use lib.ListN.{length, getD, set}
+use borrow.Author.Tests.{lt-ltb, ltb-true, ltb-false, eqb-false}
+use Rattle.lists.specs.Loops.{tabulate}
+use Rattle.lists.proofs.TableLaws.{getD-tabulate, filled, filled-more, filled-done}
+use Rattle.grid.specs.Sides.{cellOf, columnOf, rowOf}
+use Rattle.grid.specs.Directions.{dirX, dirY, shiftedOf, neighbourOf, neighbourAt}
+use Rattle.grid.proofs.SidesLaws.{cell-lt, cell-back, column-cell, row-cell, cells-bound}
+use Rattle.grid.proofs.NeighbourLaws.{stepX, stepY, within, shift-ahead, each-direction}
+use Rattle.talus.specs.Places.{InRow}
+use Rattle.talus_rows.specs.Inner.{Inner, innerOf, offsetOf, offsetsOf, InnerRow}
+
+-- a step of at most one from an inner place stays inside, and goes as far as from place 1
+near : (z : ℤ) (x side : ℕ) → natAbs z ≤ 1 → 1 ≤ x → x + 1 < side → (shiftedOf x z side + 1 ≡ shiftedOf 1 z 3 + x) × (shiftedOf x z side < side)
+near (pos zero) x side s lo hi = let e = shift-ahead x 0 side (omega arith) in omega (arith, e)
+near (pos (suc zero)) x side s lo hi = let e = shift-ahead x 1 side (omega arith) in omega (arith, e)
+near (pos (suc (suc k))) x side s lo hi = absurd (omega arith)
+near (negsuc zero) x side s lo hi = rw (lt-ltb 0 x lo) (omega arith)
+near (negsuc (suc k)) x side s lo hi = absurd (omega arith)
+
+-- an offset is small
+shift-most : (z : ℤ) → shiftedOf 1 z 3 ≤ 3
+shift-most (pos k) = go (ltb (1 + k) 3) refl
+  where
+    go : (b : Bool) → ltb (1 + k) 3 ≡ b → cond b (1 + k) 3 ≤ 3
+    go true e = omega (arith, ltb-true (1 + k) 3 e)
+    go false e = omega arith
+shift-most (negsuc k) = go (ltb k 1)
+  where
+    go : (b : Bool) → cond b (1 - suc k) 3 ≤ 3
+    go true = omega arith
+    go false = omega arith
+
+pub offset-fits : (w d a b : ℕ) → w ≤ 4096 → shiftedOf 1 (stepX d) 3 ≡ a → shiftedOf 1 (stepY d) 3 ≡ b → a + b * w ≤ 2 ^ 14
+offset-fits w d a b l e f =
+    let n : b ≤ 3 = omega (arith, shift-most (stepY d)) in
+    omega (arith, shift-most (stepX d), mul-le-mul n l)
+
+-- one offset more
+pub offsets-more : (w d a b : ℕ) (old new : List ℕ)
+    → new ≡ filled (offsetOf w) d old
+    → d < length old
+    → shiftedOf 1 (stepX d) 3 ≡ a
+    → shiftedOf 1 (stepY d) 3 ≡ b
+    → set new d (a + b * w) ≡ filled (offsetOf w) (d + 1) old
+offsets-more w d a b old new h l e f =
+    ap₂ (λ (x y : ℕ). set new d (x + y * w)) (sym e) (sym f) ∙ ap (λ (k : List ℕ). set k d (offsetOf w d)) h ∙ filled-more (offsetOf w) d old l
+
+-- the steps of the eight directions
+record Small (d : ℕ) : Type 0 where
+  column : natAbs (stepX d) ≤ 1
+  row : natAbs (stepY d) ≤ 1
+
+small : (d : ℕ) → 1 ≤ d → d ≤ 8 → Small d
+small =
+    each-direction Small
+    (record { column = lit≤ tt; row = lit≤ tt })
+    (record { column = lit≤ tt; row = lit≤ tt })
+    (record { column = lit≤ tt; row = lit≤ tt })
+    (record { column = lit≤ tt; row = lit≤ tt })
+    (record { column = lit≤ tt; row = lit≤ tt })
+    (record { column = lit≤ tt; row = lit≤ tt })
+    (record { column = lit≤ tt; row = lit≤ tt })
+    (record { column = lit≤ tt; row = lit≤ tt })
+
+offset-sum : (w x y nx ny ox oy : ℕ) → nx + 1 ≡ ox + x → ny + 1 ≡ oy + y → (nx + ny * w) + (w + 1) ≡ (x + y * w) + (ox + oy * w)
+offset-sum w x y nx ny ox oy a b = omega (arith, ap (λ (z : ℕ). z * w) b)
+
+-- by column and row: the neighbour is a cell, and lies as far from cell (x, y) as the offset from cell (1, 1)
+beside-at : (w h x y d : ℕ) → 1 ≤ d → d ≤ 8 → 1 ≤ x → x + 1 < w → 1 ≤ y → y + 1 < h
+    → (neighbourOf w h x y d < w * h) × (neighbourOf w h x y d + (w + 1) ≡ cellOf w x y + offsetOf w d)
+beside-at w h x y d lo hi west east north south =
+    let s = small d lo hi in
+    let a = near (stepX d) x w (s .column) west east in
+    let b = near (stepY d) y h (s .row) north south in
+    rw (within w h x y d _ refl _ refl (a .1) (b .1)) (cell-lt w _ _ (a .1) h (b .1), offset-sum w x y _ _ _ _ (a .0) (b .0))
+
+module _ (w h c d : ℕ) (lo : 1 ≤ d) (hi : d ≤ 8) (a : Inner w h c) where
+  pub inner-cell : neighbourAt w h c d < w * h
+  inner-cell = beside-at w h (columnOf w c) (rowOf w c) d lo hi (a .west) (a .east) (a .north) (a .south) .0
+
+  pub inner-below : (n m : ℕ) → n ≡ w * h → m ≡ neighbourAt w h c d → m < n
+  inner-below n m e f = omega (arith, inner-cell)
+
+  pub inner-offset : neighbourAt w h c d + (w + 1) ≡ c + offsetOf w d
+  inner-offset =
+      beside-at w h (columnOf w c) (rowOf w c) d lo hi (a .west) (a .east) (a .north) (a .south) .1
+      ∙ ap (λ (k : ℕ). k + offsetOf w d) (cell-back w c)
+
+  -- as the code works it out
+  module _ (os : List ℕ) (e : os ≡ offsetsOf w) where
+    offset-is : getD os d 0 ≡ offsetOf w d
+    unfolding offsetsOf
+    offset-is = ap (λ (l : List ℕ). getD l d 0) e ∙ getD-tabulate (offsetOf w) 9 d 0 (omega arith)
+
+    pub inner-sum : c + getD os d 0 ≡ neighbourAt w h c d + (w + 1)
+    inner-sum = ap (λ (k : ℕ). c + k) offset-is ∙ sym inner-offset
+
+    pub inner-sum-most : c + getD os d 0 ≤ 2 ^ 25
+    inner-sum-most = omega (arith, inner-sum, inner-cell, cells-bound w h (a .wide) (a .high))
+
+    pub inner-beside : c + getD os d 0 - (w + 1) ≡ neighbourAt w h c d
+    inner-beside = omega (arith, inner-sum)
+
+-- the inner cells of a row
+pub inner-at : (w h x y : ℕ) → 1 ≤ x → x + 1 < w → 1 ≤ y → y + 1 < h → w ≤ 4096 → h ≤ 4096 → Inner w h (x + y * w)
+inner-at w h x y west east north south wide high =
+    let column = column-cell w x y (omega arith) in
+    let row = row-cell w x y (omega arith) in
+    record { west = rw column west; east = rw column east; north = rw row north; south = rw row south; wide = wide; high = high }
+
+module _ (w h y n : ℕ) (e : n ≡ innerOf w h y) where
+  pub inner-most : 1 ≤ w → 1 + n ≤ w
+  unfolding innerOf
+  inner-most l = rw e (go (ltb w 3) refl (eqb y 0 || eqb y (h - 1)))
+    where
+      go : (a : Bool) → ltb w 3 ≡ a → (b : Bool) → 1 + cond a 0 (cond b 0 (w - 2)) ≤ w
+      go true e b = omega arith
+      go false e true = omega arith
+      go false e false = omega (arith, ltb-false w 3 e)
+
+  pub inner-row : {cells : ℕ} → 1 ≤ w → InRow w h cells y 0 w → InnerRow w h cells y n
+  unfolding innerOf
+  inner-row some r =
+      record {
+        inner = λ i l. go i (ltb w 3) refl (eqb y 0) refl (eqb y (h - 1)) refl (rw e at l);
+        row = record { columns = inner-most some; row = r .row; wide = r .wide; high = r .high; size = r .size };
+      }
+    where
+      go : (i : ℕ) (a : Bool) → ltb w 3 ≡ a → (b : Bool) → eqb y 0 ≡ b → (c : Bool) → eqb y (h - 1) ≡ c → i < cond a 0 (cond (b || c) 0 (w - 2)) → Inner w h (1 + i + y * w)
+      go i true _ b _ c _ l = absurd (omega arith)
+      go i false _ true _ c _ l = absurd (omega arith)
+      go i false _ false _ true _ l = absurd (omega arith)
+      go i false e false f false g l =
+          let first : y ≡ 0 → ⊥ = eqb-false y 0 f in
+          let last : y ≡ h - 1 → ⊥ = eqb-false y (h - 1) g in
+          let below : y < h = r .row in
+          inner-at w h (1 + i) y (omega arith) (omega arith) (omega arith) (omega arith) (r .wide) (r .high)
+
+  -- the cells after them
+  pub inner-rest : {cells : ℕ} → 1 ≤ w → InRow w h cells y 0 w → InRow w h cells y (1 + n) (w - (1 + n))
+  inner-rest some r = record { columns = omega (arith, inner-most some); row = r .row; wide = r .wide; high = r .high; size = r .size }
+
+pub offsets-done : (w : ℕ) (old new : List ℕ) (d : ℕ) → new ≡ filled (offsetOf w) d old → length old ≡ 9 → d ≡ 9 → new ≡ offsetsOf w
+unfolding offsetsOf
+offsets-done w old new d h n e = h ∙ ap (λ (k : ℕ). filled (offsetOf w) k old) e ∙ filled-done (offsetOf w) 9 old n

@@ -1,0 +1,3 @@
+-- Laws of talus rows.
+pub mod InnerLaws
+pub mod RowLaws

@@ -1,0 +1,37 @@
+-- The inner cells of a map, whose neighbours need no test.
+use Prim.Native.Nat.{ℕ, _+_, _-_, _*_, _≤_, _<_}
+use mathlib.Core.Bool.{_||_, cond}
+use mathlib.Core.List.{List}
+use lib.Dec.{eqb, ltb}
+use lib.IntN.{pos}
+use lib.ListN.{getD}
+use Rattle.lists.specs.Loops.{tabulate}
+use Rattle.grid.specs.Sides.{columnOf, rowOf}
+use Rattle.grid.specs.Directions.{dirX, dirY, shiftedOf}
+use Rattle.talus.specs.Places.{InRow}
+
+-- cell c of a w × h map lies on none of its sides
+pub record Inner (w h c : ℕ) : Type 0 where
+  pub west : 1 ≤ columnOf w c
+  pub east : columnOf w c + 1 < w
+  pub north : 1 ≤ rowOf w c
+  pub south : rowOf w c + 1 < h
+  pub wide : w ≤ 4096
+  pub high : h ≤ 4096
+
+-- the number of inner cells of row y: all but the first and the last, if the row is an inner one
+unfoldable pub innerOf : ℕ → ℕ → ℕ → ℕ
+innerOf w h y = cond (ltb w 3) 0 (cond (eqb y 0 || eqb y (h - 1)) 0 (w - 2))
+
+-- the neighbour of an inner cell c in direction d is c + offset - (w + 1): the offset is the cell in direction d of column 1, row 1
+abbrev pub offsetOf : ℕ → ℕ → ℕ
+offsetOf w d = shiftedOf 1 (getD dirX d (pos 0)) 3 + shiftedOf 1 (getD dirY d (pos 0)) 3 * w
+
+unfoldable pub offsetsOf : ℕ → List ℕ
+unfolding tabulate
+offsetsOf w = tabulate 9 (offsetOf w)
+
+-- the n cells from column 1 on, in row y, are inner cells of a w × h map of `cells` heights
+pub record InnerRow (w h cells y n : ℕ) : Type 0 where
+  pub inner : (i : ℕ) → i < n → Inner w h (1 + i + y * w)
+  pub row : InRow w h cells y 1 n

@@ -1,0 +1,2 @@
+-- Rows of a talus pass.
+pub mod Inner

@@ -1,0 +1,108 @@
+-- The distance from a cell to its receiver is that of the direction which leads there.
+use Prim.Native.Nat.{ℕ, zero, suc, _+_, _-_, _*_, _≤_, _<_}
+use native.Mathlib.Omega.{arith}
+use native.Mathlib.Decide.{ℕ-discrete}
+use mathlib.Core.Path.{_≡_, refl, sym, ap, _∙_}
+use mathlib.Core.Logic.{_≢_, _⊎_, inl, inr}
+use mathlib.Core.Bool.{Bool, true, false, cond}
+use mathlib.Core.List.{List}
+use lib.IntN.{ℤ, pos, negsuc}
+use lib.ListN.{getD}
+use lib.Dec.{eqb, ltb}
+use lib.Ieee.{Float, nan, binary32, ofBits}
+use borrow.Author.Tests.{eq-eqb, ne-eqb, eqb-true, eqb-false, ltb-true}
+use Rattle.lists.specs.Loops.{turns}
+use Rattle.grid.specs.Sides.{cellOf, columnOf, rowOf}
+use Rattle.grid.specs.Directions.{shiftedOf, neighbourOf, neighbourAt, Adjacent}
+use Rattle.grid.proofs.SidesLaws.{column-cell, row-cell, column-lt, row-lt}
+use Rattle.grid.proofs.NeighbourLaws.{stepX, stepY, each-direction, Beside, beside, outside-or-beside, neighbour-apart}
+use Rattle.drainage.specs.Ground.{Ground, gridGround, distances}
+use Rattle.drainage.specs.Receivers.{directionTo, distanceTo}
+use Rattle.ways.specs.Apart.{apart}
+
+-- ---- the last number i < n with f i ≡ r, as i + 1; 0 where there is none
+abbrev lastOf : ℕ → (ℕ → ℕ) → ℕ → ℕ
+lastOf n f r = turns n (λ i d. cond (eqb (f i) r) (suc i) d) 0
+
+last-none : (n : ℕ) (f : ℕ → ℕ) (r : ℕ) → ((i : ℕ) → i < n → f i ≢ r) → lastOf n f r ≡ 0
+unfolding turns
+last-none zero f r h = refl
+last-none (suc n) f r h = rw (ne-eqb (f n) r (h n (omega arith))) (last-none n f r (λ i l. h i (omega arith)))
+
+last-at : (n : ℕ) (f : ℕ → ℕ) (r i : ℕ) → i < n → f i ≡ r → (k : ℕ) × (lastOf n f r ≡ suc k) × (k < n) × (f k ≡ r)
+unfolding turns
+last-at zero f r i l e = absurd (omega arith)
+last-at (suc n) f r i l e = go (eqb (f n) r) refl (λ k. last-at n f r i k e)
+  where
+    go : (b : Bool) → eqb (f n) r ≡ b → (i < n → (k : ℕ) × (lastOf n f r ≡ suc k) × (k < n) × (f k ≡ r))
+        → (k : ℕ) × (cond b (suc n) (lastOf n f r) ≡ suc k) × (k < suc n) × (f k ≡ r)
+    go true t h = (n, refl, omega arith, eqb-true (f n) r t)
+    go false t h =
+        let other : i ≢ n = λ q. eqb-false (f n) r t (ap f (sym q) ∙ e) in
+        let s = h (omega arith) in
+        (s .0, s .1, omega (arith, s .2), s .3)
+
+abbrev isZero : ℤ → Bool
+isZero (pos zero) = true
+isZero (pos (suc n)) = false
+isZero (negsuc n) = false
+
+-- 1 where a direction keeps the column or the row
+by-steps : (d : ℕ) → 1 ≤ d → d ≤ 8
+    → getD distances d nan ≡ cond (isZero (stepX d)) (ofBits binary32 0x3f80_0000) (cond (isZero (stepY d)) (ofBits binary32 0x3f80_0000) (ofBits binary32 0x3fb5_04f3))
+by-steps =
+    each-direction
+    (λ d. getD distances d nan ≡ cond (isZero (stepX d)) (ofBits binary32 0x3f80_0000) (cond (isZero (stepY d)) (ofBits binary32 0x3f80_0000) (ofBits binary32 0x3fb5_04f3)))
+    refl refl refl refl refl refl refl refl
+
+-- a step keeps a place exactly if it is 0
+kept : (x : ℕ) (z : ℤ) (side n : ℕ) → shiftedOf x z side ≡ n → n < side → eqb x n ≡ isZero z
+kept x (pos zero) side n e l = go (ltb (x + 0) side) e
+  where
+    go : (b : Bool) → cond b (x + 0) side ≡ n → eqb x n ≡ true
+    go true e = eq-eqb x n (omega arith)
+    go false e = absurd (omega arith)
+kept x (pos (suc k)) side n e l = go (ltb (x + suc k) side) e
+  where
+    go : (b : Bool) → cond b (x + suc k) side ≡ n → eqb x n ≡ false
+    go true e = ne-eqb x n (λ q. omega arith)
+    go false e = absurd (omega arith)
+kept x (negsuc k) side n e l = go (ltb k x) refl e
+  where
+    go : (b : Bool) → ltb k x ≡ b → cond b (x - suc k) side ≡ n → eqb x n ≡ false
+    go true t e = let m : k < x = ltb-true k x t in ne-eqb x n (λ q. omega arith)
+    go false t e = absurd (omega arith)
+
+module _ (w h : ℕ) (water : Float) (hs : List Float) (c : ℕ) (l : c < w * h) where
+  own-distance : distanceTo (gridGround w h water hs) c c ≡ apart w c c
+  unfolding directionTo
+  own-distance =
+      let none : lastOf 8 (λ i. neighbourAt w h c (suc i)) c ≡ 0 = last-none 8 _ c (λ i k e. neighbour-apart w h c (suc i) (omega arith) (omega arith) l (sym e)) in
+      ap (λ (d : ℕ). getD distances d nan) none ∙ sym (rw (eq-eqb (columnOf w c) (columnOf w c) refl))
+
+  near-distance : (r : ℕ) → Adjacent w h c r → distanceTo (gridGround w h water hs) c r ≡ apart w c r
+  unfolding directionTo
+  near-distance r a =
+      let s = last-at 8 (λ i. neighbourAt w h c (suc i)) r (a .direction - 1) (omega (arith, a .first, a .last)) (ap (neighbourAt w h c) (back (a .direction) (a .first)) ∙ a .leads) in
+      let d : ℕ = suc (s .0) in
+      ap (λ (d : ℕ). getD distances d nan) (s .1) ∙ by-steps d (omega arith) (omega (arith, s .2)) ∙ go d (s .3) (outside-or-beside w h (columnOf w c) (rowOf w c) d)
+    where
+      back : (d : ℕ) → 1 ≤ d → suc (d - 1) ≡ d
+      back d f = omega arith
+
+      one : Float
+      one = ofBits binary32 0x3f80_0000
+
+      go : (d : ℕ) → neighbourAt w h c d ≡ r → {nx ny : ℕ} → (neighbourAt w h c d ≡ w * h) ⊎ Beside w h (columnOf w c) (rowOf w c) d nx ny
+          → cond (isZero (stepX d)) one (cond (isZero (stepY d)) one (ofBits binary32 0x3fb5_04f3)) ≡ apart w c r
+      go d e (inl o) = absurd (omega (arith, a .inside))
+      go d e {nx} {ny} (inr b) =
+          let cell : r ≡ cellOf w nx ny = sym e ∙ beside b in
+          let column : columnOf w r ≡ nx = ap (columnOf w) cell ∙ column-cell w nx ny (b .columns) in
+          let row : rowOf w r ≡ ny = ap (rowOf w) cell ∙ row-cell w nx ny (b .columns) in
+          rw (column, row, kept (columnOf w c) (stepX d) w nx (b .column) (b .columns), kept (rowOf w c) (stepY d) h ny (b .row) (b .rows))
+
+  -- the distance that the code finds is that of the definitions
+  pub distance-is : (r : ℕ) → (r ≡ c) ⊎ Adjacent w h c r → apart w c r ≡ distanceTo (gridGround w h water hs) c r
+  distance-is r (inl e) = rw e (sym own-distance)
+  distance-is r (inr a) = sym (near-distance r a)

@@ -1,0 +1,67 @@
+-- The loops of `fill` and `accumulate`.
+use Prim.Native.Nat.{ℕ, zero, suc, _+_, _-_, _≤_, _<_}
+use native.Mathlib.Omega.{arith}
+use mathlib.Core.Path.{_≡_, refl, sym, ap, _∙_}
+use mathlib.Core.List.{List, [], _∷_, _++_}
+use lib.ListN.{length, getD, set, drop, replicate, replicate-append-replicate}
+use lib.Seq.{drop-cons, drop-length}
+use lib.Ieee.{Float, binary32, ofBits}
+use native.Mathlib.Numerals.{add-one}
+use Rattle.lists.specs.Loops.{tabulate}
+use Rattle.lists.proofs.TableLaws.{filled, filled-none, filled-length, filled-more, filled-done}
+use Rattle.drainage.specs.Ways.{areasAlong}
+use Rattle.ways.specs.Apart.{addedDown}
+
+tabulate-same : {A : Type 0} (x : A) (n : ℕ) → tabulate n (λ i. x) ≡ replicate n x
+unfolding tabulate
+tabulate-same x zero = refl
+tabulate-same x (suc n) = ap (λ l. l ++ (x ∷ [])) (tabulate-same x n) ∙ replicate-append-replicate n 1 x ∙ ap (λ (k : ℕ). replicate k x) (add-one n)
+
+-- the first i values are x
+pub record Filling (x : Float) (old : List Float) (i : ℕ) (new : List Float) : Type 0 where
+  pub within : i ≤ length old
+  pub held : new ≡ filled (λ k. x) i old
+
+module _ {x : Float} {old : List Float} where
+  pub filling-none : Filling x old 0 old
+  filling-none = record { within = omega arith; held = filled-none (λ k. x) old }
+
+  module _ {i : ℕ} {new : List Float} (s : Filling x old i new) where
+    pub filling-length : length new ≡ length old
+    filling-length = ap length (s .held) ∙ filled-length (λ k. x) i old (s .within)
+
+    pub filling-more : i < length old → Filling x old (i + 1) (set new i x)
+    filling-more l = record { within = omega arith; held = ap (λ (r : List Float). set r i x) (s .held) ∙ filled-more (λ k. x) i old l }
+
+    pub filling-done : length old ≤ i → new ≡ replicate (length old) x
+    filling-done l =
+        let e : length old ≡ i = omega (arith, s .within) in
+        s .held ∙ filled-done (λ k. x) i old e ∙ tabulate-same x i ∙ ap (λ (k : ℕ). replicate k x) (sym e)
+
+-- the areas once the entries from position k on are added
+pub record Adding (n : ℕ) (recv list : List ℕ) (k : ℕ) (area : List Float) : Type 0 where
+  pub place : k ≤ length list
+  pub long : length area ≡ n
+  pub held : area ≡ areasAlong n recv (drop k list)
+
+module _ {n : ℕ} {recv list : List ℕ} where
+  pub adding-none : {area : List Float} → length area ≡ n → area ≡ replicate n (ofBits binary32 0x3f80_0000) → Adding n recv list (length list) area
+  unfolding areasAlong
+  adding-none l e = record { place = omega arith; long = l; held = e ∙ ap (areasAlong n recv) (sym (drop-length list)) }
+
+  module _ {k : ℕ} {area : List Float} (s : Adding n recv list k area) where
+    pub adding-more : 0 < k → {next : List Float} → next ≡ addedDown (getD list (k - 1) 0) (getD recv (getD list (k - 1) 0) 0) area → length next ≡ length area → Adding n recv list (k - 1) next
+    unfolding areasAlong
+    adding-more h {next} e l =
+        let back : suc (k - 1) ≡ k = omega arith in
+        let c : ℕ = getD list (k - 1) 0 in
+        record {
+          place = omega (arith, s .place);
+          long = l ∙ s .long;
+          held =
+              e ∙ ap (addedDown c (getD recv c 0)) (s .held ∙ ap (λ (j : ℕ). areasAlong n recv (drop j list)) (sym back))
+              ∙ ap (areasAlong n recv) (sym (drop-cons list (k - 1) 0 (omega (arith, s .place))));
+        }
+
+    pub adding-done : k ≤ 0 → area ≡ areasAlong n recv list
+    adding-done h = let e : k ≡ 0 = omega arith in s .held ∙ ap (λ (j : ℕ). areasAlong n recv (drop j list)) e

@@ -1,0 +1,61 @@
+use Prim.Native.Nat.{_-_}
+use native.Mathlib.Omega.{arith}
+use lib.ListN.{length}
+use Rattle.ways.proofs.SumLaws.{Filling, filling-none, filling-length, filling-more, filling-done}
+use Rattle.ways.proofs.fill.Statement.{statement}
+use Rattle.ways.proofs.fill.Tie as tie
+use Rattle.ways.proofs.fill.Reads as reads
+use Rattle.ways.proofs.fill.Lts as lts
+
+abbrev Inv-loop : tie.InvT-loop
+Inv-loop values₀ x n i₀ values i = Filling x values₀ i values
+
+abbrev μ-loop : tie.MeasureT-loop
+μ-loop values₀ x n i₀ values i = length values₀ - i
+
+-- src/lib.rt:43:5
+loop-holds : tie.Need-loop-holds Inv-loop μ-loop
+loop-holds c = filling-none
+
+-- src/lib.rt:44:9
+mul-values : tie.Need-mul-values Inv-loop μ-loop
+mul-values c = omega arith
+
+-- src/lib.rt:44:9
+slice-write-values : tie.Need-slice-write-values Inv-loop μ-loop
+slice-write-values c = omega (arith, filling-length (c .before .loop .inv))
+
+-- src/lib.rt:45:9
+add-i : tie.Need-add-i Inv-loop μ-loop
+add-i c = omega arith
+
+-- src/lib.rt:43:5
+loop-less : tie.Need-loop-less Inv-loop μ-loop
+loop-less c = omega arith
+
+-- src/lib.rt:43:5
+loop-again : tie.Need-loop-again Inv-loop μ-loop
+loop-again c = filling-more (c .before .loop .inv) (c .loop-test .taken)
+
+-- src/lib.rt:38:1
+same-length : tie.Need-same-length Inv-loop μ-loop
+same-length c = filling-length (c .before .loop .inv)
+
+-- src/lib.rt:38:1
+returns : tie.Need-returns Inv-loop μ-loop
+returns c = filling-done (c .before .loop .inv) (c .loop-test .left)
+
+pub fill-spec : {M : Type 1} → statement M
+fill-spec =
+    tie.close
+    (tie.spec
+    Inv-loop
+    μ-loop
+    loop-holds
+    mul-values
+    slice-write-values
+    add-i
+    loop-less
+    loop-again
+    same-length
+    returns)
