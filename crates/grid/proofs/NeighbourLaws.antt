@@ -149,7 +149,7 @@ neighbour-le w h c d = go (outside-or-beside w h (columnOf w c) (rowOf w c) d)
     go {nx} {ny} (inr b) = omega (arith, beside b, cell-lt w nx ny (b .columns) h (b .rows))
 
 -- a neighbour that is a cell, by its coordinates
-inside-beside : (w h a b d : ℕ) → b < w * h → neighbourAt w h a d ≡ b → Beside w h (columnOf w a) (rowOf w a) d (columnOf w b) (rowOf w b)
+pub inside-beside : (w h a b d : ℕ) → b < w * h → neighbourAt w h a d ≡ b → Beside w h (columnOf w a) (rowOf w a) d (columnOf w b) (rowOf w b)
 inside-beside w h a b d l e = go (outside-or-beside w h (columnOf w a) (rowOf w a) d)
   where
     go : {nx ny : ℕ} → (neighbourAt w h a d ≡ w * h) ⊎ Beside w h (columnOf w a) (rowOf w a) d nx ny → Beside w h (columnOf w a) (rowOf w a) d (columnOf w b) (rowOf w b)
