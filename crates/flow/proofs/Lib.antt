@@ -2,3 +2,5 @@
 pub mod DistanceLaws
 pub mod ReceiverLaws
 pub mod PassLaws
+pub mod NetLaws
+pub mod RouteLaws

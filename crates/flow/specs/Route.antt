@@ -1,19 +1,21 @@
 -- `route` of document 01, 'Network': flood, receivers, areas of a grid, with its refusals.
-use Prim.Native.Nat.{ℕ, _*_}
+use Prim.Native.Nat.{ℕ, _*_, _≤_}
 use mathlib.Core.Path.{_≡_}
-use mathlib.Core.Bool.{Bool, true, not, _&&_, _||_, cond}
+use mathlib.Core.Bool.{Bool, true, false, not, _&&_, _||_, cond}
 use mathlib.Core.List.{List}
 use lib.ListN.{length}
 use lib.Dec.{eqb, ltb}
 use lib.Ieee.{Float}
 use lib.Ieee.Scale.{finite}
-use Rattle.answers.specs.Outcome.{Outcome, gives, refused, refusedAt}
+use Rattle.answers.specs.Outcome.{Outcome, gives, refused, refusedAt, answerOf}
+use Rattle.answers.specs.declared.Answer.{Answer}
 use Rattle.grid.specs.Sides.{badSides}
 use Rattle.grid.specs.Heights.{firstNotFinite, allFinite}
 use Rattle.drainage.specs.Ground.{Ground, floats, gridGround}
 use Rattle.drainage.specs.Flood.{Flood, flooded}
-use Rattle.drainage.specs.Receivers.{receivers}
+use Rattle.drainage.specs.Receivers as R
 use Rattle.drainage.specs.Ways.{areasAlong}
+use Rattle.flow.specs.declared.Lent.{Lent}
 
 -- the four results of a routing
 module _ (w h : ℕ) (hs : List Float) (water : Float) where
@@ -24,20 +26,23 @@ module _ (w h : ℕ) (hs : List Float) (water : Float) where
   orderOf = floodOf .order
 
   abbrev pub receiversOf : List ℕ
-  receiversOf = receivers floats (gridGround w h water hs) (floodOf .spill) (floodOf .finder)
+  receiversOf = R.receivers floats (gridGround w h water hs) (floodOf .spill) (floodOf .finder)
 
   abbrev pub areasOf : List Float
   areasOf = areasAlong (w * h) receiversOf orderOf
 
 -- The lengths of the slices lent to `route`: heights and results hold exactly the grid's cells, scratch at least as many.
-pub record Lent : Type 0 where
-  pub heights : ℕ
-  pub order : ℕ
-  pub receivers : ℕ
-  pub spill : ℕ
-  pub areas : ℕ
-  pub queue : ℕ
-  pub status : ℕ
+abbrev pub lentOf : List Float → List ℕ → List ℕ → List Float → List Float → List ℕ → List ℕ → Lent
+lentOf hs order recv spill area queue status =
+    record {
+      heights = length hs;
+      order = length order;
+      receivers = length recv;
+      spill = length spill;
+      areas = length area;
+      queue = length queue;
+      status = length status;
+    }
 
 abbrev pub badLengths : ℕ → Lent → Bool
 badLengths n l =
@@ -53,3 +58,31 @@ routeAnswer w h hs water l =
 -- whether the call is accepted
 abbrev pub accepted : ℕ → ℕ → List Float → Float → Lent → Bool
 accepted w h hs water l = not (badSides w h) && (not (badLengths (w * h) l) && (finite water && allFinite hs))
+
+-- lengths that are not refused
+pub record Enough (n : ℕ) (l : Lent) : Type 0 where
+  pub heights : l .heights ≡ n
+  pub order : l .order ≡ n
+  pub receivers : l .receivers ≡ n
+  pub spill : l .spill ≡ n
+  pub areas : l .areas ≡ n
+  pub queue : n ≤ l .queue
+  pub status : n ≤ l .status
+
+-- the result slices hold a whole routing
+pub record Holding (w h : ℕ) (hs : List Float) (water : Float) (order recv : List ℕ) (spill area : List Float) : Type 0 where
+  pub left : order ≡ orderOf w h hs water
+  pub received : recv ≡ receiversOf w h hs water
+  pub raised : spill ≡ floodOf w h hs water .spill
+  pub drained : area ≡ areasOf w h hs water
+
+-- What `route` answers and leaves: accepted, the four results hold the routing; refused, every slice is as it was, scratch included.
+pub record Routed (w h : ℕ) (hs : List Float) (water : Float) (order recv : List ℕ) (spill area : List Float) (queue status : List ℕ) (r : Answer)
+    (order′ recv′ : List ℕ) (spill′ area′ : List Float) (queue′ status′ : List ℕ) : Type 0 where
+  pub answer : answerOf r ≡ routeAnswer w h hs water (lentOf hs order recv spill area queue status)
+  pub orders : order′ ≡ cond (accepted w h hs water (lentOf hs order recv spill area queue status)) (orderOf w h hs water) order
+  pub receivers : recv′ ≡ cond (accepted w h hs water (lentOf hs order recv spill area queue status)) (receiversOf w h hs water) recv
+  pub spills : spill′ ≡ cond (accepted w h hs water (lentOf hs order recv spill area queue status)) (floodOf w h hs water .spill) spill
+  pub areas : area′ ≡ cond (accepted w h hs water (lentOf hs order recv spill area queue status)) (areasOf w h hs water) area
+  pub kept-queue : accepted w h hs water (lentOf hs order recv spill area queue status) ≡ false → queue′ ≡ queue
+  pub kept-status : accepted w h hs water (lentOf hs order recv spill area queue status) ≡ false → status′ ≡ status

@@ -17,6 +17,9 @@ ghost use Rattle.grid.specs.Directions.{Place, Adjacent};
 ghost use Rattle.drainage.specs.Ground.{floats, gridGround};
 ghost use Rattle.drainage.specs.Receivers.{receivers};
 ghost use Rattle.drainage.specs.Ways.{areasAlong};
+ghost use Rattle.answers.specs.Outcome.{answerOf};
+ghost use Rattle.flood.specs.Slices.{Accepted};
+ghost use Rattle.flow.specs.Route.{badLengths, routeAnswer, lentOf, Enough, Holding, Routed};
 ghost use Rattle.flow.specs.Passes.{distanceBetween, Compared, Received, Finders, RowReceived, passedDown, Downward};
 
 // The distance of each direction in cells; entry 0 is that of a cell to itself.
@@ -183,4 +186,135 @@ pub fn accumulate(recv: &[u32], list: &[u32], area: &mut [f32])
 {
     ones(area);
     pass_all(recv, list, area);
+}
+
+// The lengths of the slices lent to `route`.
+pub struct Lent {
+    pub heights: usize,
+    pub order: usize,
+    pub receivers: usize,
+    pub spill: usize,
+    pub areas: usize,
+    pub queue: usize,
+    pub status: usize,
+}
+
+// Refusal 3: heights and results hold exactly n cells, scratch at least as many.
+fn bad_lengths(n: usize, l: Lent) -> bool
+    ensures { λ r. ⌜ r ≡ badLengths n l ⌝ }
+{
+    if l.heights != n {
+        return true;
+    }
+    if l.order != n {
+        return true;
+    }
+    if l.receivers != n {
+        return true;
+    }
+    if l.spill != n {
+        return true;
+    }
+    if l.areas != n {
+        return true;
+    }
+    if l.queue < n {
+        return true;
+    }
+    l.status < n
+}
+
+// What `route` refuses its arguments for, by document 01's numbers in their order.
+fn refusal(size: Sides, h: &[f32], water_level: f32, l: Lent) -> Answer
+    requires { ⌜ l .heights ≡ length (now h) ⌝ }
+    ensures { λ r. ⌜ answerOf r ≡ routeAnswer (size .w) (size .h) (now (h .entry)) «water_level» l ⌝ }
+{
+    if bad_sides(size) {
+        return Answer::Refused(Refusal::Side);
+    }
+    let n = size.w * size.h;
+    if bad_lengths(n, l) {
+        return Answer::Refused(Refusal::Length);
+    }
+    if !is_finite(water_level) {
+        return Answer::Refused(Refusal::Setting);
+    }
+    let bad = first_not_finite(size, h);
+    if bad != n {
+        return Answer::Refused(Refusal::Height(bad));
+    }
+    Answer::Done
+}
+
+// Routes a grid that is not refused: flood, receivers, areas. For whole runs, which check their input once.
+pub fn route_grid(
+    size: Sides,
+    h: &[f32],
+    water_level: f32,
+    order: &mut [u32],
+    recv: &mut [u32],
+    spill: &mut [f32],
+    area: &mut [f32],
+    queue: &mut [u32],
+    status: &mut [u8],
+)
+    requires { ⌜ Accepted (size .w) (size .h) (now h) ⌝ }
+    requires { ⌜ Enough (size .w * size .h) (lentOf (now h) (now order) (now recv) (now spill) (now area) (now queue) (now status)) ⌝ }
+    ensures { λ _. ⌜ Holding (size .w) (size .h) (now (h .entry)) «water_level» (now (order .exit)) (now (recv .exit)) (now (spill .exit)) (now (area .exit)) ⌝ }
+{
+    let n = h.len();
+    flood(
+        size,
+        h,
+        water_level,
+        order,
+        recv,
+        spill,
+        queue,
+        &mut status[..n],
+    );
+    steepest_receivers(size, spill, recv);
+    accumulate(recv, order, area);
+}
+
+// Routes `h`: the map border and every cell at or below `water_level` are the base level. Order, receivers, spill heights and areas are the
+// results; the queue and the statuses are scratch.
+pub fn route(
+    size: Sides,
+    h: &[f32],
+    water_level: f32,
+    order: &mut [u32],
+    recv: &mut [u32],
+    spill: &mut [f32],
+    area: &mut [f32],
+    queue: &mut [u32],
+    status: &mut [u8],
+) -> Answer
+    ensures { λ r. ⌜ Routed (size .w) (size .h) (now (h .entry)) «water_level» (now (order .entry)) (now (recv .entry)) (now (spill .entry)) (now (area .entry)) (now (queue .entry)) (now (status .entry)) r (now (order .exit)) (now (recv .exit)) (now (spill .exit)) (now (area .exit)) (now (queue .exit)) (now (status .exit)) ⌝ }
+{
+    let lent = Lent {
+        heights: h.len(),
+        order: order.len(),
+        receivers: recv.len(),
+        spill: spill.len(),
+        areas: area.len(),
+        queue: queue.len(),
+        status: status.len(),
+    };
+    let answer = refusal(size, h, water_level, lent);
+    let Answer::Done = answer else {
+        return answer;
+    };
+    route_grid(
+        size,
+        h,
+        water_level,
+        order,
+        recv,
+        spill,
+        area,
+        queue,
+        status,
+    );
+    Answer::Done
 }

@@ -38,7 +38,7 @@ same-length : tie.Need-same-length Inv-loop μ-loop
 same-length c = c .before .loop .inv .1
 
 returns : tie.Need-returns Inv-loop μ-loop
-returns c = 
+returns c =
     let a = c .before .before .before .before .args in
     rows-done _ _ (marks _ _ (a .h .now) (a .water)) (a .status .now) _ (c .before .before .before .before .pre .1) _ (c .before .loop .inv .0) (c .loop-test .left) (c .before .loop .inv .2)
 

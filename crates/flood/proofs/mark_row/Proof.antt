@@ -49,7 +49,7 @@ loop-less : tie.Need-loop-less Inv-loop μ-loop
 loop-less c = omega arith
 
 loop-again : tie.Need-loop-again Inv-loop μ-loop
-loop-again c = 
+loop-again c =
     let a = c .before .before .before .before .before .before .args in
     (omega arith, simp length-set (c .before .before .before .loop .inv .1), row-more (a .g .w) (markAt (a .g .w) (a .g .h) (a .h .now) (a .water)) (a .y) _ _ _ _ (c .before .before .before .loop .inv .2) (c .mark .ensures))
 
@@ -57,7 +57,7 @@ same-length : tie.Need-same-length Inv-loop μ-loop
 same-length c = c .before .loop .inv .1
 
 returns : tie.Need-returns Inv-loop μ-loop
-returns c = 
+returns c =
     let a = c .before .before .before .before .args in
     let all : c .before .loop .x ≡ a .g .w = omega arith in
     c .before .loop .inv .2 ∙ ap (λ x. rowBy (a .g .w) (markAt (a .g .w) (a .g .h) (a .h .now) (a .water)) (a .y) x (a .status .now)) all

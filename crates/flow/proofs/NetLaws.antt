@@ -1,0 +1,108 @@
+-- What the theory of the flood gives the passes after it: finders are neighbours, receivers are cells, and the order is a list of cells.
+use Prim.Native.Nat.{ℕ, _*_, _≤_, _<_}
+use mathlib.Core.Path.{_≡_, refl, sym, ap₂, _∙_, subst}
+use mathlib.Core.Bool.{Bool, true, false}
+use mathlib.Core.Logic.{inl, inr}
+use mathlib.Core.List.{List}
+use native.Mathlib.Omega.{arith}
+use lib.ListN.{length, getD, take}
+use lib.Seq.{take-length, length-take-le}
+use lib.Ieee.{Float}
+use Rattle.float_order.specs.Order.{rank}
+use Rattle.float_order.specs.Fit.{Fit}
+use Rattle.grid.specs.Directions.{Adjacent}
+use Rattle.grid.proofs.SidesLaws.{cells-bound}
+use Rattle.drainage.specs.Ground.{Ground, floats, gridGround}
+use Rattle.drainage.specs.Flood.{Flood, flooded}
+use Rattle.drainage.specs.Receivers.{receivers}
+use Rattle.drainage.specs.Ways.{times, areasAlong}
+use Rattle.drainage.specs.Chains.{Near}
+use Rattle.drainage.specs.Theorems.{Network}
+use Rattle.drainage.specs.Grids.{Height}
+use Rattle.drainage.proofs.TallyLaws.{same-or-not}
+use Rattle.drainage.proofs.InvariantLaws.{Found, Flooding}
+use Rattle.drainage.proofs.StateLaws.{Stands, Holds, floodAfter-stands, flooded-left, heightOf, viewOf}
+use Rattle.drainage.proofs.GroundLaws.{gridGround-joined, finite-numbers, grid-heights, grid-networks}
+use Rattle.drainage.proofs.WorkListLaws.{in-lt}
+use Rattle.heap.proofs.RoomLaws.{times-at}
+use Rattle.flood.specs.Slices.{Accepted, Sizes, Flooded}
+use Rattle.flow.specs.Passes.{Finders, Downward}
+use Rattle.flow.specs.Route.{floodOf, orderOf, receiversOf, lentOf, Enough, Holding}
+
+module _ (w h : ℕ) (hs : List Float) (water : Float) (a : Accepted w h hs) (fit : Fit hs) where
+  abbrev ground : Ground
+  ground = gridGround w h water hs
+
+  adjacent : {c r : ℕ} → Near ground c r → Adjacent w h c r
+  adjacent n = record { direction = n .direction; first = n .first; last = n .last; inside = n .inside; leads = n .leads }
+
+  stands : Stands floats ground hs Height rank (w * h) (flooded floats ground hs)
+  stands =
+      floodAfter-stands floats ground hs Height rank (gridGround-joined w h water hs (a .sides)) finite-numbers (a .cells)
+      (grid-heights (w * h) hs (a .cells) fit (a .finites)) (w * h) (omega arith)
+
+  left : (c : ℕ) → c < w * h → getD (flooded floats ground hs .status) c 0 ≡ 2
+  left =
+      flooded-left floats ground hs Height rank (gridGround-joined w h water hs (a .sides)) finite-numbers (a .cells)
+      (grid-heights (w * h) hs (a .cells) fit (a .finites))
+
+  finder-near : (c : ℕ) → c < w * h → (getD (floodOf w h hs water .finder) c 0 ≡ c → ⊥) → Adjacent w h c (getD (floodOf w h hs water .finder) c 0)
+  finder-near c l d = go (ground .base c) refl
+    where
+      flooding : Flooding ground (heightOf floats ground hs Height rank) (viewOf floats ground hs Height rank (flooded floats ground hs)) (stands .leaver) 8
+      flooding = stands .holds .flooding
+
+      go : (b : Bool) → ground .base c ≡ b → Adjacent w h c (getD (floodOf w h hs water .finder) c 0)
+      go true e = absurd (d (flooding .base-finder c l e))
+      go false e = adjacent (flooding .found c l (omega (arith, left c l)) e .near)
+
+  pub finders : (recv : List ℕ) → recv ≡ floodOf w h hs water .finder → Finders w h recv
+  finders recv e = record { near = λ c l. subst (λ t. (getD t c 0 ≡ c → ⊥) → Adjacent w h c (getD t c 0)) (sym e) (finder-near c l) }
+
+  net : Network floats ground hs rank
+  net = grid-networks w h water hs (a .sides) (a .cells) fit (a .finites)
+
+  pub downward :
+      (n : ℕ) (recv order : List ℕ) → n ≡ w * h → length recv ≡ w * h → recv ≡ receiversOf w h hs water → order ≡ orderOf w h hs water → Downward n recv order
+  downward n recv order m long e f = record {
+    many = omega arith;
+    receivers = λ c l. subst (λ t. getD t c 0 < n) (sym e) (inside c (omega arith));
+    entries = λ i l. omega (arith, in-lt (net .work-list) (getD order i 0) (stands-in i l));
+  }
+    where
+      inside : (c : ℕ) → c < w * h → getD (receiversOf w h hs water) c 0 < n
+      inside c l = elim (same-or-not (getD (receiversOf w h hs water) c 0) c) [
+        | inl z ↦ omega arith
+        | inr z ↦ omega (arith, net .adjacent c l z .inside)
+      ]
+
+      stands-in : (i : ℕ) → i < length order → 0 < times (getD order i 0) (orderOf w h hs water)
+      stands-in i l =
+          subst (λ t. 0 < times (getD order i 0) t) (take-length order ∙ f) (times-at order (length order) i l (omega arith))
+
+-- the sizes that the flood asks for, with as many statuses as cells
+pub sizes-of :
+    (w h : ℕ) (hs : List Float) (order recv : List ℕ) (spill area : List Float) (queue status : List ℕ) → Accepted w h hs
+    → Enough (w * h) (lentOf hs order recv spill area queue status) → Sizes (w * h) hs (take (length hs) status) spill recv queue
+sizes-of w h hs order recv spill area queue status a e = record {
+  few = cells-bound w h (a .sides .wide) (a .sides .high);
+  heights = a .cells;
+  statuses = length-take-le (length hs) status (omega (arith, e .status, a .cells)) ∙ a .cells;
+  spills = e .spill;
+  finders = e .receivers;
+  room = e .queue;
+}
+
+-- flood, receivers and areas one after the other are the routing
+module _ (w h : ℕ) (hs : List Float) (water : Float) (order found : List ℕ) (spill : List Float) (f : Flooded w h water hs order found spill) (recv : List ℕ)
+    (r : (water : Float) (hs : List Float) → recv ≡ receivers floats (gridGround w h water hs) spill found) where
+  pub received-is : recv ≡ receiversOf w h hs water
+  received-is = r water hs ∙ ap₂ (receivers floats (gridGround w h water hs)) (f .raised) (f .found)
+
+  pub holding : (n : ℕ) (area : List Float) → n ≡ w * h → area ≡ areasAlong n recv order → Holding w h hs water order recv spill area
+  holding n area m e = record {
+    left = f .left;
+    received = received-is;
+    raised = f .raised;
+    drained = e ∙ (λ i. areasAlong (m i) (received-is i) (f .left i));
+  }

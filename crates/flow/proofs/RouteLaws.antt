@@ -1,0 +1,158 @@
+-- Laws of the public call: which answer the tests give, what is accepted, and what the slices hold then.
+use Prim.Native.Nat.{ℕ, _*_, _≤_}
+use mathlib.Core.Path.{_≡_, refl, sym, ap, ap₂, _∙_, subst}
+use mathlib.Core.Bool.{Bool, true, false, not, _&&_, _||_, cond, true≢false}
+use mathlib.Core.List.{List}
+use lib.ListN.{length}
+use lib.Dec.{eqb, ltb}
+use lib.Ieee.{Float}
+use lib.Ieee.Scale.{finite}
+use borrow.Author.Tests.{eq-eqb, ne-eqb, eqb-true, ltb-false, not-true, not-false}
+use Rattle.answers.specs.Outcome.{Outcome, gives, refused, refusedAt, refusalOf, answerOf}
+use Rattle.answers.specs.declared.Answer.{Answer}
+use Rattle.answers.specs.declared.Refusal.{Refusal}
+use Rattle.answers.specs.declared.Refusal.the-variants.{Side, ReducedSide, Length, Setting, Height, Receiver, List as ListAt, Stream, Cells, Stopped, RunOff}
+use Rattle.grid.specs.Sides.{badSides}
+use Rattle.grid.specs.Heights.{firstNotFinite, allFinite}
+use Rattle.grid.proofs.SidesLaws.{good-sides}
+use Rattle.flood.specs.Slices.{Accepted}
+use Rattle.flow.specs.declared.Lent.{Lent}
+use Rattle.flow.specs.Route.{floodOf, orderOf, receiversOf, areasOf, lentOf, badLengths, routeAnswer, accepted, Enough, Holding, Routed}
+
+abbrev byTests : Bool → Bool → Bool → Bool → ℕ → Outcome (Unit {0})
+byTests s l f a k = cond s (refused 1) (cond l (refused 3) (cond f (cond a (gives tt) (refusedAt 5 k)) (refused 4)))
+
+-- whether an outcome is no refusal
+abbrev pub given : Outcome (Unit {0}) → Bool
+given (gives u) = true
+given (refused n) = false
+given (refusedAt n c) = false
+
+given-is : (s l f a : Bool) (k : ℕ) → given (byTests s l f a k) ≡ (not s && (not l && (f && a)))
+given-is true l f a k = refl
+given-is false true f a k = refl
+given-is false false true true k = refl
+given-is false false true false k = refl
+given-is false false false a k = refl
+
+pub refused-not : (r : Refusal) → given (answerOf (Answer.Refused r)) ≡ false
+refused-not Side = refl
+refused-not ReducedSide = refl
+refused-not Length = refl
+refused-not Setting = refl
+refused-not (Height c) = refl
+refused-not (Receiver c) = refl
+refused-not (ListAt p) = refl
+refused-not Stream = refl
+refused-not Cells = refl
+refused-not Stopped = refl
+refused-not RunOff = refl
+
+neither : (a b : Bool) → (a || b) ≡ false → (a ≡ false) × (b ≡ false)
+neither true b e = absurd (true≢false e)
+neither false b e = (refl, e)
+
+both : (a b : Bool) → (a && b) ≡ true → (a ≡ true) × (b ≡ true)
+both true b e = (refl, e)
+both false b e = absurd (true≢false (sym e))
+
+pub enough : (w h : ℕ) (l : Lent) → badLengths (w * h) l ≡ false → Enough (w * h) l
+enough w h l e =
+    let a = neither _ _ e in
+    let b = neither _ _ (a .1) in
+    let c = neither _ _ (b .1) in
+    let d = neither _ _ (c .1) in
+    let f = neither _ _ (d .1) in
+    let g = neither _ _ (f .1) in
+    record {
+      heights = eqb-true (l .heights) (w * h) (not-false _ (a .0));
+      order = eqb-true (l .order) (w * h) (not-false _ (b .0));
+      receivers = eqb-true (l .receivers) (w * h) (not-false _ (c .0));
+      spill = eqb-true (l .spill) (w * h) (not-false _ (d .0));
+      areas = eqb-true (l .areas) (w * h) (not-false _ (f .0));
+      queue = ltb-false (l .queue) (w * h) (g .0);
+      status = ltb-false (l .status) (w * h) (g .1);
+    }
+
+module _ (w h : ℕ) (hs : List Float) (water : Float) (l : Lent) where
+  -- the answer, once the tests are known
+  module _ (s b f a : Bool) (p : badSides w h ≡ s) (q : badLengths (w * h) l ≡ b) (r : finite water ≡ f) (t : allFinite hs ≡ a) where
+    pub answer-is : byTests s b f a (firstNotFinite hs) ≡ routeAnswer w h hs water l
+    answer-is = λ i. byTests (sym p i) (sym q i) (sym r i) (sym t i) (firstNotFinite hs)
+
+  answer-accepted : given (routeAnswer w h hs water l) ≡ accepted w h hs water l
+  answer-accepted = given-is (badSides w h) (badLengths (w * h) l) (finite water) (allFinite hs) (firstNotFinite hs)
+
+  module _ (r : Answer) (e : answerOf r ≡ routeAnswer w h hs water l) where
+    pub answered : accepted w h hs water l ≡ given (answerOf r)
+    answered = sym answer-accepted ∙ ap given (sym e)
+
+-- what is accepted
+module _ (w h : ℕ) (hs : List Float) (water : Float) (l : Lent) (e : accepted w h hs water l ≡ true) where
+  past-sides : (not (badSides w h) ≡ true) × ((not (badLengths (w * h) l) && (finite water && allFinite hs)) ≡ true)
+  past-sides = both (not (badSides w h)) (not (badLengths (w * h) l) && (finite water && allFinite hs)) e
+
+  past-lengths : (not (badLengths (w * h) l) ≡ true) × ((finite water && allFinite hs) ≡ true)
+  past-lengths = both (not (badLengths (w * h) l)) (finite water && allFinite hs) (past-sides .1)
+
+  pub accepted-enough : Enough (w * h) l
+  accepted-enough = enough w h l (not-true (badLengths (w * h) l) (past-lengths .0))
+
+  pub accepted-grid : l .heights ≡ length hs → Accepted w h hs
+  accepted-grid n = record {
+    sides = good-sides w h (not-true (badSides w h) (past-sides .0));
+    cells = sym n ∙ accepted-enough .heights;
+    finites = both (finite water) (allFinite hs) (past-lengths .1) .1;
+  }
+
+-- finite heights, by the first that is not
+pub all-finite : (hs : List Float) (n bad : ℕ) → length hs ≡ n → bad ≡ firstNotFinite hs → bad ≡ n → allFinite hs ≡ true
+unfolding allFinite
+all-finite hs n bad e f z = eq-eqb (firstNotFinite hs) (length hs) (sym f ∙ z ∙ sym e)
+
+pub not-all-finite : (hs : List Float) (n bad : ℕ) → length hs ≡ n → bad ≡ firstNotFinite hs → (bad ≡ n → ⊥) → allFinite hs ≡ false
+unfolding allFinite
+not-all-finite hs n bad e f d = ne-eqb (firstNotFinite hs) (length hs) (λ z. d (f ∙ z ∙ e))
+
+chosen : {A : Type 0} (b : Bool) (x y : A) → b ≡ true → x ≡ cond b x y
+chosen b x y e = sym (ap (λ t. cond t x y) e)
+
+passed : {A : Type 0} (b : Bool) (x y : A) → b ≡ false → y ≡ cond b x y
+passed b x y e = sym (ap (λ t. cond t x y) e)
+
+module _ (w h : ℕ) (hs : List Float) (water : Float) (order recv : List ℕ) (spill area : List Float) (queue status : List ℕ) where
+  abbrev lent : Lent
+  lent = lentOf hs order recv spill area queue status
+
+  pub routed-refused :
+      (r : Answer) → answerOf r ≡ routeAnswer w h hs water lent → given (answerOf r) ≡ false
+      → Routed w h hs water order recv spill area queue status r order recv spill area queue status
+  routed-refused r e f = record {
+    answer = e;
+    orders = passed (accepted w h hs water lent) (orderOf w h hs water) order no;
+    receivers = passed (accepted w h hs water lent) (receiversOf w h hs water) recv no;
+    spills = passed (accepted w h hs water lent) (floodOf w h hs water .spill) spill no;
+    areas = passed (accepted w h hs water lent) (areasOf w h hs water) area no;
+    kept-queue = λ _. refl;
+    kept-status = λ _. refl;
+  }
+    where
+      no : accepted w h hs water lent ≡ false
+      no = answered w h hs water lent r e ∙ f
+
+  pub routed-done :
+      answerOf Answer.Done ≡ routeAnswer w h hs water lent → (order′ recv′ : List ℕ) (spill′ area′ : List Float)
+      (queue′ status′ : List ℕ) → Holding w h hs water order′ recv′ spill′ area′
+      → Routed w h hs water order recv spill area queue status Answer.Done order′ recv′ spill′ area′ queue′ status′
+  routed-done e order′ recv′ spill′ area′ queue′ status′ s = record {
+    answer = e;
+    orders = s .left ∙ chosen (accepted w h hs water lent) (orderOf w h hs water) order yes′;
+    receivers = s .received ∙ chosen (accepted w h hs water lent) (receiversOf w h hs water) recv yes′;
+    spills = s .raised ∙ chosen (accepted w h hs water lent) (floodOf w h hs water .spill) spill yes′;
+    areas = s .drained ∙ chosen (accepted w h hs water lent) (areasOf w h hs water) area yes′;
+    kept-queue = λ f. absurd (true≢false (sym yes′ ∙ f));
+    kept-status = λ f. absurd (true≢false (sym yes′ ∙ f));
+  }
+    where
+      yes′ : accepted w h hs water lent ≡ true
+      yes′ = answered w h hs water lent Answer.Done e

@@ -1,0 +1,65 @@
+use Rattle.flow.specs.Route.{lentOf}
+use mathlib.Core.Path.{refl, sym, ap, _∙_}
+use Rattle.answers.specs.Outcome.{answerOf}
+use Rattle.flow.proofs.RouteLaws.{refused-not, given, answered, accepted-enough, accepted-grid, routed-refused, routed-done}
+use borrow.Author.Needs.{needs}
+use Rattle.flow.proofs.route.Statement.{statement}
+use Rattle.flow.proofs.route.Tie as tie
+
+refusal-requires : tie.Need-refusal-requires
+refusal-requires c κs = search needs
+
+enum-told : tie.Need-enum-told
+enum-told c = search needs
+
+enum-told-2 : tie.Need-enum-told-2
+enum-told-2 c = search needs
+
+returns : tie.Need-returns
+returns c = routed-refused _ _ _ _ _ _ _ _ _ _ _ (c .before .before .refusal .ensures) (ap (λ a. given (answerOf a)) (c .enum-told2 .given .1) ∙ refused-not (c .enum-told2 .given .0 .0))
+
+route-grid-requires : tie.Need-route-grid-requires
+route-grid-requires c κs =
+    let a = c .before .before .before .before .before .before .before .before .before .before .before .before .before .before .before .before .args in
+    let l = lentOf (a .h .now) (a .order .now) (a .recv .now) (a .spill .now) (a .area .now) (a .queue .now) (a .status .now) in
+    let e = answered (a .size .w) (a .size .h) (a .h .now) (a .water-level) l (c .before .before .before .before .before .before .before .before .refusal .result) (c .before .before .before .before .before .before .before .before .refusal .ensures) ∙ ap (λ r. given (answerOf r)) (c .before .before .before .before .before .before .enum-told .given .1) in
+    (accepted-grid _ _ (a .h .now) (a .water-level) l e refl, accepted-enough _ _ (a .h .now) (a .water-level) l e)
+
+same-length : tie.Need-same-length
+same-length c = search needs
+
+same-length-2 : tie.Need-same-length-2
+same-length-2 c = search needs
+
+same-length-3 : tie.Need-same-length-3
+same-length-3 c = search needs
+
+same-length-4 : tie.Need-same-length-4
+same-length-4 c = search needs
+
+same-length-5 : tie.Need-same-length-5
+same-length-5 c = search needs
+
+same-length-6 : tie.Need-same-length-6
+same-length-6 c = search needs
+
+returns-2 : tie.Need-returns-2
+returns-2 c =
+    routed-done _ _ _ _ _ _ _ _ _ _ (ap answerOf (sym (c .before .before .before .before .before .before .before .before .before .before .before .before .before .before .before .before .before .before .before .enum-told .given .1)) ∙ c .before .before .before .before .before .before .before .before .before .before .before .before .before .before .before .before .before .before .before .before .before .refusal .ensures) _ _ _ _ _ _ (c .before .before .before .before .before .before .before .before .before .before .before .before .route-grid .ensures)
+
+pub route-spec : {M : Type 1} → statement M
+route-spec =
+    tie.close
+    (tie.spec
+    refusal-requires
+    enum-told
+    enum-told-2
+    returns
+    route-grid-requires
+    same-length
+    same-length-2
+    same-length-3
+    same-length-4
+    same-length-5
+    same-length-6
+    returns-2)
