@@ -1,11 +1,11 @@
 -- The three ends of a cell: below the water, with nothing to shed, and shedding.
 use Prim.Native.Nat.{ℕ}
-use mathlib.Core.Path.{_≡_, refl, sym, ap, _∙_}
+use mathlib.Core.Path.{_≡_}
 use mathlib.Core.Bool.{true, false}
 use mathlib.Core.List.{List}
 use lib.ListN.{getD, set}
 use lib.Ieee.{Float, nan, binary32, ofBits, sub, mul, lt, le}
-use Rattle.talus.specs.Talus.{shedOf, gainsOf, movedOf, slideCell}
+use Rattle.talus.specs.Talus.{shedOf, gainsOf, slideCell}
 use Rattle.talus.specs.declared.Shed.{Shed}
 
 module _ (w h : ℕ) (ts hs : List Float) (strength water : Float) (c : ℕ) (out : List Float) where

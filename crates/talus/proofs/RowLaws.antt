@@ -1,13 +1,12 @@
 -- A row as a run of cells.
-use Prim.Native.Nat.{ℕ, zero, suc, _+_, _-_, _*_, _≤_, _<_}
-use mathlib.Core.Path.{_≡_, refl, sym, ap, ap₂, _∙_}
+use Prim.Native.Nat.{ℕ, _+_, _*_, _<_}
+use mathlib.Core.Path.{_≡_, refl, sym, ap, _∙_}
 use mathlib.Core.List.{List}
 use native.Mathlib.Omega.{arith}
 use lib.Ieee.{Float}
-use Rattle.lists.specs.Loops.{turns}
-use Rattle.lists.proofs.TurnLaws.{turns-none, turns-more, turns-same}
+use Rattle.lists.proofs.TurnLaws.{turns-none, turns-more}
 use Rattle.grid.proofs.SidesLaws.{cell-lt}
-use Rattle.talus.specs.Talus.{slideCell, slideCells, slideRow}
+use Rattle.talus.specs.Talus.{slideCell, slideCells}
 use Rattle.talus.specs.Places.{CellAt, InRow}
 
 -- column x + i of a row

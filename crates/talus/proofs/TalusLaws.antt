@@ -3,19 +3,16 @@ use Prim.Native.Nat.{ℕ, suc, _+_, _*_}
 use mathlib.Core.Path.{_≡_, refl, _∙_}
 use mathlib.Core.Bool.{Bool, true, false, cond}
 use mathlib.Core.List.{List}
-use lib.Dec.{T}
 use lib.ListN.{length, getD, set, length-set}
-use lib.Ieee.{Float, nan, binary32, ofBits, add, sub, mul, div, lt, le, fits}
+use lib.Ieee.{Float, nan, binary32, ofBits, add, sub, lt, le}
 use lib.Ieee.Fits.{add-fits, sub-fits}
-use Rattle.lists.specs.Loops.{turns}
 use Rattle.lists.proofs.TurnLaws.{turns-keep}
 use Rattle.float_order.specs.Fit.{Fit}
 use Rattle.float_order.proofs.FitLaws.{fit-set}
-use Rattle.grid.specs.Directions.{neighbourAt}
-use Rattle.talus.specs.Talus.{excessOf, counted, shedOf, gainStep, gainsOf, slideCell, slideRow}
+use Rattle.talus.specs.Talus.{counted, shedOf, gainStep, gainsOf, slideCell, slideRow}
 
 -- what a loss and a gain keep, a row keeps
-module _ (P : List Float → Type 0) (kept : (l : List Float) (i : ℕ) (a b : Float) → P l → P (set l i (add binary32 a b)))
+module _ (P : List Float → Type 0) (gained : (l : List Float) (i : ℕ) (a b : Float) → P l → P (set l i (add binary32 a b)))
     (lost : (l : List Float) (i : ℕ) (a b : Float) → P l → P (set l i (sub binary32 a b)))
     (w h : ℕ) (ts hs : List Float) where
   either : (b : Bool) (x y : List Float) → P x → P y → P (cond b x y)
@@ -26,7 +23,7 @@ module _ (P : List Float → Type 0) (kept : (l : List Float) (i : ℕ) (a b : F
   unfolding gainsOf gainStep
   gains-keep c moved total out p =
       turns-keep (λ i. gainStep w h ts hs c moved total (suc i)) P out 8 p
-      (λ i t l q. either (counted w h ts hs c (suc i)) _ _ (kept t _ _ _ q) q)
+      (λ i t l q. either (counted w h ts hs c (suc i)) _ _ (gained t _ _ _ q) q)
 
   cell-keeps : (strength water : Float) (c : ℕ) (out : List Float) → P out → P (slideCell w h ts hs strength water c out)
   unfolding slideCell

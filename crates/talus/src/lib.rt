@@ -4,7 +4,7 @@ use floats::max;
 use grid::Sides;
 use grid::neighbour;
 ghost use mathlib.Core.Path.{_≡_};
-ghost use Prim.Native.Nat.{suc, _+_, _*_, _<_, _≤_};
+ghost use Prim.Native.Nat.{_+_, _*_, _<_};
 ghost use lib.ListN.{length};
 ghost use Rattle.talus.specs.Talus.{thresholdsOf, shedTo, shedStep, shedOf, gainTo, gainStep, gainsOf, slideCell, slideCells};
 ghost use Rattle.talus.specs.Places.{CellAt, InRow};

@@ -2,17 +2,16 @@
 use Prim.Native.Nat.{ℕ, zero, suc, _+_, _-_, _*_, _^_, _≤_, _<_}
 use mathlib.Core.Path.{_≡_, refl, sym, ap, ap₂, _∙_}
 use mathlib.Core.Bool.{Bool, true, false, cond, _||_}
-use mathlib.Core.List.{List, []}
+use mathlib.Core.List.{List}
 use native.Mathlib.Nat.{mul-le-mul}
 use native.Mathlib.Omega.{arith}
 use lib.Dec.{eqb, ltb, lit≤}
 use lib.IntN.{ℤ, pos, negsuc, natAbs}
 use lib.ListN.{length, getD, set}
 use borrow.Author.Tests.{lt-ltb, ltb-true, ltb-false, eqb-false}
-use Rattle.lists.specs.Loops.{tabulate}
 use Rattle.lists.proofs.TableLaws.{getD-tabulate, filled, filled-more, filled-done}
 use Rattle.grid.specs.Sides.{cellOf, columnOf, rowOf}
-use Rattle.grid.specs.Directions.{dirX, dirY, shiftedOf, neighbourOf, neighbourAt}
+use Rattle.grid.specs.Directions.{shiftedOf, neighbourOf, neighbourAt}
 use Rattle.grid.proofs.SidesLaws.{cell-lt, cell-back, column-cell, row-cell, cells-bound}
 use Rattle.grid.proofs.NeighbourLaws.{stepX, stepY, within, shift-ahead, each-direction}
 use Rattle.talus.specs.Places.{InRow}

@@ -1,2 +1,3 @@
 -- Document 01, 'Talus': the pass and its public call.
 pub mod SlidePass
+pub mod Plates

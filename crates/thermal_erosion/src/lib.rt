@@ -138,7 +138,7 @@ fn slide_accepted(
     ensures { λ r. ⌜ Passed (passOf (size .w) (size .h) params (now (hmap .entry)) from to stop m) r (now (out .exit)) ⌝ }
 {
     let ts = thresholds(params.threshold);
-    let marks = slide_pass_into(
+    let reached = slide_pass_into(
         size,
         &ts,
         hmap,
@@ -150,16 +150,16 @@ fn slide_accepted(
         m,
         stop,
     );
-    if marks.stopped {
-        return refused(Refusal::Stopped, marks);
+    if reached.stopped {
+        return refused(Refusal::Stopped, reached);
     }
     if all_finite(size, out) {
         return Slid {
             answer: Answer::Done,
-            progress: marks,
+            progress: reached,
         };
     }
-    refused(Refusal::RunOff, marks)
+    refused(Refusal::RunOff, reached)
 }
 
 // One pass of the source from hmap to out. On 1 to 5 nothing is written and the record comes back as given.

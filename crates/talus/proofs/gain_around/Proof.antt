@@ -1,9 +1,7 @@
 use Prim.Native.Nat.{_-_}
 use mathlib.Core.Path.{_≡_, refl, _∙_}
-use native.Mathlib.Omega.{arith}
 use borrow.Author.Needs.{needs}
 use lib.ListN.{length}
-use lib.Ieee.{binary32, ofBits}
 use Rattle.talus.specs.Talus.{gainStep, gainsOf}
 use Rattle.talus.proofs.StepLaws.{Around, around-none, around-more, around-done}
 use Rattle.talus.proofs.gain_around.Statement.{statement}

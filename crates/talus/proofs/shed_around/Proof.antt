@@ -1,8 +1,5 @@
 use Prim.Native.Nat.{_-_}
-use mathlib.Core.Path.{_≡_}
-use native.Mathlib.Omega.{arith}
 use borrow.Author.Needs.{needs}
-use lib.ListN.{length}
 use lib.Ieee.{binary32, ofBits}
 use Rattle.talus.specs.Talus.{shedStep, shedOf}
 use Rattle.talus.proofs.StepLaws.{Around, around-none, around-more, around-done}
