@@ -15,11 +15,13 @@ pub struct List {
     given: Vec<u8>,
     /// how many answers of each call have each number
     counts: BTreeMap<(&'static str, u32), usize>,
+    /// how many answers of each call have a remark of the list's maker
+    notes: BTreeMap<(&'static str, &'static str), usize>,
 }
 
 impl List {
     pub fn new(program: &'static str) -> List {
-        List { program, asked: Vec::new(), given: Vec::new(), counts: BTreeMap::new() }
+        List { program, asked: Vec::new(), given: Vec::new(), counts: BTreeMap::new(), notes: BTreeMap::new() }
     }
 
     pub fn ask(&mut self, words: &[u32]) {
@@ -56,6 +58,18 @@ impl List {
         }
     }
 
+    /// The result slice of a direct pass, which counts as scratch on 21 and 22 and is not written then.
+    pub fn give_result(&mut self, a: &Answer<()>, out: &[f32]) {
+        if !matches!(a, Err(r) if r.number >= 21) {
+            self.give_floats(out);
+        }
+    }
+
+    /// Counts a remark on an answer for the summary.
+    pub fn note(&mut self, call: &'static str, remark: &'static str) {
+        *self.notes.entry((call, remark)).or_insert(0) += 1;
+    }
+
     pub fn write(&self, crates: &Path) -> io::Result<()> {
         let dir = crates.join(self.program);
         fs::create_dir_all(&dir)?;
@@ -86,6 +100,9 @@ impl List {
                 } else {
                     text.push_str(&format!(", {n} refused by {number}"));
                 }
+            }
+            for ((_, remark), n) in self.notes.iter().filter(|(k, _)| k.0 == call) {
+                text.push_str(&format!(", {n} after {remark}"));
             }
             text.push('\n');
         }

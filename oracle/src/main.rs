@@ -1,15 +1,21 @@
 //! The oracle: the published Rust source behind document 01's refusals. `oracle lists CRATES` writes the replay lists into
 //! the crates folder, `oracle verify CRATES` says whether the files there are those lists, and `oracle powf` counts the
 //! floats on which `powf` with 0.5 is not the square root.
+mod incisions;
 mod list;
 mod maps;
 mod numbers;
+mod passes;
 #[cfg(test)]
 mod plates;
 mod random;
+mod routes;
 mod rules;
+mod runs;
+mod slides;
 mod source;
 mod standins;
+mod terrain;
 
 use std::path::Path;
 use std::process::ExitCode;
@@ -20,7 +26,7 @@ const SEED: u64 = 7_616_167;
 fn main() -> ExitCode {
     let args: Vec<String> = std::env::args().skip(1).collect();
     let words: Vec<&str> = args.iter().map(String::as_str).collect();
-    let lists = || [numbers::list(SEED), maps::list(SEED)];
+    let lists = || [numbers::list(SEED), maps::list(SEED), routes::list(SEED), passes::list(SEED), runs::list(SEED)];
     match words.as_slice() {
         ["lists", crates] => {
             for l in lists() {

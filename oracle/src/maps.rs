@@ -2,17 +2,13 @@
 use crate::list::List;
 use crate::random::Random;
 use crate::rules::{self, Sides};
+use crate::terrain::{bad_sides, faults, grid, map, some_spoilt, spoilt, words, FILL, KINDS, TINY};
 
 const GET_MIN_MAX: u32 = 1;
 const NORMALIZE: u32 = 2;
 const DOWNSAMPLE: u32 = 3;
 const ADD_UPSAMPLED: u32 = 4;
 const BILINEAR: u32 = 5;
-
-/// the value that a result slice holds before a call
-const FILL: f32 = -77.5;
-
-const TINY: f32 = 1e-45;
 
 pub fn list(seed: u64) -> List {
     let mut l = List::new("replay_maps");
@@ -22,45 +18,6 @@ pub fn list(seed: u64) -> List {
     sums(&mut l, &mut r);
     samples(&mut l, &mut r);
     l
-}
-
-/// The kinds of heights; each kind of map is tried on each kind of grid.
-const KINDS: usize = 7;
-
-fn height(r: &mut Random, kind: usize) -> f32 {
-    match kind {
-        0 => r.unit() * 2.0 - 1.0,
-        1 => r.pick(&[0.0, -0.0]),
-        2 => f32::from_bits(r.word() & 0x8000_0fff),
-        3 => r.within(0, 2000) as f32 - 1000.0,
-        4 => r.finite(),
-        5 => r.pick(&[3e38, -3e38, f32::MAX, f32::MIN, 1.0]),
-        _ => r.pick(&[0.0, -0.0, TINY, -TINY, f32::MIN_POSITIVE, 1.0, -1.0, 1e10]),
-    }
-}
-
-fn map(r: &mut Random, n: usize, kind: usize) -> Vec<f32> {
-    (0..n).map(|_| height(r, kind)).collect()
-}
-
-/// The heights with one, or two, that are not finite; the earlier one is what a refusal carries.
-fn spoilt(r: &mut Random, v: &[f32]) -> Vec<f32> {
-    let mut v = v.to_vec();
-    for _ in 0..r.within(1, 2) {
-        let i = r.below(v.len());
-        v[i] = r.pick(&[f32::NAN, f32::INFINITY, f32::NEG_INFINITY, f32::from_bits(0xff80_0001)]);
-    }
-    v
-}
-
-/// A map of n heights; each eighth is spoilt.
-fn some_spoilt(r: &mut Random, i: usize, n: usize, kind: usize) -> Vec<f32> {
-    let v = map(r, n, kind);
-    if i % 8 == 5 {
-        spoilt(r, &v)
-    } else {
-        v
-    }
 }
 
 fn get_min_max(l: &mut List, v: &[f32]) {
@@ -123,19 +80,8 @@ fn extents(l: &mut List, r: &mut Random) {
     }
 }
 
-/// A grid up to most × most, each fourth with one row, each fourth with one column.
-fn grid(r: &mut Random, i: usize, most: usize) -> Sides {
-    let w = if i % 4 == 1 { 1 } else { r.within(1, most) };
-    let h = if i % 4 == 3 { 1 } else { r.within(1, most) };
-    (w, h)
-}
-
 fn reduced(r: &mut Random, size: Sides) -> Sides {
     (r.within(1, size.0), r.within(1, size.1))
-}
-
-fn words(size: Sides) -> [u32; 2] {
-    [size.0 as u32, size.1 as u32]
 }
 
 fn downsample(l: &mut List, src: &[f32], size: Sides, len: usize, small: Sides) {
@@ -173,7 +119,7 @@ fn bilinear(l: &mut List, v: &[f32], x: f32, y: f32, size: Sides) {
     l.give_floats(&[a.unwrap_or(0.0)]);
 }
 
-/// The faults that a task can have, each a bit: they are tried alone, in pairs and all together, so that their order shows.
+/// The faults that a task can have, each a bit.
 const SIDE: u32 = 1;
 const REDUCED: u32 = 2;
 const LENGTH: u32 = 4;
@@ -181,25 +127,8 @@ const OTHER_LENGTH: u32 = 8;
 const COORDINATE: u32 = 16;
 const HEIGHT: u32 = 32;
 
-fn faults(of: &[u32]) -> Vec<u32> {
-    let mut sets = vec![of.iter().sum()];
-    for (i, a) in of.iter().enumerate() {
-        sets.push(*a);
-        for b in &of[..i] {
-            sets.push(a + b);
-        }
-    }
-    sets
-}
-
 /// each set of faults is tried so often
 const TRIES: usize = 6;
-
-/// A side outside 1 to 4,096 in place of one of the two.
-fn bad_sides(r: &mut Random, size: Sides) -> Sides {
-    let bad = r.pick(&[0, 4097, u32::MAX as usize]);
-    r.pick(&[(bad, size.1), (size.0, bad), (bad, bad)])
-}
 
 fn bad_reduced(r: &mut Random, size: Sides, small: Sides) -> Sides {
     r.pick(&[(0, small.1), (small.0, 0), (size.0 + 1, small.1), (small.0, size.1 + 1)])

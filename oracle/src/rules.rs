@@ -2,6 +2,9 @@
 //! 22 where its result is not finite. Written from the document, apart from the Rattle code.
 use crate::source::{self, resample, Marks, Record};
 
+pub mod passes;
+pub mod runs;
+
 /// A refusal's number, with the cell or position that it carries (0 where it carries none).
 #[derive(Clone, Copy, Debug, PartialEq)]
 pub struct Refusal {
@@ -45,6 +48,24 @@ fn length(size: Sides, len: usize) -> Answer<()> {
     Ok(())
 }
 
+/// 3: scratch that holds fewer cells than its grid.
+fn scratch(size: Sides, lens: &[usize]) -> Answer<()> {
+    if lens.iter().any(|len| *len < size.0 * size.1) {
+        return refuse(3);
+    }
+    Ok(())
+}
+
+/// Whether a setting lies in its range; a NaN lies in none.
+fn within(x: f32, lo: f32, hi: f32) -> bool {
+    lo <= x && x <= hi
+}
+
+/// Whether a record may be given to a call.
+fn record_ok(r: Record) -> bool {
+    within(r.last, -1.0, 1.0) && r.asked <= 1 << 31
+}
+
 /// 4: a setting outside its range, of which `ok` is the test.
 fn setting(ok: bool) -> Answer<()> {
     if !ok {
@@ -82,9 +103,7 @@ pub fn work_size(size: Sides, max_res: u32) -> Answer<Sides> {
 
 /// Whether to go on, with the record; on 4 the record as given.
 pub fn report(r: Record, p: f32, stop: u32) -> (Answer<bool>, Record) {
-    let within = |x: f32, lo: f32, hi: f32| lo <= x && x <= hi;
-    let ok = within(p, 0.0, 1.0) && within(r.last, -1.0, 1.0) && r.asked <= 1 << 31;
-    if let Err(e) = setting(ok) {
+    if let Err(e) = setting(within(p, 0.0, 1.0) && record_ok(r)) {
         return (Err(e), r);
     }
     let mut marks = Marks::new(r, stop);

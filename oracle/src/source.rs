@@ -96,6 +96,18 @@ pub mod thermal_erosion {
 
     include!(concat!(env!("OUT_DIR"), "/thermal_erosion.rs"));
 
+    /// The source's pass, for whole runs that are tested between passes.
+    pub fn pass(
+        size: (usize, usize),
+        hmap: &[f32],
+        out: &mut [f32],
+        params: &ThermalParams,
+        ends: (f32, f32),
+        progress: &mut Progress,
+    ) -> bool {
+        slide_pass(size, hmap, out, params, ends.0, ends.1, progress)
+    }
+
     /// The parameters of a direct talus pass.
     pub fn pass_params(threshold: f32, strength: f32, water_level: f32) -> ThermalParams {
         ThermalParams { threshold, diag_threshold: threshold * SQRT_2, strength, passes: 1, water_level }

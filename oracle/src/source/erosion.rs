@@ -1,5 +1,4 @@
-//! Routing, incision, talus and the whole runs of the source, as calls on plain values. No list uses them yet.
-#![allow(dead_code)]
+//! Routing, incision, talus and the whole runs of the source, as calls on plain values.
 use super::flow::{lent, spill, FlowNet};
 use super::fluvial_erosion::{self as fluvial, FluvialErosionConf};
 use super::thermal_erosion::{self as thermal, ThermalErosionConf};
@@ -21,6 +20,7 @@ pub fn route(size: Sides, h: &[f32], water_level: f32) -> Routed {
 }
 
 /// The settings of a direct incision.
+#[derive(Clone, Copy)]
 pub struct Incision {
     pub k: f32,
     pub uplift: f32,
@@ -34,6 +34,7 @@ pub fn incise(size: Sides, h: &mut [f32], recv: &[u32], list: &[u32], s: &Incisi
 }
 
 /// The settings of a direct talus pass.
+#[derive(Clone, Copy)]
 pub struct Talus {
     pub threshold: f32,
     pub strength: f32,
@@ -52,11 +53,12 @@ pub fn slide_pass(
 ) -> (bool, Record) {
     let params = thermal::pass_params(s.threshold, s.strength, s.water_level);
     let mut marks = Marks::new(r, stop);
-    let on = thermal::slide_pass(size, h, out, &params, ends.0, ends.1, &mut marks.progress);
+    let on = thermal::pass(size, h, out, &params, ends, &mut marks.progress);
     (on, marks.record())
 }
 
 /// The settings of a whole run; a thermal run has no uplift.
+#[derive(Clone, Copy)]
 pub struct Settings {
     pub water_level: f32,
     pub strength: f32,
@@ -66,29 +68,35 @@ pub struct Settings {
     pub work_res: u32,
 }
 
-pub fn gen_fluvial_erosion(size: Sides, map: &mut [f32], s: &Settings, stop: u32) -> Record {
-    let conf = FluvialErosionConf {
+pub fn fluvial_conf(s: &Settings) -> FluvialErosionConf {
+    FluvialErosionConf {
         strength: s.strength,
         talus: s.talus,
         uplift: s.uplift,
         iterations: s.iterations,
         legacy_water_level: None,
         work_res: s.work_res,
-    };
-    let mut marks = Marks::new(Record::FRESH, stop);
-    fluvial::gen_fluvial_erosion(size, map, &conf, s.water_level, &mut marks.progress);
-    marks.record()
+    }
 }
 
-pub fn gen_thermal_erosion(size: Sides, map: &mut [f32], s: &Settings, stop: u32) -> Record {
-    let conf = ThermalErosionConf {
+pub fn thermal_conf(s: &Settings) -> ThermalErosionConf {
+    ThermalErosionConf {
         talus: s.talus,
         strength: s.strength,
         iterations: s.iterations,
         legacy_water_level: None,
         work_res: s.work_res,
-    };
+    }
+}
+
+pub fn gen_fluvial_erosion(size: Sides, map: &mut [f32], s: &Settings, stop: u32) -> Record {
     let mut marks = Marks::new(Record::FRESH, stop);
-    thermal::gen_thermal_erosion(size, map, &conf, s.water_level, &mut marks.progress);
+    fluvial::gen_fluvial_erosion(size, map, &fluvial_conf(s), s.water_level, &mut marks.progress);
+    marks.record()
+}
+
+pub fn gen_thermal_erosion(size: Sides, map: &mut [f32], s: &Settings, stop: u32) -> Record {
+    let mut marks = Marks::new(Record::FRESH, stop);
+    thermal::gen_thermal_erosion(size, map, &thermal_conf(s), s.water_level, &mut marks.progress);
     marks.record()
 }

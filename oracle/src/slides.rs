@@ -1,0 +1,158 @@
+//! The second part of the list of replay_passes: single talus passes with their stop marks.
+use crate::list::List;
+use crate::random::Random;
+use crate::rules::passes::slide_pass as ask_slide_pass;
+use crate::rules::Sides;
+use crate::source::erosion::Talus;
+use crate::source::Record;
+use crate::terrain::{
+    bad_length, bad_sides, faults, grid, map, not_finite, outside, relief, spoilt, water, words, EXTREME, FILL,
+    RELIEFS, TINY,
+};
+
+const SLIDE_PASS: u32 = 2;
+
+struct Task {
+    size: Sides,
+    h: Vec<f32>,
+    out: usize,
+    s: Talus,
+    ends: (f32, f32),
+    r: Record,
+    stop: u32,
+}
+
+/// The record after the call.
+fn slide_pass(l: &mut List, t: &Task) -> Record {
+    l.ask(&[SLIDE_PASS]);
+    l.ask(&words(t.size));
+    l.ask_floats(&[t.s.threshold, t.s.strength, t.s.water_level, t.ends.0, t.ends.1, t.r.last]);
+    l.ask(&[t.r.asked, t.r.stopped as u32, t.stop]);
+    l.ask_floats(&[FILL]);
+    l.ask(&[t.out as u32, t.h.len() as u32]);
+    l.ask_floats(&t.h);
+    let mut out = vec![FILL; t.out];
+    let (a, after) = ask_slide_pass(t.size, &t.h, &mut out, &t.s, t.ends, t.r, t.stop);
+    l.answer("slide_pass", &a);
+    l.give_floats(&[after.last]);
+    l.give(&[after.asked, after.stopped as u32]);
+    l.give_result(&a, &out);
+    after
+}
+
+fn settings(r: &mut Random, water_level: f32) -> Talus {
+    let any = r.unit();
+    let threshold = r.pick(&[0.0, -0.0, 16.0, 0.03, TINY, any, any * 0.25, 1.0]);
+    let strength = r.pick(&[0.0, -0.0, 1.0, 0.5, TINY, any]);
+    Talus { threshold, strength, water_level }
+}
+
+/// Ends of p: the whole range, a part of it, reversed, or one place.
+fn ends(r: &mut Random) -> (f32, f32) {
+    let (a, b) = (r.unit(), r.unit());
+    r.pick(&[(0.0, 1.0), (1.0, 0.0), (a, b), (a, a), (-0.0, 0.005), (1.0, 1.0)])
+}
+
+fn record(r: &mut Random) -> Record {
+    let any = r.unit();
+    let last = r.pick(&[-1.0, 0.0, -0.0, 0.5, any, 1.0]);
+    let asked = r.pick(&[0, 1, 9, 1 << 31]);
+    Record { last, asked, stopped: r.below(12) == 0 }
+}
+
+fn task(r: &mut Random, size: Sides, kind: usize) -> Task {
+    let h = relief(r, size, kind);
+    let s = settings(r, 0.0);
+    let water_level = water(r, &h);
+    let out = h.len();
+    Task { size, h, out, s: Talus { water_level, ..s }, ends: ends(r), r: Record::FRESH, stop: 0 }
+}
+
+pub fn slides(l: &mut List, r: &mut Random) {
+    for (threshold, water_level) in [(0.5, 1.0), (1.0, 1.0), (0.5, 2.0)] {
+        let s = Talus { threshold, strength: 0.5, water_level };
+        let h = vec![1.0, 0.0];
+        slide_pass(l, &Task { size: (2, 1), h, out: 2, s, ends: (0.0, 1.0), r: Record::FRESH, stop: 0 });
+    }
+    for i in 0..390 {
+        let size = grid(r, i / RELIEFS, if i % 20 == 0 { 34 } else { 10 });
+        let mut t = task(r, size, i % RELIEFS);
+        if i % 3 > 0 {
+            t.r = record(r);
+            let later = t.r.asked + r.within(2, 9) as u32;
+            t.stop = r.pick(&[0, t.r.asked, t.r.asked + 1, later]);
+        }
+        slide_pass(l, &t);
+    }
+    for (size, kind) in [((64, 64), 0), ((4096, 1), 3), ((1, 4096), 0)] {
+        let mut t = task(r, size, kind);
+        t.s = Talus { threshold: 0.01, strength: 0.5, water_level: -0.5 };
+        t.ends = (0.0, 1.0);
+        slide_pass(l, &t);
+    }
+    stops(l, r);
+    refusals(l, r);
+}
+
+/// S at each question and past the last, on heights that stay finite and on heights that run off, where a stop comes first.
+fn stops(l: &mut List, r: &mut Random) {
+    for i in 0..14 {
+        let size = (r.within(1, 4), r.within(1, 9));
+        let mut t = task(r, size, if i % 2 == 0 { EXTREME } else { 0 });
+        t.s.strength = r.pick(&[0.0, 0.5, 1.0]);
+        t.s.water_level = f32::MIN;
+        t.ends = r.pick(&[(0.0, 1.0), (0.25, 0.5), (0.0, 0.04), (1.0, 0.0)]);
+        if i % 4 == 3 {
+            t.r = Record { last: 0.0, asked: 5, stopped: false };
+        }
+        let asked = slide_pass(l, &t).asked;
+        for stop in t.r.asked..=asked + 1 {
+            slide_pass(l, &Task { stop, h: t.h.clone(), ..t });
+        }
+        slide_pass(l, &Task { r: Record { stopped: true, ..t.r }, h: t.h.clone(), ..t });
+    }
+}
+
+const SIDE: u32 = 1;
+const LENGTH: u32 = 2;
+const SETTING: u32 = 4;
+const MARKS: u32 = 8;
+const HEIGHT: u32 = 16;
+
+fn refusals(l: &mut List, r: &mut Random) {
+    for f in faults(&[SIDE, LENGTH, SETTING, MARKS, HEIGHT]).repeat(10) {
+        let size = (r.within(1, 4), r.within(2, 4));
+        let mut t = task(r, size, 0);
+        t.r = record(r);
+        if f & HEIGHT != 0 {
+            t.h = spoilt(r, &t.h);
+        }
+        if f & SETTING != 0 {
+            match r.below(3) {
+                0 => t.s.threshold = outside(r, 0.0, 16.0),
+                1 => t.s.strength = outside(r, 0.0, 1.0),
+                _ => t.s.water_level = not_finite(r),
+            }
+        }
+        if f & MARKS != 0 {
+            match r.below(4) {
+                0 => t.ends.0 = outside(r, 0.0, 1.0),
+                1 => t.ends.1 = outside(r, 0.0, 1.0),
+                2 => t.r.last = outside(r, -1.0, 1.0),
+                _ => t.r.asked = r.pick(&[(1 << 31) + 1, u32::MAX]),
+            }
+        }
+        if f & LENGTH != 0 {
+            let len = bad_length(r, t.h.len());
+            if r.below(2) == 0 {
+                t.out = len;
+            } else {
+                t.h = map(r, len, 0);
+            }
+        }
+        if f & SIDE != 0 {
+            t.size = bad_sides(r, size);
+        }
+        slide_pass(l, &t);
+    }
+}
