@@ -1,0 +1,2 @@
+-- From the public calls' contracts to the exported ones.
+pub mod ExportedLaws

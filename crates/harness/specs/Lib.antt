@@ -1,0 +1,2 @@
+-- What the exported calls promise, in the public calls' own definitions.
+pub mod Exported
