@@ -3,3 +3,4 @@ pub mod SettleLaws
 pub mod IndependenceLaws
 pub mod PlateLaws
 pub mod CellLaws
+pub mod RefusalLaws

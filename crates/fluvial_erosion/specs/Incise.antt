@@ -1,15 +1,18 @@
 -- What the public call `incise` answers and leaves in its result slice.
 use Prim.Native.Nat.{ℕ, _*_}
+use mathlib.Core.Path.{_≡_}
 use mathlib.Core.Bool.{Bool, not, _||_, cond}
-use mathlib.Core.List.{List}
-use lib.ListN.{length}
+use mathlib.Core.List.{List, _++_}
+use lib.ListN.{length, drop}
 use lib.Dec.{eqb, ltb}
 use lib.Ieee.{Float, binary32, ofBits, neg}
 use lib.Ieee.Scale.{finite}
-use Rattle.answers.specs.Outcome.{Outcome, gives, refused, refusedAt, outsideOf}
+use Rattle.answers.specs.Outcome.{Outcome, gives, refused, refusedAt, answerOf, outsideOf}
+use Rattle.answers.specs.declared.Answer.{Answer}
 use Rattle.grid.specs.Sides.{badSides}
 use Rattle.grid.specs.Heights.{firstNotFinite, allFinite}
 use Rattle.drainage.specs.Ground.{gridGround}
+use Rattle.drainage.specs.Ways.{areasAlong}
 use Rattle.fluvial_erosion.specs.Incision.{incisedBy}
 use Rattle.lent.specs.Lent.{firstBadReceiver, firstBadEntry}
 use Rattle.fluvial_erosion.specs.declared.FluvialParams.{FluvialParams}
@@ -20,15 +23,18 @@ badIncision p =
     let one = ofBits binary32 0x3f80_0000 in
     outsideOf (p .k) (ofBits binary32 0) (ofBits binary32 0x4280_0000) || (outsideOf (p .uplift) (neg one) one || not (finite (p .«water_level»)))
 
--- 1: a side; 3: a length (heights, receivers, list and result exactly n, scratch at least n); 4: a setting; 5: a height; 6: a receiver; 7: the
+-- refusal 3: heights, receivers, list and result exactly n, scratch at least n
+abbrev pub badLengths : ℕ → ℕ → ℕ → ℕ → ℕ → ℕ → Bool
+badLengths n heights recv list result scratch =
+    not (eqb heights n) || (not (eqb recv n) || (not (eqb list n) || (not (eqb result n) || ltb scratch n)))
+
+-- 1: a side; 3: a length; 4: a setting; 5: a height; 6: a receiver; 7: the
 -- list; else `then`. `number` and `at` say what a refusal gives
 abbrev pub inciseRefusal : {A : Type 0} → ℕ → ℕ → List Float → FluvialParams → List ℕ → List ℕ → ℕ → ℕ → (ℕ → A) → (ℕ → ℕ → A) → A → A
 inciseRefusal w h hs p recv list result scratch number at then =
     let n = w * h in
     cond (badSides w h) (number 1)
-    (cond
-    (not (eqb (length hs) n) || (not (eqb (length recv) n) || (not (eqb (length list) n) || (not (eqb result n) || ltb scratch n))))
-    (number 3)
+    (cond (badLengths n (length hs) (length recv) (length list) result scratch) (number 3)
     (cond (badIncision p) (number 4)
     (cond (not (allFinite hs)) (at 5 (firstNotFinite hs))
     (cond (ltb (firstBadReceiver w h recv) n) (at 6 (firstBadReceiver w h recv)) (cond (ltb (firstBadEntry n recv list) n) (at 7 (firstBadEntry n recv list)) then)))))
@@ -40,3 +46,13 @@ incised w h hs p recv list = incisedBy (gridGround w h (p .«water_level») hs) 
 abbrev pub inciseAnswer : ℕ → ℕ → List Float → FluvialParams → List ℕ → List ℕ → ℕ → ℕ → Outcome (Unit {0})
 inciseAnswer w h hs p recv list result scratch =
     inciseRefusal w h hs p recv list result scratch refused refusedAt (cond (allFinite (incised w h hs p recv list)) (gives tt) (refused 22))
+
+-- What `incise` promises of its answer, of its result and of its scratch: on 1 to 7 both slices as they were, else the incised heights, and the areas
+-- in the first n places of the scratch.
+pub record InciseMade (w h : ℕ) (hs : List Float) (p : FluvialParams) (recv list : List ℕ) (old scratch : List Float) (r : Answer) (out area : List Float) : Type 0 where
+  pub answer : answerOf r ≡ inciseAnswer w h hs p recv list (length old) (length scratch)
+  pub result : out ≡ inciseRefusal w h hs p recv list (length old) (length scratch) (λ _. old) (λ _ _. old) (incised w h hs p recv list)
+  pub areas :
+      area
+      ≡ inciseRefusal w h hs p recv list (length old) (length scratch) (λ _. scratch) (λ _ _. scratch)
+      (areasAlong (w * h) recv list ++ drop (w * h) scratch)

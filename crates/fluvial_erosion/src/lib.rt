@@ -1,7 +1,16 @@
 // The source's fluvial_erosion.rs, one incision: every cell is lowered toward the cell it drains into, in proportion to the square root of its
 // drainage area, in the order of a work list.
+use answers::Answer;
+use answers::Refusal;
+use answers::outside;
+use floats::is_finite;
 use floats::max;
 use grid::Sides;
+use grid::all_finite;
+use grid::bad_sides;
+use grid::first_not_finite;
+use lent::first_bad_entry;
+use lent::first_bad_receiver;
 use square_root::root_of;
 use thermal_erosion::copy_heights;
 use ways::accumulate;
@@ -11,6 +20,8 @@ ghost use Prim.Native.Nat.{_*_, _<_};
 ghost use lib.ListN.{length, set};
 ghost use Rattle.drainage.specs.Ground.{gridGround};
 ghost use Rattle.fluvial_erosion.specs.Incision.{incisionCoef, inciseAlong};
+ghost use Rattle.answers.specs.Outcome.{gives, refused, refusedAt, answerOf};
+ghost use Rattle.fluvial_erosion.specs.Incise.{badLengths, badIncision, inciseRefusal, InciseMade};
 ghost use Rattle.fluvial_erosion.specs.Along.{drainedTo, cutAt, CellOf, Drains, Lengths, Carved};
 
 // The settings of an incision on its grid.
@@ -102,4 +113,104 @@ pub fn incise_into(
     copy_heights(hmap, out);
     accumulate(recv, order, area);
     incise_along(size, params, area, recv, order, out);
+}
+
+// Refusal 3: a slice of another length than n, or a scratch slice of fewer.
+fn bad_lengths(
+    n: usize,
+    heights: usize,
+    recv: usize,
+    list: usize,
+    result: usize,
+    scratch: usize,
+) -> bool
+    ensures { λ r. ⌜ r ≡ badLengths n heights recv list result scratch ⌝ }
+{
+    if heights != n {
+        return true;
+    }
+    if recv != n {
+        return true;
+    }
+    if list != n {
+        return true;
+    }
+    if result != n {
+        return true;
+    }
+    scratch < n
+}
+
+// Refusal 4: a setting outside its range.
+fn bad_incision(params: FluvialParams) -> bool
+    ensures { λ r. ⌜ r ≡ badIncision params ⌝ }
+{
+    if outside(params.k, 0.0, 64.0) {
+        return true;
+    }
+    if outside(params.uplift, -1.0, 1.0) {
+        return true;
+    }
+    !is_finite(params.water_level)
+}
+
+// The refusals of `incise` by number, `Done` where there is none; `result` and `scratch` are the lengths of the slices to write.
+fn refusal(
+    size: Sides,
+    hmap: &[f32],
+    params: FluvialParams,
+    recv: &[u32],
+    order: &[u32],
+    result: usize,
+    scratch: usize,
+) -> Answer
+    ensures { λ r. ⌜ answerOf r ≡ inciseRefusal (size .w) (size .h) (now (hmap .entry)) params (now (recv .entry)) (now (order .entry)) result scratch refused refusedAt (gives tt) ⌝ }
+{
+    if bad_sides(size) {
+        return Answer::Refused(Refusal::Side);
+    }
+    let n = size.w * size.h;
+    if bad_lengths(n, hmap.len(), recv.len(), order.len(), result, scratch) {
+        return Answer::Refused(Refusal::Length);
+    }
+    if bad_incision(params) {
+        return Answer::Refused(Refusal::Setting);
+    }
+    let height = first_not_finite(size, hmap);
+    if height != n {
+        return Answer::Refused(Refusal::Height(height));
+    }
+    let cell = first_bad_receiver(size, recv);
+    if cell < n {
+        return Answer::Refused(Refusal::Receiver(cell));
+    }
+    let entry = first_bad_entry(n, recv, order);
+    if entry < n {
+        return Answer::Refused(Refusal::List(entry));
+    }
+    Answer::Done
+}
+
+// One incision of the source along a lent list of lent receivers, from hmap to out, with the areas in the first n places of `area`.
+pub fn incise(
+    size: Sides,
+    hmap: &[f32],
+    params: FluvialParams,
+    recv: &[u32],
+    order: &[u32],
+    out: &mut [f32],
+    area: &mut [f32],
+) -> Answer
+    ensures { λ r. ⌜ InciseMade (size .w) (size .h) (now (hmap .entry)) params (now (recv .entry)) (now (order .entry)) (now (out .entry)) (now (area .entry)) r (now (out .exit)) (now (area .exit)) ⌝ }
+{
+    let answer = refusal(size, hmap, params, recv, order, out.len(), area.len());
+    let Answer::Done = answer else {
+        return answer;
+    };
+    let n = size.w * size.h;
+    incise_into(size, hmap, params, recv, order, out, &mut area[..n]);
+    if all_finite(size, out) {
+        return Answer::Done;
+    }
+    Answer::Refused(Refusal::RunOff)
 }

@@ -1,0 +1,255 @@
+-- The refusals of `incise`: each end of its tests, what an accepted input is, and that answer and slices follow from one choice.
+use Prim.Native.Nat.{ℕ, _*_, _≤_, _<_}
+use native.Mathlib.Omega.{arith}
+use mathlib.Core.Path.{_≡_, refl, sym, ap, _∙_}
+use mathlib.Core.Bool.{Bool, true, false, not, cond, _||_, true≢false}
+use mathlib.Core.List.{List, _++_}
+use lib.ListN.{length, getD, drop}
+use lib.Dec.{eqb, ltb}
+use lib.Ieee.{Float}
+use borrow.Author.Tests.{lt-ltb, le-ltb, ltb-false, eqb-true, not-false}
+use Rattle.answers.specs.Outcome.{Outcome, gives, refused, refusedAt, refusalOf, answerOf}
+use Rattle.answers.specs.declared.Answer.{Answer}
+use Rattle.answers.specs.declared.Refusal.{Refusal}
+use Rattle.answers.specs.declared.Refusal.the-variants.{Side, ReducedSide, Length, Setting, Height, Receiver, List as Listed, Stream, Cells, Stopped, RunOff}
+use Rattle.grid.specs.Sides.{badSides, InRange}
+use Rattle.grid.specs.Heights.{firstNotFinite, allFinite}
+use Rattle.grid.proofs.SidesLaws.{good-sides}
+use Rattle.generators.proofs.ExtentsLaws.{all-finite, not-all-finite}
+use Rattle.drainage.specs.Ways.{areasAlong}
+use Rattle.lent.specs.Lent.{firstBadReceiver, firstBadEntry, receiverTest, goodEntry}
+use Rattle.lent.specs.Seen.{Lengths}
+use Rattle.lent.proofs.FirstLaws.{first-of, all-first}
+use Rattle.lent.proofs.ListLaws.{good-at}
+use Rattle.lent.proofs.ReceiverLaws.{good-cell}
+use Rattle.fluvial_erosion.specs.Incise.{badLengths, badIncision, inciseRefusal, incised, inciseAnswer, InciseMade}
+use Rattle.fluvial_erosion.specs.Along.{Drains, Carved}
+use Rattle.fluvial_erosion.specs.declared.FluvialParams.{FluvialParams}
+
+-- what an outcome says, in other words
+byOutcome : {A : Type 0} → (ℕ → A) → (ℕ → ℕ → A) → A → Outcome (Unit {0}) → A
+byOutcome number at then (gives x) = then
+byOutcome number at then (refused k) = number k
+byOutcome number at then (refusedAt k c) = at k c
+
+gave : Outcome (Unit {0}) → Bool
+gave (gives x) = true
+gave (refused k) = false
+gave (refusedAt k c) = false
+
+refusal-gives : (q : Refusal) → gave (refusalOf q) ≡ false
+unfolding gave
+refusal-gives Side = refl
+refusal-gives ReducedSide = refl
+refusal-gives Length = refl
+refusal-gives Setting = refl
+refusal-gives (Height c) = refl
+refusal-gives (Receiver c) = refl
+refusal-gives (Listed c) = refl
+refusal-gives Stream = refl
+refusal-gives Cells = refl
+refusal-gives Stopped = refl
+refusal-gives RunOff = refl
+
+-- a refusal is itself, and leaves what was there
+by-itself : (o : Outcome (Unit {0})) (then : Outcome (Unit {0})) → gave o ≡ false → byOutcome refused refusedAt then o ≡ o
+unfolding byOutcome gave
+by-itself (gives x) then e = absurd (true≢false e)
+by-itself (refused k) then e = refl
+by-itself (refusedAt k c) then e = refl
+
+by-staying : {A : Type 0} (x then : A) (o : Outcome (Unit {0})) → gave o ≡ false → byOutcome (λ _. x) (λ _ _. x) then o ≡ x
+unfolding byOutcome gave
+by-staying x then (gives y) e = absurd (true≢false e)
+by-staying x then (refused k) e = refl
+by-staying x then (refusedAt k c) e = refl
+
+-- ---- what one test says that let pass
+neither : (a b : Bool) → (a || b) ≡ false → (a ≡ false) × (b ≡ false)
+neither true b e = absurd (true≢false e)
+neither false b e = (refl, e)
+
+pub record Sized (n heights recv list result scratch : ℕ) : Type 0 where
+  pub map : heights ≡ n
+  pub receivers : recv ≡ n
+  pub entries : list ≡ n
+  pub out : result ≡ n
+  pub areas : n ≤ scratch
+
+pub sized : (n heights recv list result scratch : ℕ) → badLengths n heights recv list result scratch ≡ false → Sized n heights recv list result scratch
+sized n heights recv list result scratch e =
+    let a = neither (not (eqb heights n)) _ e in
+    let b = neither (not (eqb recv n)) _ (a .1) in
+    let c = neither (not (eqb list n)) _ (b .1) in
+    let d = neither (not (eqb result n)) _ (c .1) in
+    record {
+      map = same heights (a .0);
+      receivers = same recv (b .0);
+      entries = same list (c .0);
+      out = same result (d .0);
+      areas = ltb-false scratch n (d .1);
+    }
+  where
+    same : (m : ℕ) → not (eqb m n) ≡ false → m ≡ n
+    same m e = eqb-true m n (not-false (eqb m n) e)
+
+-- the searches of the code, against n
+pub found : {f c n : ℕ} → c ≡ f → c < n → ltb f n ≡ true
+found {f} {c} {n} e l = lt-ltb f n (omega arith)
+
+pub found-none : {f c n : ℕ} → c ≡ f → n ≤ c → ltb f n ≡ false
+found-none {f} {c} {n} e l = le-ltb f n (omega arith)
+
+pub height-found : (hs : List Float) {c n : ℕ} → length hs ≡ n → c ≡ firstNotFinite hs → (c ≡ n → ⊥) → not (allFinite hs) ≡ true
+height-found hs {c} l e h = ap not (not-all-finite hs c e (λ q. h (q ∙ l)))
+
+pub height-none : (hs : List Float) {c n : ℕ} → length hs ≡ n → c ≡ firstNotFinite hs → c ≡ n → not (allFinite hs) ≡ false
+height-none hs {c} l e h = ap not (all-finite hs c e (h ∙ sym l))
+
+-- every receiver is good where none is the first that is not, and likewise every entry
+pub receivers-good : (w h : ℕ) (recv : List ℕ) → ltb (firstBadReceiver w h recv) (w * h) ≡ false → (c : ℕ) → c < w * h → receiverTest w h recv c ≡ true
+receivers-good w h recv e =
+    let none : firstBadReceiver w h recv ≡ w * h = omega (arith, ltb-false (firstBadReceiver w h recv) (w * h) e, first-of (w * h) (receiverTest w h recv) .bound) in
+    all-first (w * h) (receiverTest w h recv) none
+
+entries-good : (n : ℕ) (recv list : List ℕ) → ltb (firstBadEntry n recv list) n ≡ false → (i : ℕ) → i < n → goodEntry n recv list i ≡ true
+entries-good n recv list e =
+    let none : firstBadEntry n recv list ≡ n = omega (arith, ltb-false (firstBadEntry n recv list) n e, first-of n (goodEntry n recv list) .bound) in
+    all-first n (goodEntry n recv list) none
+
+pub network-of : (w h : ℕ) (recv list : List ℕ) → length recv ≡ w * h → length list ≡ w * h → ltb (firstBadReceiver w h recv) (w * h) ≡ false → Lengths (w * h) recv list
+network-of w h recv list a b e = record { receivers = a; entries = b; inside = λ c l. good-cell w h c (getD recv c 0) (receivers-good w h recv e c l) }
+
+module _ (w h : ℕ) (hs : List Float) (p : FluvialParams) (recv list : List ℕ) (result scratch : ℕ) where
+  abbrev pub decided : Outcome (Unit {0})
+  decided = inciseRefusal w h hs p recv list result scratch refused refusedAt (gives tt)
+
+  -- the same choice, whatever is chosen
+  natural : {A : Type 0} (number : ℕ → A) (at : ℕ → ℕ → A) (then : A) → byOutcome number at then decided ≡ inciseRefusal w h hs p recv list result scratch number at then
+  unfolding byOutcome
+  natural number at then =
+      go (badSides w h) (badLengths (w * h) (length hs) (length recv) (length list) result scratch) (badIncision p) (not (allFinite hs))
+      (ltb (firstBadReceiver w h recv) (w * h)) (ltb (firstBadEntry (w * h) recv list) (w * h))
+    where
+      go : (a b c d e f : Bool)
+          → byOutcome number at then
+          (cond a (refused 1) (cond b (refused 3) (cond c (refused 4) (cond d (refusedAt 5 (firstNotFinite hs))
+          (cond e (refusedAt 6 (firstBadReceiver w h recv)) (cond f (refusedAt 7 (firstBadEntry (w * h) recv list)) (gives tt)))))))
+          ≡ cond a (number 1) (cond b (number 3) (cond c (number 4) (cond d (at 5 (firstNotFinite hs))
+          (cond e (at 6 (firstBadReceiver w h recv)) (cond f (at 7 (firstBadEntry (w * h) recv list)) then)))))
+      go true b c d e f = refl
+      go false true c d e f = refl
+      go false false true d e f = refl
+      go false false false true e f = refl
+      go false false false false true f = refl
+      go false false false false false true = refl
+      go false false false false false false = refl
+
+  -- each end of the tests
+  pub ends-side : {t : Bool} → t ≡ badSides w h → t ≡ true → refused 1 ≡ decided
+  ends-side a e = rw (sym a ∙ e)
+
+  -- what the tests let pass
+  pub record Accepted : Type 0 where
+    pub sides : badSides w h ≡ false
+    pub lengths : badLengths (w * h) (length hs) (length recv) (length list) result scratch ≡ false
+    pub setting : badIncision p ≡ false
+    pub heights : not (allFinite hs) ≡ false
+    pub receivers : ltb (firstBadReceiver w h recv) (w * h) ≡ false
+    pub entries : ltb (firstBadEntry (w * h) recv list) (w * h) ≡ false
+
+  pub ends-done : Accepted → gives tt ≡ decided
+  ends-done a = rw (a .sides, a .lengths, a .setting, a .heights, a .receivers, a .entries)
+
+  module _ (sides : badSides w h ≡ false) where
+    pub ends-length : {t : Bool} → t ≡ badLengths (w * h) (length hs) (length recv) (length list) result scratch → t ≡ true → refused 3 ≡ decided
+    ends-length a e = rw (sides, sym a ∙ e)
+
+    module _ (lengths : badLengths (w * h) (length hs) (length recv) (length list) result scratch ≡ false) where
+      pub ends-setting : {t : Bool} → t ≡ badIncision p → t ≡ true → refused 4 ≡ decided
+      ends-setting a e = rw (sides, lengths, sym a ∙ e)
+
+      module _ (setting : badIncision p ≡ false) where
+        pub ends-height : not (allFinite hs) ≡ true → {c : ℕ} → c ≡ firstNotFinite hs → refusedAt 5 c ≡ decided
+        ends-height e q = rw (sides, lengths, setting, e) (ap (refusedAt 5) q)
+
+        module _ (heights : not (allFinite hs) ≡ false) where
+          pub ends-receiver : ltb (firstBadReceiver w h recv) (w * h) ≡ true → {c : ℕ} → c ≡ firstBadReceiver w h recv → refusedAt 6 c ≡ decided
+          ends-receiver e q = rw (sides, lengths, setting, heights, e) (ap (refusedAt 6) q)
+
+          pub ends-entry : ltb (firstBadReceiver w h recv) (w * h) ≡ false → ltb (firstBadEntry (w * h) recv list) (w * h) ≡ true → {c : ℕ} → c ≡ firstBadEntry (w * h) recv list → refusedAt 7 c ≡ decided
+          ends-entry r e q = rw (sides, lengths, setting, heights, r, e) (ap (refusedAt 7) q)
+
+  -- an accepted input, from its outcome
+  pub accepted : gives tt ≡ decided → Accepted
+  unfolding gave
+  accepted e =
+      go (badSides w h) refl (badLengths (w * h) (length hs) (length recv) (length list) result scratch) refl (badIncision p) refl (not (allFinite hs)) refl
+      (ltb (firstBadReceiver w h recv) (w * h)) refl (ltb (firstBadEntry (w * h) recv list) (w * h)) refl (ap gave e)
+    where
+      go : (a : Bool) → badSides w h ≡ a → (b : Bool) → badLengths (w * h) (length hs) (length recv) (length list) result scratch ≡ b → (c : Bool) → badIncision p ≡ c
+          → (d : Bool) → not (allFinite hs) ≡ d → (f : Bool) → ltb (firstBadReceiver w h recv) (w * h) ≡ f → (g : Bool) → ltb (firstBadEntry (w * h) recv list) (w * h) ≡ g
+          → true ≡ gave (cond a (refused 1) (cond b (refused 3) (cond c (refused 4) (cond d (refusedAt 5 (firstNotFinite hs))
+          (cond f (refusedAt 6 (firstBadReceiver w h recv)) (cond g (refusedAt 7 (firstBadEntry (w * h) recv list)) (gives tt)))))))
+          → Accepted
+      go true ea b eb c ec d ed f ef g eg t = absurd (true≢false t)
+      go false ea true eb c ec d ed f ef g eg t = absurd (true≢false t)
+      go false ea false eb true ec d ed f ef g eg t = absurd (true≢false t)
+      go false ea false eb false ec true ed f ef g eg t = absurd (true≢false t)
+      go false ea false eb false ec false ed true ef g eg t = absurd (true≢false t)
+      go false ea false eb false ec false ed false ef true eg t = absurd (true≢false t)
+      go false ea false eb false ec false ed false ef false eg t = record { sides = ea; lengths = eb; setting = ec; heights = ed; receivers = ef; entries = eg }
+
+  module _ (a : Accepted) where
+    pub accepted-sizes : Sized (w * h) (length hs) (length recv) (length list) result scratch
+    accepted-sizes = sized (w * h) (length hs) (length recv) (length list) result scratch (a .lengths)
+
+    pub accepted-drains : Drains w h recv list
+    accepted-drains =
+        let z = accepted-sizes in
+        let n = network-of w h recv list (z .receivers) (z .entries) (a .receivers) in
+        record {
+          sides = good-sides w h (a .sides);
+          along =
+              record {
+                receivers = z .receivers;
+                inside = n .inside;
+                entries = λ i l. good-at (w * h) recv list i (entries-good (w * h) recv list (a .entries) i (omega (arith, z .entries))) .cell;
+              };
+          near = receivers-good w h recv (a .receivers);
+        }
+
+module _ (w h : ℕ) (hs : List Float) (p : FluvialParams) (recv list : List ℕ) (old scratch : List Float) where
+  -- a refusal of the input leaves both slices as they were
+  pub made-refused : (r : Answer) (q : Refusal) → answerOf r ≡ decided w h hs p recv list (length old) (length scratch) → r ≡ Answer.Refused q → InciseMade w h hs p recv list old scratch r old scratch
+  made-refused r q d e =
+      record {
+        answer = sym (by-itself (answerOf r) _ none) ∙ ap (byOutcome refused refusedAt _) d ∙ natural w h hs p recv list (length old) (length scratch) refused refusedAt _;
+        result = sym (by-staying old _ (answerOf r) none) ∙ ap (byOutcome (λ _. old) (λ _ _. old) _) d ∙ natural w h hs p recv list (length old) (length scratch) (λ _. old) (λ _ _. old) _;
+        areas = sym (by-staying scratch _ (answerOf r) none) ∙ ap (byOutcome (λ _. scratch) (λ _ _. scratch) _) d ∙ natural w h hs p recv list (length old) (length scratch) (λ _. scratch) (λ _ _. scratch) _;
+      }
+    where
+      none : gave (answerOf r) ≡ false
+      none = ap (λ (r : Answer). gave (answerOf r)) e ∙ refusal-gives q
+
+  -- an accepted input is incised
+  module _ (e : gives tt ≡ decided w h hs p recv list (length old) (length scratch)) where
+    chosen : {A : Type 0} (number : ℕ → A) (at : ℕ → ℕ → A) (then : A) → then ≡ inciseRefusal w h hs p recv list (length old) (length scratch) number at then
+    unfolding byOutcome
+    chosen number at then = ap (byOutcome number at then) e ∙ natural w h hs p recv list (length old) (length scratch) number at then
+
+    pub made-incised : {r : Answer} {out front area : List Float} → answerOf r ≡ cond (allFinite out) (gives tt) (refused 22) → Carved w h hs p recv list out front
+        → area ≡ front ++ drop (w * h) scratch → InciseMade w h hs p recv list old scratch r out area
+    made-incised {r} {out} {front} {area} b c d =
+        record {
+          answer = b ∙ ap (λ (l : List Float). cond (allFinite l) (gives tt) (refused 22)) (c .heights) ∙ chosen refused refusedAt _;
+          result = c .heights ∙ chosen (λ _. old) (λ _ _. old) _;
+          areas = d ∙ ap (λ (l : List Float). l ++ drop (w * h) scratch) (c .areas) ∙ chosen (λ _. scratch) (λ _ _. scratch) _;
+        }
+
+-- the answer once the list is done
+pub answer-done : {all : Bool} (out : List Float) → all ≡ allFinite out → all ≡ true → answerOf Answer.Done ≡ cond (allFinite out) (gives tt) (refused 22)
+answer-done out a e = rw (sym a ∙ e)
+
+pub answer-off : {all : Bool} (out : List Float) → all ≡ allFinite out → all ≡ false → answerOf (Answer.Refused RunOff) ≡ cond (allFinite out) (gives tt) (refused 22)
+answer-off out a e = rw (sym a ∙ e)
