@@ -1,6 +1,3 @@
--- Laws of the passes and of the public call.
-pub mod DistanceLaws
-pub mod ReceiverLaws
-pub mod PassLaws
+-- Laws of the public call, and what the theory gives it.
 pub mod NetLaws
 pub mod RouteLaws

@@ -26,7 +26,8 @@ use Rattle.drainage.proofs.GroundLaws.{gridGround-joined, finite-numbers, grid-
 use Rattle.drainage.proofs.WorkListLaws.{in-lt}
 use Rattle.heap.proofs.RoomLaws.{times-at}
 use Rattle.flood.specs.Slices.{Accepted, Sizes, Flooded}
-use Rattle.flow.specs.Passes.{Finders, Downward}
+use Rattle.network.specs.Passes.{Finders}
+use Rattle.ways.specs.Apart.{Along}
 use Rattle.flow.specs.Route.{floodOf, orderOf, receiversOf, lentOf, Enough, Holding}
 
 module _ (w h : ℕ) (hs : List Float) (water : Float) (a : Accepted w h hs) (fit : Fit hs) where
@@ -63,10 +64,10 @@ module _ (w h : ℕ) (hs : List Float) (water : Float) (a : Accepted w h hs) (fi
   net = grid-networks w h water hs (a .sides) (a .cells) fit (a .finites)
 
   pub downward :
-      (n : ℕ) (recv order : List ℕ) → n ≡ w * h → length recv ≡ w * h → recv ≡ receiversOf w h hs water → order ≡ orderOf w h hs water → Downward n recv order
+      (n : ℕ) (recv order : List ℕ) → n ≡ w * h → length recv ≡ w * h → recv ≡ receiversOf w h hs water → order ≡ orderOf w h hs water → Along n recv order
   downward n recv order m long e f = record {
-    many = omega arith;
-    receivers = λ c l. subst (λ t. getD t c 0 < n) (sym e) (inside c (omega arith));
+    receivers = omega arith;
+    inside = λ c l. subst (λ t. getD t c 0 < n) (sym e) (inside c (omega arith));
     entries = λ i l. omega (arith, in-lt (net .work-list) (getD order i 0) (stands-in i l));
   }
     where

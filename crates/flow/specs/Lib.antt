@@ -1,3 +1,2 @@
--- What the functions of routing do to their slices, and what the public call `route` answers and leaves in its result slices.
-pub mod Passes
+-- What the public call `route` answers and leaves in its slices.
 pub mod Route

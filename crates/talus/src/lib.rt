@@ -87,6 +87,7 @@ fn shed_toward(
     shed_at(ts, hmap, c, m, d, s)
 }
 
+// The gain of the neighbour in direction d, if there is one.
 fn gain_toward(
     size: Sides,
     ts: &[f32; 9],

@@ -62,6 +62,7 @@ fn shed_inside(size: Sides, os: &[usize; 9], ts: &[f32; 9], hmap: &[f32], c: usi
     s
 }
 
+// What the counted neighbours of an inner cell gain.
 fn gain_inside(
     size: Sides,
     os: &[usize; 9],
@@ -117,7 +118,7 @@ fn slide_inside(
 }
 
 // The n inner cells of row y.
-fn slide_insides(
+fn slide_inner_cells(
     size: Sides,
     os: &[usize; 9],
     ts: &[f32; 9],
@@ -142,7 +143,7 @@ fn slide_insides(
 }
 
 // The number of inner cells of row y.
-fn inner(size: Sides, y: usize) -> usize
+fn inner_cells(size: Sides, y: usize) -> usize
     ensures { λ r. ⌜ r ≡ innerOf (size .w) (size .h) y ⌝ }
 {
     let w = size.w;
@@ -171,9 +172,9 @@ pub fn slide_row(
     ensures { λ _. ⌜ now (out .exit) ≡ slideRow (size .w) (size .h) (now (ts .entry)) (now (hmap .entry)) strength water y (now (out .entry)) ⌝ }
 {
     let w = size.w;
-    let n = inner(size, y);
+    let n = inner_cells(size, y);
     let os = offsets(w);
     slide_cells(size, ts, hmap, out, strength, water, y, 0, 1);
-    slide_insides(size, &os, ts, hmap, out, strength, water, y, n);
+    slide_inner_cells(size, &os, ts, hmap, out, strength, water, y, n);
     slide_cells(size, ts, hmap, out, strength, water, y, 1 + n, w - (1 + n));
 }

@@ -114,6 +114,7 @@ fn bad_pass(params: ThermalParams, from: f32, to: f32, m: Progress) -> bool
     true
 }
 
+// A refusal with the record that goes back.
 fn refused(refusal: Refusal, progress: Progress) -> Slid
     ensures { λ r. ⌜ r ≡ record { answer = Answer.Refused refusal; progress = progress } ⌝ }
 {
@@ -175,6 +176,8 @@ pub fn slide_pass(
 ) -> Slid
     ensures { λ r. ⌜ SlideMade (size .w) (size .h) (now (hmap .entry)) (now (out .entry)) params «progress_from» «progress_to» progress stop r (now (out .exit)) ⌝ }
 {
+    let from = progress_from;
+    let to = progress_to;
     if bad_sides(size) {
         return refused(Refusal::Side, progress);
     }
@@ -185,21 +188,12 @@ pub fn slide_pass(
     if out.len() != n {
         return refused(Refusal::Length, progress);
     }
-    if bad_pass(params, progress_from, progress_to, progress) {
+    if bad_pass(params, from, to, progress) {
         return refused(Refusal::Setting, progress);
     }
     let bad = first_not_finite(size, hmap);
     if bad != n {
         return refused(Refusal::Height(bad), progress);
     }
-    slide_accepted(
-        size,
-        hmap,
-        out,
-        params,
-        progress_from,
-        progress_to,
-        progress,
-        stop,
-    )
+    slide_accepted(size, hmap, out, params, from, to, progress, stop)
 }

@@ -1,0 +1,3 @@
+-- Laws of receivers and of the pass over the rows.
+pub mod ReceiverLaws
+pub mod PassLaws

@@ -1,0 +1,2 @@
+-- What the two passes after the flood do to their slices.
+pub mod Passes
