@@ -99,6 +99,20 @@ fn main() {
         }
         fs::write(out.join(name), written).expect("OUT_DIR can be written");
     }
+    if env::var_os("CARGO_FEATURE_BENCH").is_some() {
+        link_harness();
+    }
+}
+
+/// The archive that `rt staticlib harness` writes, for the bench alone.
+fn link_harness() {
+    let archive = Path::new(&env::var("CARGO_MANIFEST_DIR").expect("CARGO_MANIFEST_DIR"))
+        .join("../target/staticlib/libharness.a");
+    println!("cargo:rerun-if-changed={}", archive.display());
+    if !archive.is_file() {
+        panic!("{} is not there: run `rt staticlib harness`", archive.display());
+    }
+    println!("cargo:rustc-link-arg-bin=bench={}", archive.display());
 }
 
 /// The folder of the published source: WGEN_SRC, else shared/docs/src beside the repository.

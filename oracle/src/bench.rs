@@ -1,0 +1,134 @@
+//! Measures the library's calls against the source's on the same heights in one process, and compares what they leave bit for bit.
+//! `bench [route|incise|slide|runs] [side]..` measures some of them; docs/BENCHMARKS.md has the command and what was measured.
+#[path = "bench/calls.rs"]
+mod calls;
+#[allow(dead_code)]
+mod random;
+mod source;
+#[allow(dead_code)]
+mod standins;
+
+use random::Random;
+use source::erosion::Talus;
+use source::Record;
+
+type Sides = (usize, usize);
+
+/// how often each side is measured, in turns
+const ROUNDS: usize = 7;
+
+/// The CPU time of this thread in seconds: what the machine does beside it does not count.
+fn cpu_seconds() -> f64 {
+    #[repr(C)]
+    struct Time {
+        seconds: i64,
+        nanoseconds: i64,
+    }
+    extern "C" {
+        fn clock_gettime(clock: i32, time: *mut Time) -> i32;
+    }
+    const THREAD_CPU: i32 = 3;
+    let mut t = Time { seconds: 0, nanoseconds: 0 };
+    // the clock writes its two numbers and nothing else
+    let done = unsafe { clock_gettime(THREAD_CPU, &mut t) };
+    assert!(done == 0, "no CPU clock");
+    t.seconds as f64 + t.nanoseconds as f64 * 1e-9
+}
+
+fn timed(f: &mut dyn FnMut()) -> f64 {
+    let began = cpu_seconds();
+    f();
+    cpu_seconds() - began
+}
+
+fn median(mut v: Vec<f64>) -> f64 {
+    v.sort_by(f64::total_cmp);
+    v[v.len() / 2]
+}
+
+/// Runs both by turns and prints a row of the table: the medians in milliseconds, and the source's over the library's.
+fn row(name: &str, ours: &mut dyn FnMut(), theirs: &mut dyn FnMut()) {
+    let (mut a, mut b) = (Vec::new(), Vec::new());
+    for _ in 0..ROUNDS {
+        b.push(timed(theirs));
+        a.push(timed(ours));
+    }
+    let (a, b) = (median(a) * 1e3, median(b) * 1e3);
+    println!("| {name} | {b:.2} | {a:.2} | {:.2} |", b / a);
+}
+
+fn same_floats(name: &str, a: &[f32], b: &[f32]) {
+    assert!(a.len() == b.len() && a.iter().zip(b).all(|(x, y)| x.to_bits() == y.to_bits()), "{name} differ");
+}
+
+/// White noise from 0 to 1.
+fn noise(r: &mut Random, size: Sides) -> Vec<f32> {
+    (0..size.0 * size.1).map(|_| r.unit()).collect()
+}
+
+/// Smooth terrain: six octaves of lattice noise, each half as high as the one before.
+fn smooth(r: &mut Random, size: Sides) -> Vec<f32> {
+    let mut h = vec![0.0f32; size.0 * size.1];
+    for octave in 0..6 {
+        let cells = 3usize << octave;
+        let lattice: Vec<f32> = (0..(cells + 1) * (cells + 1)).map(|_| r.unit()).collect();
+        let at = |x: usize, y: usize| lattice[x + y * (cells + 1)];
+        let weight = 0.5f32.powi(octave + 1);
+        for y in 0..size.1 {
+            let v = y as f32 / size.1 as f32 * cells as f32;
+            for x in 0..size.0 {
+                let u = x as f32 / size.0 as f32 * cells as f32;
+                let (ix, iy) = (u as usize, v as usize);
+                let (dx, dy) = (ease(u.fract()), ease(v.fract()));
+                let north = at(ix, iy) * (1.0 - dx) + at(ix + 1, iy) * dx;
+                let south = at(ix, iy + 1) * (1.0 - dx) + at(ix + 1, iy + 1) * dx;
+                h[x + y * size.0] += weight * (north * (1.0 - dy) + south * dy);
+            }
+        }
+    }
+    h
+}
+
+fn ease(t: f32) -> f32 {
+    t * t * (3.0 - 2.0 * t)
+}
+
+/// Both terrains of a side.
+fn terrains(side: usize) -> [(&'static str, Vec<f32>); 2] {
+    let mut r = Random::new(side as u64);
+    [("smooth", smooth(&mut r, (side, side))), ("noise", noise(&mut r, (side, side)))]
+}
+
+/// One talus pass with the source's threshold for talus 0.5 and its strength 0.5.
+fn slide(side: usize) {
+    let size = (side, side);
+    let s = Talus { threshold: 0.03 * 0.25 / (side as f32 / 512.0), strength: 0.5, water_level: 0.12 };
+    for (kind, h) in terrains(side) {
+        let (mut ours, mut theirs) = (vec![0.0; h.len()], vec![0.0; h.len()]);
+        row(
+            &format!("`slide_pass` {side}² {kind}"),
+            &mut || assert!(calls::slide_pass(size, &h, &mut ours, &s) == 0),
+            &mut || {
+                theirs.copy_from_slice(&h);
+                assert!(source::erosion::slide_pass(size, &h, &mut theirs, &s, (0.0, 1.0), Record::FRESH, 0).0);
+            },
+        );
+        same_floats("heights", &ours, &theirs);
+    }
+}
+
+fn main() {
+    let args: Vec<String> = std::env::args().skip(1).collect();
+    let asked: Vec<usize> = args.iter().filter_map(|a| a.parse().ok()).collect();
+    let named: Vec<&String> = args.iter().filter(|a| a.parse::<usize>().is_err()).collect();
+    println!("| call | source, ms | library, ms | source / library |");
+    println!("|---|---|---|---|");
+    let tables: [(&str, fn(usize), &[usize]); 1] = [("slide", slide, &[256, 512, 1024])];
+    for (name, measure, sides) in tables {
+        if named.is_empty() || named.iter().any(|a| *a == name) {
+            for side in if asked.is_empty() { sides } else { &asked[..] } {
+                measure(*side);
+            }
+        }
+    }
+}
