@@ -2,6 +2,7 @@
 // oracle/README.md has the words of each task and answer.
 use answers::Answer;
 use answers::Refusal;
+use fluvial_erosion::FluvialParams;
 use generators::Progress;
 use grid::Sides;
 use thermal_erosion::ThermalParams;
@@ -143,6 +144,44 @@ fn put_progress(m: Progress) {
     put_flag(m.stopped);
 }
 
+fn next_incision() -> FluvialParams {
+    let k = next_float();
+    let uplift = next_float();
+    let water_level = next_float();
+    FluvialParams {
+        k,
+        uplift,
+        water_level,
+    }
+}
+
+fn replay_incise() {
+    let size = next_sides();
+    let params = next_incision();
+    let fill = next_float();
+    let mut result = room(fill);
+    let out_n = next_length(&result);
+    let out = &mut result[..out_n];
+    let mut scratch = room(fill);
+    let area_n = next_length(&scratch);
+    let area = &mut scratch[..area_n];
+    let mut space = room(0.0);
+    let n = next_length(&space);
+    let h = &mut space[..n];
+    let mut receivers = cells();
+    let recv_n = next_cells(&receivers);
+    let recv = &mut receivers[..recv_n];
+    let mut list = cells();
+    let list_n = next_cells(&list);
+    let order = &mut list[..list_n];
+    read_floats(h);
+    read_cells(recv);
+    read_cells(order);
+    let answer = fluvial_erosion::incise(size, h, params, recv, order, out, area);
+    put_answer(answer);
+    put_result(answer, out);
+}
+
 fn next_talus() -> ThermalParams {
     let threshold = next_float();
     let strength = next_float();
@@ -179,6 +218,7 @@ fn replay_slide_pass() {
 fn replay_task() -> bool {
     let call = word();
     match call {
+        1 => replay_incise(),
         2 => replay_slide_pass(),
         _ => return false,
     }

@@ -1,0 +1,181 @@
+// Replays the oracle's list of networks: reads tasks, calls the library, writes the answers, which the file stdout fixes.
+// oracle/README.md has the words of each task and answer.
+use answers::Answer;
+use answers::Refusal;
+use grid::Sides;
+ghost use mathlib.Core.Path.{_≡_};
+ghost use Prim.Native.Nat.{_≤_};
+ghost use lib.ListN.{length, take};
+
+// Room for the values of a task: heights, cells and states, each x at first.
+fn room(x: f32) -> [f32; 4100]
+    ensures { λ r. ⌜ 4100 ≡ length r ⌝ }
+{
+    [x; 4100]
+}
+
+fn cells(x: u32) -> [u32; 4100]
+    ensures { λ r. ⌜ 4100 ≡ length r ⌝ }
+{
+    [x; 4100]
+}
+
+fn states(x: u8) -> [u8; 4100]
+    ensures { λ r. ⌜ 4100 ≡ length r ⌝ }
+{
+    [x; 4100]
+}
+
+// The next word of the input, 0 once it has ended.
+fn word() -> u32 {
+    let mut b = [0u8; 4];
+    io::read_full(0, &mut b);
+    words::word(&b)
+}
+
+fn next_float() -> f32 {
+    floats::from_bits(word())
+}
+
+fn next_sides() -> Sides {
+    let w = word() as usize;
+    let h = word() as usize;
+    Sides { w, h }
+}
+
+// The next length, at most that of space. The second part is what a part of space with that length asks.
+fn next_length(space: &[f32]) -> usize
+    ensures { λ r. ⌜ (r ≤ length (now (space .entry))) × (r ≡ length (take r (now (space .entry)))) ⌝ }
+{
+    let n = word() as usize;
+    let most = space.len();
+    if n < most {
+        return n;
+    }
+    most
+}
+
+fn next_cells(space: &[u32]) -> usize
+    ensures { λ r. ⌜ (r ≤ length (now (space .entry))) × (r ≡ length (take r (now (space .entry)))) ⌝ }
+{
+    let n = word() as usize;
+    let most = space.len();
+    if n < most {
+        return n;
+    }
+    most
+}
+
+fn next_states(space: &[u8]) -> usize
+    ensures { λ r. ⌜ (r ≤ length (now (space .entry))) × (r ≡ length (take r (now (space .entry)))) ⌝ }
+{
+    let n = word() as usize;
+    let most = space.len();
+    if n < most {
+        return n;
+    }
+    most
+}
+
+fn read_floats(v: &mut [f32]) {
+    for i in 0..v.len() {
+        v[i] = next_float();
+    }
+}
+
+fn put(x: u32) {
+    let b = words::bytes(x);
+    io::write_all(1, &b);
+}
+
+fn put_cells(v: &[u32]) {
+    for i in 0..v.len() {
+        put(v[i]);
+    }
+}
+
+fn put_float(x: f32) {
+    put(floats::to_bits(x));
+}
+
+fn put_floats(v: &[f32]) {
+    for i in 0..v.len() {
+        put_float(v[i]);
+    }
+}
+
+fn put_refusal(r: Refusal) {
+    put(answers::number(r));
+    put((answers::place(r) % 0x1_0000_0000) as u32);
+}
+
+// Every answer begins with the refusal's number, 0 if none, and the place that it carries.
+fn put_answer(a: Answer) {
+    match a {
+        Answer::Done => {
+            put(0);
+            put(0);
+        }
+        Answer::Refused(r) => put_refusal(r),
+    }
+}
+
+fn replay_route() {
+    let size = next_sides();
+    let water_level = next_float();
+    let fill = word();
+    let mut order_room = cells(fill);
+    let order_n = next_cells(&order_room);
+    let order = &mut order_room[..order_n];
+    let mut recv_room = cells(fill);
+    let recv_n = next_cells(&recv_room);
+    let recv = &mut recv_room[..recv_n];
+    let mut spill_room = room(floats::from_bits(fill));
+    let spill_n = next_length(&spill_room);
+    let spill = &mut spill_room[..spill_n];
+    let mut area_room = room(floats::from_bits(fill));
+    let area_n = next_length(&area_room);
+    let area = &mut area_room[..area_n];
+    let mut queue_room = cells(fill);
+    let queue_n = next_cells(&queue_room);
+    let queue = &mut queue_room[..queue_n];
+    let mut status_room = states((fill % 256) as u8);
+    let status_n = next_states(&status_room);
+    let status = &mut status_room[..status_n];
+    let mut space = room(0.0);
+    let n = next_length(&space);
+    let h = &mut space[..n];
+    read_floats(h);
+    put_answer(flow::route(
+        size,
+        h,
+        water_level,
+        order,
+        recv,
+        spill,
+        area,
+        queue,
+        status,
+    ));
+    put_cells(order);
+    put_cells(recv);
+    put_floats(spill);
+    put_floats(area);
+}
+
+// Replays one task. Answers false at the end of the list.
+fn replay_task() -> bool {
+    if word() == 1 {
+        replay_route();
+        return true;
+    }
+    false
+}
+
+// A loop has to end, and nothing says that the input does: the turns count down from a number that no list uses up.
+fn main() {
+    let mut turns = u64::MAX;
+    while turns > 0 && replay_task() {
+        turns -= 1;
+    }
+}
