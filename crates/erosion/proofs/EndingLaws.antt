@@ -1,0 +1,86 @@
+-- The endings of a whole-run call.
+use Prim.Native.Nat.{ℕ}
+use mathlib.Core.Path.{_≡_, refl, sym, ap, _∙_}
+use mathlib.Core.Bool.{Bool, true, false, _&&_, cond}
+use mathlib.Core.Logic.{_⊎_, inl, inr, ⊎-elim}
+use mathlib.Core.List.{List}
+use native.Mathlib.Omega.{arith}
+use borrow.Author.Tests.{ne-eqb}
+use lib.Dec.{eqb}
+use lib.Ieee.{Float}
+use Rattle.answers.specs.Outcome.{Outcome, gives, refused, refusedAt, refusalOf, answerOf}
+use Rattle.answers.specs.declared.Answer.{Answer}
+use Rattle.answers.specs.declared.Refusal.{Refusal}
+use Rattle.answers.specs.declared.Refusal.the-variants.{Side, ReducedSide, Length, Setting, Height, Receiver, List as LentList, Stream, Cells, Stopped, RunOff}
+use Rattle.grid.specs.Heights.{allFinite}
+use Rattle.runs.specs.Run.{Ran, differenceOf}
+use Rattle.upsample.specs.Samples.{asSource}
+use Rattle.upsample.specs.Samples.{addedOf}
+use Rattle.erosion.specs.Reached.{halted, ranBy, addedTo}
+use Rattle.erosion.specs.Ending.{Ending, outcomeOf, ranTo, endingOf, endedWith, accepted, refusedTo, Numbered, Answered}
+use Rattle.erosion.specs.declared.RunAnswer.{RunAnswer}
+use Rattle.erosion.specs.declared.Reached.{Reached}
+
+-- an input that is refused
+refused-by : (why : Refusal) (map : List Float) (ran : Ran) → endedWith (refusedTo why) map ≡ endingOf (refusalOf why) map ran
+refused-by Side map ran = refl
+refused-by ReducedSide map ran = refl
+refused-by Length map ran = refl
+refused-by Setting map ran = refl
+refused-by (Height c) map ran = refl
+refused-by (Receiver c) map ran = refl
+refused-by (LentList p) map ran = refl
+refused-by Stream map ran = refl
+refused-by Cells map ran = refl
+refused-by Stopped map ran = refl
+refused-by RunOff map ran = refl
+
+pub ending-refused : (why : Refusal) (early : Answer) (o : Outcome (Unit {0})) (map : List Float) (ran : Ran)
+    → early ≡ Answer.Refused why
+    → answerOf early ≡ o
+    → endedWith (refusedTo why) map ≡ endingOf o map ran
+ending-refused why early o map ran e f = refused-by why map ran ∙ ap (λ (o : Outcome (Unit {0})). endingOf o map ran) (ap answerOf (sym e) ∙ f)
+
+-- a run that was accepted
+pub ending-ran : (r : Reached) (a : RunAnswer) (o : Outcome (Unit {0})) (old map : List Float) (ran : Ran)
+    → Answered r a
+    → ranBy map r ≡ ran
+    → o ≡ gives tt
+    → endedWith a map ≡ endingOf o old ran
+ending-ran r a o old map ran m e f =
+    (λ i. record { outcome = m .answer i; incisions = m .incisions i; passes = m .passes i; questions = m .questions i; map = map })
+    ∙ ap ranTo e ∙ ap (λ (o : Outcome (Unit {0})). endingOf o old ran) (sym f)
+
+-- a number that is neither 0 nor 21 is 22
+pub run-off : (n : ℕ) → Numbered n → (n ≡ 0 → ⊥) → (n ≡ 21 → ⊥) → _≡_ {A = Outcome (Unit {0})} (refused 22) (outcomeOf n)
+run-off n m a b = ⊎-elim (λ e. absurd (a e)) (⊎-elim (λ e. absurd (b e)) (λ e. rw e)) m
+
+-- the ends of a reduced run, with what the code has of the difference, of its tests and of the sum
+module _ (w h dw dh : ℕ) (map small eroded : List Float) (r : Reached) where
+  abbrev sumOf : List Float → List Float
+  sumOf delta = addedOf asSource map w h delta dw dh
+
+  off : (x : Reached) → x ≡ halted 22 (r .marks) r → (b : Bool) → (allFinite (differenceOf eroded small) && allFinite (sumOf (differenceOf eroded small))) ≡ b → b ≡ false
+      → ranBy map x ≡ addedTo w h dw dh map small eroded r
+  off x e b f g = rw (f ∙ g) (ap (ranBy map) e)
+
+  module _ {delta : List Float} {all : Bool} where
+    pub back-difference : {x : Reached} → x ≡ halted 22 (r .marks) r → delta ≡ differenceOf eroded small → all ≡ allFinite delta → all ≡ false
+        → ranBy map x ≡ addedTo w h dw dh map small eroded r
+    back-difference {x} e d a t =
+        let f : allFinite (differenceOf eroded small) ≡ false = ap allFinite (sym d) ∙ sym a ∙ t in
+        off x e _ (rw f) refl
+
+    pub back-sum : {x : Reached} {sums : Bool} → x ≡ halted 22 (r .marks) r → delta ≡ differenceOf eroded small → all ≡ allFinite delta → all ≡ true
+        → sums ≡ allFinite (sumOf delta) → sums ≡ false → ranBy map x ≡ addedTo w h dw dh map small eroded r
+    back-sum {x} e d a t b u =
+        let f : allFinite (differenceOf eroded small) ≡ true = ap allFinite (sym d) ∙ sym a ∙ t in
+        let g : allFinite (sumOf (differenceOf eroded small)) ≡ false = ap (λ (l : List Float). allFinite (sumOf l)) (sym d) ∙ sym b ∙ u in
+        off x e _ (rw (f, g)) refl
+
+    pub back-added : {sums : Bool} {sum : List Float} → delta ≡ differenceOf eroded small → all ≡ allFinite delta → all ≡ true → sums ≡ allFinite (sumOf delta) → sums ≡ true
+        → sum ≡ sumOf delta → r .number ≡ 0 → ranBy sum r ≡ addedTo w h dw dh map small eroded r
+    back-added d a t b u e z =
+        let f : allFinite (differenceOf eroded small) ≡ true = ap allFinite (sym d) ∙ sym a ∙ t in
+        let g : allFinite (sumOf (differenceOf eroded small)) ≡ true = ap (λ (l : List Float). allFinite (sumOf l)) (sym d) ∙ sym b ∙ u in
+        rw (f, g, z) (ap (λ (l : List Float). ranBy l (halted 0 (r .marks) r)) (e ∙ ap sumOf d))

@@ -1,0 +1,3 @@
+-- Laws of what a run has reached, and of its answer.
+pub mod ReachedLaws
+pub mod EndingLaws

@@ -1,0 +1,157 @@
+-- A pass as the code sees it is the pass of the state; the difference of the reduced grids; and the numbers that a run ends with.
+use Prim.Native.Nat.{ℕ, suc, _+_, _≤_, _<_}
+use mathlib.Core.Path.{_≡_, refl, sym, ap, _∙_}
+use mathlib.Core.Bool.{Bool, true, false, _&&_, cond}
+use mathlib.Core.Logic.{_⊎_, inl, inr}
+use mathlib.Core.List.{List}
+use native.Mathlib.Numerals.{add-one}
+use native.Mathlib.Omega.{arith}
+use lib.ListN.{length, getD, set}
+use lib.Dec.{eqb}
+use lib.Ieee.{Float, nan, binary32, sub}
+use Rattle.lists.specs.Loops.{tabulate}
+use Rattle.lists.proofs.TurnLaws.{turns-keep}
+use Rattle.lists.proofs.TableLaws.{filled, filled-none, filled-length, filled-more, filled-done, filled-ahead}
+use Rattle.grid.specs.Heights.{allFinite}
+use Rattle.generators.specs.Marks.{reportOf}
+use Rattle.generators.specs.declared.Progress.{Progress}
+use Rattle.thermal_erosion.specs.SlidePass.{Pass, rowsOf}
+use Rattle.runs.specs.Machine.{Course, State, start, endedBy, cut, openStep, closed}
+use Rattle.runs.specs.Run.{differenceOf}
+use Rattle.runs.specs.Nested.{rowsFrom, passDone, onePass, oneOpening, oneIteration, iterated, Underway}
+use Rattle.runs.proofs.IterationLaws.{pass-is, rows-at}
+use Rattle.erosion.specs.Reached.{Worked, reachedIn, seen, halted, afterMade, afterPass}
+use Rattle.erosion.specs.Ending.{Numbered}
+use Rattle.erosion.specs.declared.Reached.{Reached}
+
+-- the rows of pass q of iteration it from a map
+abbrev pub rowsBy : Course → ℕ → ℕ → List Float → Progress → Pass
+rowsBy c it q map m =
+    rowsOf (c .w) (c .h) (c .thresholds) (c .strength) (c .water) map (c .begins it q) (c .begins it (suc q)) (c .stop) (c .h) m
+
+abbrev pub worked : List Float → Reached → Worked
+worked map r = record { heights = map; reached = r }
+
+seen-done : (c : Course) (s : State) (p : Pass) → seen (passDone c s p) ≡ afterPass (s .heights) (reachedIn s) p
+seen-done c s p = rw add-one (go (p .marks .stopped) (allFinite (p .out)))
+  where
+    completed : Reached
+    completed = record { marks = p .marks; incisions = s .incisions; passes = suc (s .passes); number = 0 }
+
+    go : (a b : Bool) → seen (cond a (endedBy c 21 (p .marks) s) (cond b (closed c (p .out) (p .marks) s) (endedBy c 22 (p .marks) s)))
+        ≡ cond a (record { heights = s .heights; reached = halted 21 (p .marks) (reachedIn s) })
+        (cond b (record { heights = p .out; reached = completed }) (record { heights = s .heights; reached = halted 22 (p .marks) (reachedIn s) }))
+    go true b = refl
+    go false true = refl
+    go false false = refl
+
+-- what the code leaves of a pass is the state after it
+pub pass-seen : (c : Course) (it q : ℕ) (s : State) (map : List Float) (r : Reached) (x : Worked)
+    → Underway c it q s
+    → record { heights = map; reached = r } ≡ seen s
+    → x ≡ afterPass map r (rowsBy c it q map (r .marks))
+    → x ≡ seen (onePass c s)
+pass-seen c it q s map r x u e f =
+    f ∙ ap (λ (x : Worked). afterPass (x .heights) (x .reached) (rowsBy c it q (x .heights) (x .reached .marks))) e
+    ∙ ap (afterPass (s .heights) (reachedIn s)) (sym (rows-at c it s q u (c .h)))
+    ∙ sym (ap seen (pass-is c s (u .number)) ∙ seen-done c s (rowsFrom c (c .h) s))
+
+first : {A : Type 0} (b : Bool) (x y : A) → b ≡ true → x ≡ cond b x y
+first b x y e = sym (ap (λ (b : Bool). cond b x y) e)
+
+second : {A : Type 0} (b : Bool) (x y : A) → b ≡ false → y ≡ cond b x y
+second b x y e = sym (ap (λ (b : Bool). cond b x y) e)
+
+-- the three ends of an incision or a pass, with what the code has reached after it
+module _ (hs : List Float) (r : Reached) (m : Progress) (new : List Float) (completed x : Reached) where
+  pub made-stopped : m .stopped ≡ true → x ≡ halted 21 m r → worked hs x ≡ afterMade hs r m new completed
+  made-stopped t e =
+      ap (worked hs) e ∙ first (m .stopped) _ (cond (allFinite new) (worked new completed) (worked hs (halted 22 m r))) t
+
+  module _ (on : m .stopped ≡ false) (all : Bool) (a : all ≡ allFinite new) where
+    pub made-done : all ≡ true → (map : List Float) → map ≡ new → worked map completed ≡ afterMade hs r m new completed
+    made-done t map e =
+        ap (λ (l : List Float). worked l completed) e ∙ first (allFinite new) _ (worked hs (halted 22 m r)) (sym a ∙ t) ∙ second (m .stopped) (worked hs (halted 21 m r)) _ on
+
+    pub made-off : all ≡ false → x ≡ halted 22 m r → worked hs x ≡ afterMade hs r m new completed
+    made-off t e =
+        ap (worked hs) e ∙ second (allFinite new) (worked new completed) _ (sym a ∙ t) ∙ second (m .stopped) (worked hs (halted 21 m r)) _ on
+
+module _ (hs : List Float) (r : Reached) {new : List Float} {m : Progress} {p : Pass} (e : _≡_ {A = Pass} (record { out = new; marks = m }) p) where
+  abbrev completed : Reached
+  completed = record { marks = m; incisions = r .incisions; passes = r .passes + 1; number = 0 }
+
+  pub pass-stopped : {x : Reached} → m .stopped ≡ true → x ≡ halted 21 m r → worked hs x ≡ afterPass hs r p
+  pass-stopped {x} t f = made-stopped hs r m new completed x t f ∙ ap (afterPass hs r) e
+
+  pub pass-done : {all : Bool} {map : List Float} → m .stopped ≡ false → all ≡ allFinite new → all ≡ true → map ≡ new → worked map completed ≡ afterPass hs r p
+  pass-done {all} {map} on a t f = made-done hs r m new completed completed on all a t map f ∙ ap (afterPass hs r) e
+
+  pub pass-off : {all : Bool} {x : Reached} → m .stopped ≡ false → all ≡ allFinite new → all ≡ false → x ≡ halted 22 m r → worked hs x ≡ afterPass hs r p
+  pass-off {all} {x} on a t f = made-off hs r m new completed x on all a t f ∙ ap (afterPass hs r) e
+
+-- the loop that takes the difference: after i turns the first i places hold it
+pub record Subtracted (small old : List Float) (i : ℕ) (new : List Float) : Type 0 where
+  pub within : i ≤ length old
+  pub held : new ≡ filled (λ k. sub binary32 (getD old k nan) (getD small k nan)) i old
+
+module _ {small old : List Float} where
+  pub subtracted-none : Subtracted small old 0 old
+  subtracted-none = record { within = omega arith; held = filled-none (λ k. sub binary32 (getD old k nan) (getD small k nan)) old }
+
+  module _ {i : ℕ} {new : List Float} (s : Subtracted small old i new) where
+    pub subtracted-length : length new ≡ length old
+    subtracted-length = ap length (s .held) ∙ filled-length (λ k. sub binary32 (getD old k nan) (getD small k nan)) i old (s .within)
+
+    pub subtracted-more : i < length old → Subtracted small old (i + 1) (set new i (sub binary32 (getD new i nan) (getD small i nan)))
+    subtracted-more l = record {
+      within = omega arith;
+      held =
+          ap (λ (l : List Float). set l i (sub binary32 (getD l i nan) (getD small i nan))) (s .held)
+          ∙ ap (λ (x : Float). set (filled (λ k. sub binary32 (getD old k nan) (getD small k nan)) i old) i (sub binary32 x (getD small i nan)))
+          (filled-ahead (λ k. sub binary32 (getD old k nan) (getD small k nan)) i i old nan (omega arith))
+          ∙ filled-more (λ k. sub binary32 (getD old k nan) (getD small k nan)) i old l;
+    }
+
+    pub subtracted-done : length old ≡ length small → length small ≤ i → new ≡ differenceOf old small
+    unfolding differenceOf
+    subtracted-done n l =
+        let e : i ≡ length small = omega (arith, s .within) in
+        s .held ∙ filled-done (λ k. sub binary32 (getD old k nan) (getD small k nan)) i old (n ∙ sym e)
+        ∙ ap (λ (k : ℕ). tabulate k (λ k. sub binary32 (getD old k nan) (getD small k nan))) e
+
+-- every state of a run has one of the three numbers
+module _ (c : Course) where
+  chosen : (a b : Bool) (x y z : State) → Numbered (x .number) → Numbered (y .number) → Numbered (z .number) → Numbered (cond a x (cond b y z) .number)
+  chosen true b x y z p q r = p
+  chosen false true x y z p q r = q
+  chosen false false x y z p q r = r
+
+  pass-numbered : (s : State) → Numbered (s .number) → Numbered (onePass c s .number)
+  unfolding onePass
+  pass-numbered s n = go (eqb (s .number) 0)
+    where
+      p : Pass
+      p = rowsFrom c (c .h) s
+
+      go : (b : Bool) → Numbered (cond b (passDone c s (rowsFrom c (c .h) s)) s .number)
+      go true =
+          chosen (rowsFrom c (c .h) s .marks .stopped) (allFinite (rowsFrom c (c .h) s .out)) (endedBy c 21 _ s) (closed c _ _ s) (endedBy c 22 _ s) (inr (inl refl)) (inl refl)
+          (inr (inr refl))
+      go false = n
+
+  opening-numbered : (s : State) → Numbered (s .number) → Numbered (oneOpening c s .number)
+  unfolding oneOpening
+  opening-numbered s n = go (c .cutting && eqb (s .number) 0)
+    where
+      go : (b : Bool) → Numbered (cond b (openStep c s) s .number)
+      go true =
+          chosen (reportOf (s .marks) (c .opening (s .iteration)) (c .stop) .stopped) (allFinite (c .incision (s .iteration) (s .heights))) (endedBy c 21 _ s) (cut c _ _ s)
+          (endedBy c 22 _ s) (inr (inl refl)) (inl refl) (inr (inr refl))
+      go false = n
+
+  pub iterated-numbered : (n : ℕ) (hs : List Float) → Numbered (iterated c n hs .number)
+  unfolding oneIteration
+  iterated-numbered n hs =
+      turns-keep (λ i. oneIteration c) (λ s. Numbered (s .number)) (start c hs) n (inl refl)
+      (λ i s l p. turns-keep (λ i. onePass c) (λ s. Numbered (s .number)) (oneOpening c s) (c .passes) (opening-numbered s p) (λ i t l. pass-numbered t))

@@ -1,0 +1,67 @@
+-- How the map and the struct Reached stand for a state of the run, and what the shared parts of a run do to them.
+use Prim.Native.Nat.{ℕ, _+_, _*_, _^_, _≤_, _<_}
+use mathlib.Core.Path.{_≡_}
+use mathlib.Core.Bool.{Bool, _&&_, cond}
+use mathlib.Core.List.{List}
+use lib.Ieee.{Float}
+use Rattle.grid.specs.Heights.{allFinite}
+use Rattle.generators.specs.Marks.{fresh}
+use Rattle.generators.specs.declared.Progress.{Progress}
+use Rattle.thermal_erosion.specs.SlidePass.{Pass, Ready}
+use Rattle.resample.specs.Blocks.{downsampled}
+use Rattle.upsample.specs.Samples.{asSource}
+use Rattle.upsample.specs.Samples.{addedOf}
+use Rattle.runs.specs.Machine.{State}
+use Rattle.runs.specs.Run.{Ran, differenceOf}
+use Rattle.erosion.specs.declared.Reached.{Reached}
+
+-- the working map and what the run has reached besides
+pub record Worked : Type 0 where
+  pub heights : List Float
+  pub reached : Reached
+
+-- what they are in a state: all of it that an answer shows
+abbrev pub reachedIn : State → Reached
+reachedIn s = record { marks = s .marks; incisions = s .incisions; passes = s .passes; number = s .number }
+
+abbrev pub seen : State → Worked
+seen s = record { heights = s .heights; reached = reachedIn s }
+
+abbrev pub begun : Reached
+begun = record { marks = fresh; incisions = 0; passes = 0; number = 0 }
+
+-- ended by 21 or 22
+abbrev pub halted : ℕ → Progress → Reached → Reached
+halted number m r = record { marks = m; incisions = r .incisions; passes = r .passes; number = number }
+
+-- What an incision or a pass that made new heights leads to: a stop drops it, and so does a height that is not finite; else it is completed
+abbrev pub afterMade : List Float → Reached → Progress → List Float → Reached → Worked
+afterMade hs r m new completed =
+    cond (m .stopped) (record { heights = hs; reached = halted 21 m r })
+    (cond (allFinite new) (record { heights = new; reached = completed }) (record { heights = hs; reached = halted 22 m r }))
+
+abbrev pub afterPass : List Float → Reached → Pass → Worked
+afterPass hs r p =
+    afterMade hs r (p .marks) (p .out) (record { marks = p .marks; incisions = r .incisions; passes = r .passes + 1; number = 0 })
+
+-- what a pass asks of its grid, the lengths of the map and its copy, and the counts before it
+pub record PassReady (w h map copy : ℕ) (r : Reached) : Type 0 where
+  pub ready : Ready w h map copy (r .marks .asked)
+  pub count : r .passes + 1 < 2 ^ 32
+
+-- what a run that has reached r with this map ends with
+abbrev pub ranBy : List Float → Reached → Ran
+ranBy map r = record { number = r .number; incisions = r .incisions; passes = r .passes; questions = r .marks .asked; map = map }
+
+-- the averages of the map, twice, and whether they are finite
+pub record Reduced (w h dw dh : ℕ) (map : List Float) (finite : Bool) (small eroded : List Float) : Type 0 where
+  pub averages : small ≡ downsampled map w h dw dh
+  pub started : eroded ≡ downsampled map w h dw dh
+  pub finites : finite ≡ allFinite (downsampled map w h dw dh)
+
+-- the difference added to the map; 22 leaves the map as it came
+abbrev pub addedTo : ℕ → ℕ → ℕ → ℕ → List Float → List Float → List Float → Reached → Ran
+addedTo w h dw dh map small eroded r =
+    let delta = differenceOf eroded small in
+    let sum = addedOf asSource map w h delta dw dh in
+    cond (allFinite delta && allFinite sum) (ranBy sum (halted 0 (r .marks) r)) (ranBy map (halted 22 (r .marks) r))

@@ -1,0 +1,37 @@
+-- The refusals of a whole run with the place that one carries, where scratch slices are lent besides the map.
+use Prim.Native.Nat.{ℕ, _*_, _≤_}
+use mathlib.Core.Path.{_≡_}
+use mathlib.Core.Bool.{Bool, true, false, not, _||_, cond}
+use mathlib.Core.List.{List}
+use lib.ListN.{length}
+use lib.Dec.{eqb, ltb}
+use lib.Ieee.{Float}
+use Rattle.answers.specs.Outcome.{Outcome, gives, refused, refusedAt}
+use Rattle.grid.specs.Sides.{badSides, InRange}
+use Rattle.grid.specs.Heights.{firstNotFinite, allFinite}
+use Rattle.runs.specs.Refusals.{refusalBy}
+
+-- 1: a side; 3: a map of another length, or a scratch slice shorter than the map, by the length of the shortest; 4: a setting; 5: a height, with
+-- the first cell whose height is not finite
+abbrev pub refusalOn : ℕ → ℕ → Bool → List Float → ℕ → Outcome (Unit {0})
+refusalOn w h bad map scratch =
+    cond (badSides w h) (refused 1)
+    (cond (not (eqb (length map) (w * h)) || ltb scratch (w * h)) (refused 3)
+    (cond bad (refused 4) (cond (allFinite map) (gives tt) (refusedAt 5 (firstNotFinite map)))))
+
+abbrev pub numberOf : Outcome (Unit {0}) → ℕ
+numberOf (gives _) = 0
+numberOf (refused number) = number
+numberOf (refusedAt number place) = number
+
+-- With scratch enough a whole run refuses just what Refusals.antt says, of which demand 3 speaks.
+abbrev pub SameRefusal : Type 0
+SameRefusal = (w h : ℕ) (bad : Bool) (map : List Float) (scratch : ℕ) → w * h ≤ scratch → numberOf (refusalOn w h bad map scratch) ≡ refusalBy w h bad map
+
+-- what an accepted input is known by
+pub record Accepted (w h : ℕ) (bad : Bool) (map : List Float) (scratch : ℕ) : Type 0 where
+  pub sides : InRange w h
+  pub cells : length map ≡ w * h
+  pub room : w * h ≤ scratch
+  pub settings : bad ≡ false
+  pub finites : allFinite map ≡ true

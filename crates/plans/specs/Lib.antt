@@ -1,0 +1,2 @@
+-- What a whole run refuses.
+pub mod Accepted

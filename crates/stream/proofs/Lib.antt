@@ -1,0 +1,2 @@
+-- Laws of the reader.
+pub mod MarkLaws

@@ -1,0 +1,3 @@
+-- Document 01, 'The stream': the bytes that come in.
+pub mod Bytes
+pub mod Stream

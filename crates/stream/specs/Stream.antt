@@ -1,0 +1,134 @@
+-- The reader of document 01, 'The stream': from bytes to the run that they ask for, or to a refusal.
+use Prim.Native.Nat.{ℕ, zero, suc, _+_, _*_}
+use mathlib.Core.Bool.{Bool, true, not, _&&_, _||_, cond}
+use mathlib.Core.List.{List}
+use lib.ListN.{length}
+use lib.Dec.{eqb, ltb}
+use lib.Ieee.{Float}
+use Rattle.answers.specs.Outcome.{Outcome, gives, refused, refusedAt, refusalOf}
+use Rattle.lists.specs.Loops.{tabulate}
+use Rattle.grid.specs.Sides.{badSides, columnOf, rowOf}
+use Rattle.grid.specs.Heights.{firstNotFinite, allFinite}
+use Rattle.grid.specs.declared.Sides.{Sides}
+use Rattle.runs.specs.Refusals.{badFluvial, badThermal}
+use Rattle.runs.specs.declared.FluvialSettings.{FluvialSettings}
+use Rattle.runs.specs.declared.ThermalSettings.{ThermalSettings}
+use Rattle.stream.specs.Bytes.{number2, number4, float4, gridMark, fluvialMark, thermalMark, rowMark, same, markAt, marked}
+use Rattle.stream.specs.declared.Settings.{Settings}
+use Rattle.stream.specs.declared.Settings.the-variants.{Fluvial, Thermal}
+use Rattle.stream.specs.declared.Header.{Header}
+use Rattle.stream.specs.declared.Read.{Read}
+
+-- What a stream asks for: its header, and the heights of its grid row by row.
+pub record Parsed : Type 0 where
+  pub header : Header
+  pub heights : List Float
+
+-- 47 52: w, h, two bytes each
+abbrev pub sidesAt : List ℕ → Sides
+sidesAt s = record { w = number2 s 2; h = number2 s 4 }
+
+-- how many bytes of values follow the mark of a settings record; 0 for any other mark
+abbrev pub settingsLength : List ℕ → ℕ
+settingsLength mark = cond (same mark fluvialMark) 28 (cond (same mark thermalMark) 24 0)
+
+-- the rows begin behind the grid record of 6 bytes and the settings record
+abbrev pub rowsAt : List ℕ → ℕ
+rowsAt s = 8 + settingsLength (markAt s 6)
+
+-- 46 4C: water level, strength, talus, uplift, iterations, working side, S; four bytes each
+abbrev pub fluvialHeader : List ℕ → Header
+fluvialHeader s =
+    record {
+      size = sidesAt s;
+      settings =
+          Fluvial (record {
+            «water_level» = float4 s 8;
+            strength = float4 s 12;
+            talus = float4 s 16;
+            uplift = float4 s 20;
+            iterations = number4 s 24;
+            «work_res» = number4 s 28;
+          });
+      stop = number4 s 32;
+      rows = rowsAt s;
+    }
+
+-- 54 48: water level, talus, strength, iterations, working side, S; four bytes each
+abbrev pub thermalHeader : List ℕ → Header
+thermalHeader s =
+    record {
+      size = sidesAt s;
+      settings =
+          Thermal (record {
+            «water_level» = float4 s 8;
+            talus = float4 s 12;
+            strength = float4 s 16;
+            iterations = number4 s 20;
+            «work_res» = number4 s 24;
+          });
+      stop = number4 s 28;
+      rows = rowsAt s;
+    }
+
+unfoldable pub headerAt : List ℕ → Header
+headerAt s = cond (marked s 6 fluvialMark) (fluvialHeader s) (thermalHeader s)
+
+-- h records 52 57 of w heights: where row y begins, if the rows begin at a place
+abbrev pub rowLength : ℕ → ℕ
+rowLength w = 2 + 4 * w
+
+abbrev pub rowAt : ℕ → ℕ → ℕ → ℕ
+rowAt rows w y = rows + y * rowLength w
+
+-- the first rows all have their mark
+unfoldable pub rowsMarked : List ℕ → ℕ → ℕ → ℕ → Bool
+rowsMarked s rows w zero = true
+rowsMarked s rows w (suc y) = rowsMarked s rows w y && marked s (rowAt rows w y) rowMark
+
+abbrev pub heightAt : List ℕ → ℕ → ℕ → ℕ → ℕ → Float
+heightAt s rows w x y = float4 s (rowAt rows w y + (2 + 4 * x))
+
+unfoldable pub heightsAt : List ℕ → ℕ → ℕ → ℕ → List Float
+unfolding number4 tabulate
+heightsAt s rows w h = tabulate (w * h) (λ i. heightAt s rows w (columnOf w i) (rowOf w i))
+
+abbrev pub parsedOf : List ℕ → Header → Parsed
+parsedOf s head = record { header = head; heights = heightsAt s (head .rows) (head .size .w) (head .size .h) }
+
+-- 8 of the grid record: another mark, or fewer than its 6 bytes
+unfoldable pub badGrid : List ℕ → Bool
+badGrid s = ltb (length s) 6 || not (marked s 0 gridMark)
+
+-- 8 of the rest: a settings record with another mark, an early end or bytes left over, or a row with another mark
+unfoldable pub badRest : List ℕ → ℕ → ℕ → Bool
+unfolding rowsMarked
+badRest s w h =
+    eqb (settingsLength (markAt s 6)) 0
+    || (not (eqb (length s) (rowAt (rowsAt s) w h)) || not (rowsMarked s (rowsAt s) w h))
+
+-- 4: a setting outside its range
+abbrev pub badSettings : Settings → Bool
+badSettings (Fluvial s) = badFluvial s
+badSettings (Thermal s) = badThermal s
+
+-- 4, then 5: a height not finite
+abbrev pub valuesOf : Parsed → Outcome Parsed
+valuesOf p =
+    cond (badSettings (p .header .settings)) (refused 4)
+    (cond (allFinite (p .heights)) (gives p) (refusedAt 5 (firstNotFinite (p .heights))))
+
+-- Order: grid record 8, 1, 9, the rest 8, 4, 5. The stream check leaves 9, more than 4,096 cells, out: there `limited` is false.
+unfoldable pub readStream : Bool → List ℕ → Outcome Parsed
+unfolding headerAt heightsAt badGrid badRest
+readStream limited s =
+    let w = number2 s 2 in
+    let h = number2 s 4 in
+    cond (badGrid s) (refused 8)
+    (cond (badSides w h) (refused 1)
+    (cond (limited && ltb 4096 (w * h)) (refused 9) (cond (badRest s w h) (refused 8) (valuesOf (parsedOf s (headerAt s))))))
+
+-- the answer of the code in these terms
+abbrev pub readOf : List ℕ → Read → Outcome Parsed
+readOf s (Read.Accepted head) = gives (parsedOf s head)
+readOf s (Read.Refused r) = refusalOf r
