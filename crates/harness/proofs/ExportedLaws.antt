@@ -1,26 +1,28 @@
--- The number of the answer and the slices of a public call are those that its exported call promises.
+-- A pass whose record is the fresh one is the exported pass.
 use Prim.Native.Nat.{ℕ}
-use mathlib.Core.Path.{_≡_, _∙_, ap, subst}
+use mathlib.Core.Path.{_≡_, subst}
 use mathlib.Core.List.{List}
-use lib.Ieee.{Float}
-use Rattle.answers.specs.Outcome.{numberIn}
-use Rattle.generators.specs.declared.Progress.{Progress}
+use lib.Ieee.{Float, binary32, ofBits}
+use Rattle.answers.specs.Outcome.{numberIn, answerOf}
 use Rattle.generators.specs.Marks.{fresh}
+use Rattle.generators.specs.declared.Progress.{Progress}
 use Rattle.thermal_erosion.specs.SlidePass.{SlideMade}
 use Rattle.thermal_erosion.specs.declared.ThermalParams.{ThermalParams}
 use Rattle.thermal_erosion.specs.declared.Slid.{Slid}
-use Rattle.harness.specs.Exported.{numberOfAnswer, SlideExported, zero, one}
+use Rattle.harness.specs.Exported.{Exported, SlideAnswered}
 
-module _ (w h : ℕ) (hs old : List Float) (p : ThermalParams) (stop : ℕ) (slid : Slid) (new : List Float) where
-  made-from-fresh : (m : Progress) → m ≡ fresh → SlideMade w h hs old p zero one m stop slid new → SlideMade w h hs old p zero one fresh stop slid new
-  made-from-fresh m e made = subst (λ (k : Progress). SlideMade w h hs old p zero one k stop slid new) e made
-
-  pub slide-exported :
-      (r : ℕ) (m : Progress)
-      → r ≡ numberOfAnswer (slid .answer)
-      → m ≡ fresh
-      → SlideMade w h hs old p zero one m stop slid new
-      → SlideExported w h hs old p stop r new
-  slide-exported r m number e made =
-      let from = made-from-fresh m e made in
-      record { number = number ∙ ap numberIn (from .answer); heights = from .heights }
+pub slide-exported :
+    (w h : ℕ) (hs old : List Float) (p : ThermalParams) (m : Progress) (stop : ℕ) (slid : Slid) (new : List Float) (number : ℕ)
+    → m ≡ fresh
+    → SlideMade w h hs old p (ofBits binary32 0) (ofBits binary32 0x3f80_0000) m stop slid new
+    → number ≡ numberIn (answerOf (slid .answer))
+    → Exported (SlideAnswered w h hs old p stop new) number
+slide-exported w h hs old p m stop slid new number e made numbered =
+    record {
+      answer = slid .answer;
+      made = record {
+        reached = slid .progress;
+        made = subst (λ (k : Progress). SlideMade w h hs old p (ofBits binary32 0) (ofBits binary32 0x3f80_0000) k stop slid new) e made;
+      };
+      numbered = numbered;
+    }

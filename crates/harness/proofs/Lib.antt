@@ -1,2 +1,2 @@
--- From the public calls' contracts to the exported ones.
+-- From the public calls' promises to the exported ones.
 pub mod ExportedLaws

@@ -41,27 +41,29 @@ fn next_sides() -> Sides {
     Sides { w, h }
 }
 
-// The next length, at most that of space. The second part is what a part of space with that length asks.
-fn next_length(space: &[f32]) -> usize
-    ensures { λ r. ⌜ (r ≤ length (now (space .entry))) × (r ≡ length (take r (now (space .entry)))) ⌝ }
+// n, or the most where n is more.
+fn shorter(n: usize, most: usize) -> usize
+    ensures { λ r. ⌜ r ≤ most ⌝ }
 {
-    let n = word() as usize;
-    let most = space.len();
     if n < most {
         return n;
     }
     most
 }
 
+// The next length, at most that of space. The second part is what a part of space with that length asks.
+fn next_length(space: &[f32]) -> usize
+    ensures { λ r. ⌜ (r ≤ length (now (space .entry))) × (r ≡ length (take r (now (space .entry)))) ⌝ }
+{
+    let n = word() as usize;
+    shorter(n, space.len())
+}
+
 fn next_cells(space: &[u32]) -> usize
     ensures { λ r. ⌜ (r ≤ length (now (space .entry))) × (r ≡ length (take r (now (space .entry)))) ⌝ }
 {
     let n = word() as usize;
-    let most = space.len();
-    if n < most {
-        return n;
-    }
-    most
+    shorter(n, space.len())
 }
 
 fn read_floats(v: &mut [f32]) {

@@ -43,38 +43,36 @@ fn next_sides() -> Sides {
     Sides { w, h }
 }
 
+// n, or the most where n is more.
+fn shorter(n: usize, most: usize) -> usize
+    ensures { λ r. ⌜ r ≤ most ⌝ }
+{
+    if n < most {
+        return n;
+    }
+    most
+}
+
 // The next length, at most that of space. The second part is what a part of space with that length asks.
 fn next_length(space: &[f32]) -> usize
     ensures { λ r. ⌜ (r ≤ length (now (space .entry))) × (r ≡ length (take r (now (space .entry)))) ⌝ }
 {
     let n = word() as usize;
-    let most = space.len();
-    if n < most {
-        return n;
-    }
-    most
+    shorter(n, space.len())
 }
 
 fn next_cells(space: &[u32]) -> usize
     ensures { λ r. ⌜ (r ≤ length (now (space .entry))) × (r ≡ length (take r (now (space .entry)))) ⌝ }
 {
     let n = word() as usize;
-    let most = space.len();
-    if n < most {
-        return n;
-    }
-    most
+    shorter(n, space.len())
 }
 
 fn next_states(space: &[u8]) -> usize
     ensures { λ r. ⌜ (r ≤ length (now (space .entry))) × (r ≡ length (take r (now (space .entry)))) ⌝ }
 {
     let n = word() as usize;
-    let most = space.len();
-    if n < most {
-        return n;
-    }
-    most
+    shorter(n, space.len())
 }
 
 fn read_floats(v: &mut [f32]) {
