@@ -9,13 +9,16 @@ mod source;
 mod standins;
 
 use random::Random;
-use source::erosion::Talus;
+use source::erosion::{Incision, Talus};
+use source::flow::{accumulate, spill, FlowNet};
+use source::fluvial_erosion::{self as fluvial, incision_params};
 use source::Record;
 
 type Sides = (usize, usize);
 
-/// how often each side is measured, in turns
+/// how often both are measured, by turns
 const ROUNDS: usize = 7;
+const ROUNDS_ABOVE_2000: usize = 5;
 
 /// The CPU time of this thread in seconds: what the machine does beside it does not count.
 fn cpu_seconds() -> f64 {
@@ -47,14 +50,14 @@ fn median(mut v: Vec<f64>) -> f64 {
 }
 
 /// Runs both by turns and prints a row of the table: the medians in milliseconds, and the source's over the library's.
-fn row(name: &str, ours: &mut dyn FnMut(), theirs: &mut dyn FnMut()) {
+fn row(call: &str, side: usize, kind: &str, ours: &mut dyn FnMut(), theirs: &mut dyn FnMut()) {
     let (mut a, mut b) = (Vec::new(), Vec::new());
-    for _ in 0..ROUNDS {
+    for _ in 0..if side > 2000 { ROUNDS_ABOVE_2000 } else { ROUNDS } {
         b.push(timed(theirs));
         a.push(timed(ours));
     }
     let (a, b) = (median(a) * 1e3, median(b) * 1e3);
-    println!("| {name} | {b:.2} | {a:.2} | {:.2} |", b / a);
+    println!("| `{call}` | {side}² | {kind} | {b:.2} | {a:.2} | {:.2} |", b / a);
 }
 
 fn same_floats(name: &str, a: &[f32], b: &[f32]) {
@@ -99,20 +102,64 @@ fn terrains(side: usize) -> [(&'static str, Vec<f32>); 2] {
     [("smooth", smooth(&mut r, (side, side))), ("noise", noise(&mut r, (side, side)))]
 }
 
+fn same_cells(name: &str, a: &[u32], b: &[u32]) {
+    assert!(a == b, "{name} differ");
+}
+
+const WATER: f32 = 0.12;
+
+/// The network: both sides keep their slices from run to run.
+fn route(side: usize) {
+    let size = (side, side);
+    for (kind, h) in terrains(side) {
+        let mut ours = calls::Network::new(h.len());
+        let mut theirs = FlowNet::new();
+        row("route", side, kind, &mut || assert!(ours.route(size, &h, WATER) == 0), &mut || {
+            theirs.route(size, &h, WATER)
+        });
+        same_cells("orders", &ours.order, &theirs.order);
+        same_cells("receivers", &ours.recv, &theirs.recv);
+        same_floats("spill heights", &ours.spill, spill(&theirs));
+        same_floats("areas", &ours.area, &theirs.area);
+    }
+}
+
+/// One incision along the flood's network with the source's k for strength 0.6: areas along the list, a copy of the heights, the cut.
+/// The library's call also checks the lent receivers and the list, and every height before and after.
+fn incise(side: usize) {
+    let size = (side, side);
+    let s = Incision { k: 8.0 * 0.6 * (side as f32 / 512.0), uplift: 0.0, water_level: WATER };
+    for (kind, h) in terrains(side) {
+        let mut net = FlowNet::new();
+        net.route(size, &h, WATER);
+        let (recv, order) = (net.recv.clone(), net.order.clone());
+        let (mut ours, mut theirs, mut area) = (vec![0.0; h.len()], vec![0.0; h.len()], vec![0.0; h.len()]);
+        let params = incision_params(s.k, s.uplift, s.water_level);
+        row(
+            "incise",
+            side,
+            kind,
+            &mut || assert!(calls::incise(size, &h, &s, &recv, &order, &mut ours, &mut area) == 0),
+            &mut || {
+                theirs.copy_from_slice(&h);
+                accumulate(&mut net);
+                fluvial::incise(size, &mut theirs, &net, &params);
+            },
+        );
+        same_floats("heights", &ours, &theirs);
+    }
+}
+
 /// One talus pass with the source's threshold for talus 0.5 and its strength 0.5.
 fn slide(side: usize) {
     let size = (side, side);
-    let s = Talus { threshold: 0.03 * 0.25 / (side as f32 / 512.0), strength: 0.5, water_level: 0.12 };
+    let s = Talus { threshold: 0.03 * 0.25 / (side as f32 / 512.0), strength: 0.5, water_level: WATER };
     for (kind, h) in terrains(side) {
         let (mut ours, mut theirs) = (vec![0.0; h.len()], vec![0.0; h.len()]);
-        row(
-            &format!("`slide_pass` {side}² {kind}"),
-            &mut || assert!(calls::slide_pass(size, &h, &mut ours, &s) == 0),
-            &mut || {
-                theirs.copy_from_slice(&h);
-                assert!(source::erosion::slide_pass(size, &h, &mut theirs, &s, (0.0, 1.0), Record::FRESH, 0).0);
-            },
-        );
+        row("slide_pass", side, kind, &mut || assert!(calls::slide_pass(size, &h, &mut ours, &s) == 0), &mut || {
+            theirs.copy_from_slice(&h);
+            assert!(source::erosion::slide_pass(size, &h, &mut theirs, &s, (0.0, 1.0), Record::FRESH, 0).0);
+        });
         same_floats("heights", &ours, &theirs);
     }
 }
@@ -121,9 +168,13 @@ fn main() {
     let args: Vec<String> = std::env::args().skip(1).collect();
     let asked: Vec<usize> = args.iter().filter_map(|a| a.parse().ok()).collect();
     let named: Vec<&String> = args.iter().filter(|a| a.parse::<usize>().is_err()).collect();
-    println!("| call | source, ms | library, ms | source / library |");
-    println!("|---|---|---|---|");
-    let tables: [(&str, fn(usize), &[usize]); 1] = [("slide", slide, &[256, 512, 1024])];
+    println!("| call | grid | terrain | source, ms | library, ms | source / library |");
+    println!("|---|---|---|---|---|---|");
+    let tables: [(&str, fn(usize), &[usize]); 3] = [
+        ("route", route, &[256, 512, 1024, 4096]),
+        ("incise", incise, &[256, 512, 1024]),
+        ("slide", slide, &[256, 512, 1024]),
+    ];
     for (name, measure, sides) in tables {
         if named.is_empty() || named.iter().any(|a| *a == name) {
             for side in if asked.is_empty() { sides } else { &asked[..] } {

@@ -78,6 +78,11 @@ pub mod flow {
         &net.filled
     }
 
+    /// Areas along the network's order once more.
+    pub fn accumulate(net: &mut FlowNet) {
+        net.accumulate();
+    }
+
     /// A network with lent receivers and a lent list, its areas summed along them.
     pub fn lent(recv: &[u32], list: &[u32]) -> FlowNet {
         let mut net = FlowNet::new();

@@ -4,6 +4,44 @@ type Sides = (usize, usize);
 
 mod exported {
     extern "C" {
+        pub fn harness_route(
+            w: usize,
+            h: usize,
+            hmap: *const f32,
+            hmap_len: usize,
+            water_level: f32,
+            order: *mut u32,
+            order_len: usize,
+            recv: *mut u32,
+            recv_len: usize,
+            spill: *mut f32,
+            spill_len: usize,
+            area: *mut f32,
+            area_len: usize,
+            queue: *mut u32,
+            queue_len: usize,
+            status: *mut u8,
+            status_len: usize,
+        ) -> u32;
+
+        pub fn harness_incise(
+            w: usize,
+            h: usize,
+            hmap: *const f32,
+            hmap_len: usize,
+            k: f32,
+            uplift: f32,
+            water_level: f32,
+            recv: *const u32,
+            recv_len: usize,
+            order: *const u32,
+            order_len: usize,
+            out: *mut f32,
+            out_len: usize,
+            area: *mut f32,
+            area_len: usize,
+        ) -> u32;
+
         pub fn harness_slide_pass(
             w: usize,
             h: usize,
@@ -19,9 +57,87 @@ mod exported {
     }
 }
 
+/// The slices that a routing is lent.
+pub struct Network {
+    pub order: Vec<u32>,
+    pub recv: Vec<u32>,
+    pub spill: Vec<f32>,
+    pub area: Vec<f32>,
+    queue: Vec<u32>,
+    status: Vec<u8>,
+}
+
+impl Network {
+    pub fn new(n: usize) -> Network {
+        Network {
+            order: vec![0; n],
+            recv: vec![0; n],
+            spill: vec![0.0; n],
+            area: vec![0.0; n],
+            queue: vec![0; n],
+            status: vec![0; n],
+        }
+    }
+
+    pub fn route(&mut self, size: Sides, hmap: &[f32], water_level: f32) -> u32 {
+        // each slice is the one that its pointer and length name; here and below those written are lent to this call alone
+        unsafe {
+            exported::harness_route(
+                size.0,
+                size.1,
+                hmap.as_ptr(),
+                hmap.len(),
+                water_level,
+                self.order.as_mut_ptr(),
+                self.order.len(),
+                self.recv.as_mut_ptr(),
+                self.recv.len(),
+                self.spill.as_mut_ptr(),
+                self.spill.len(),
+                self.area.as_mut_ptr(),
+                self.area.len(),
+                self.queue.as_mut_ptr(),
+                self.queue.len(),
+                self.status.as_mut_ptr(),
+                self.status.len(),
+            )
+        }
+    }
+}
+
+/// An incision of `hmap` into `out` along receivers and a list.
+pub fn incise(
+    size: Sides,
+    hmap: &[f32],
+    s: &super::Incision,
+    recv: &[u32],
+    order: &[u32],
+    out: &mut [f32],
+    area: &mut [f32],
+) -> u32 {
+    unsafe {
+        exported::harness_incise(
+            size.0,
+            size.1,
+            hmap.as_ptr(),
+            hmap.len(),
+            s.k,
+            s.uplift,
+            s.water_level,
+            recv.as_ptr(),
+            recv.len(),
+            order.as_ptr(),
+            order.len(),
+            out.as_mut_ptr(),
+            out.len(),
+            area.as_mut_ptr(),
+            area.len(),
+        )
+    }
+}
+
 /// A pass from the fresh record, reported from 0 to 1.
 pub fn slide_pass(size: Sides, hmap: &[f32], out: &mut [f32], s: &super::Talus) -> u32 {
-    // the slices are those that the pointers and lengths name, and `out` is lent to this call alone
     unsafe {
         exported::harness_slide_pass(
             size.0,
