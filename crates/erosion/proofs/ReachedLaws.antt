@@ -18,8 +18,8 @@ use Rattle.generators.specs.declared.Progress.{Progress}
 use Rattle.thermal_erosion.specs.SlidePass.{Pass, rowsOf}
 use Rattle.runs.specs.Machine.{Course, State, start, endedBy, cut, openStep, closed}
 use Rattle.runs.specs.Run.{differenceOf}
-use Rattle.runs.specs.Nested.{rowsFrom, passDone, onePass, oneOpening, oneIteration, iterated, Underway}
-use Rattle.runs.proofs.IterationLaws.{pass-is, rows-at}
+use Rattle.runs.specs.Nested.{rowsFrom, passDone, onePass, oneOpening, oneIteration, iterated, Due, Underway}
+use Rattle.runs.proofs.IterationLaws.{pass-is, opening-is, rows-at}
 use Rattle.erosion.specs.Reached.{Worked, reachedIn, seen, halted, afterMade, afterPass}
 use Rattle.erosion.specs.Ending.{Numbered}
 use Rattle.erosion.specs.declared.Reached.{Reached}
@@ -55,6 +55,41 @@ pass-seen c it q s map r x u e f =
     f ∙ ap (λ (x : Worked). afterPass (x .heights) (x .reached) (rowsBy c it q (x .heights) (x .reached .marks))) e
     ∙ ap (afterPass (s .heights) (reachedIn s)) (sym (rows-at c it s q u (c .h)))
     ∙ sym (ap seen (pass-is c s (u .number)) ∙ seen-done c s (rowsFrom c (c .h) s))
+
+-- the opening of iteration it from a map, after its question
+abbrev pub openedBy : Course → ℕ → List Float → Reached → Progress → Worked
+openedBy c it map r m =
+    afterMade map r m (c .incision it map) (record { marks = m; incisions = r .incisions + 1; passes = r .passes; number = 0 })
+
+seen-opened : (c : Course) (s : State) → seen (openStep c s) ≡ openedBy c (s .iteration) (s .heights) (reachedIn s) (reportOf (s .marks) (c .opening (s .iteration)) (c .stop))
+seen-opened c s =
+    rw add-one (go (reportOf (s .marks) (c .opening (s .iteration)) (c .stop)) (c .incision (s .iteration) (s .heights)))
+  where
+    completed : Progress → Reached
+    completed m = record { marks = m; incisions = suc (s .incisions); passes = s .passes; number = 0 }
+
+    both : (m : Progress) (new : List Float) (a b : Bool) → seen (cond a (endedBy c 21 m s) (cond b (cut c new m s) (endedBy c 22 m s)))
+        ≡ cond a (record { heights = s .heights; reached = halted 21 m (reachedIn s) })
+        (cond b (record { heights = new; reached = completed m }) (record { heights = s .heights; reached = halted 22 m (reachedIn s) }))
+    both m new true b = refl
+    both m new false true = refl
+    both m new false false = refl
+
+    go : (m : Progress) (new : List Float) → seen (cond (m .stopped) (endedBy c 21 m s) (cond (allFinite new) (cut c new m s) (endedBy c 22 m s)))
+        ≡ afterMade (s .heights) (reachedIn s) m new (completed m)
+    go m new = both m new (m .stopped) (allFinite new)
+
+-- what the code leaves of an opening is the state after it
+pub opening-seen : (c : Course) (it : ℕ) (s : State) (map : List Float) (r : Reached) (x : Worked)
+    → c .cutting ≡ true
+    → Due c it s
+    → record { heights = map; reached = r } ≡ seen s
+    → x ≡ openedBy c it map r (reportOf (r .marks) (c .opening it) (c .stop))
+    → x ≡ seen (oneOpening c s)
+opening-seen c it s map r x t d e f =
+    f ∙ ap (λ (x : Worked). openedBy c it (x .heights) (x .reached) (reportOf (x .reached .marks) (c .opening it) (c .stop))) e
+    ∙ ap (λ (it : ℕ). openedBy c it (s .heights) (reachedIn s) (reportOf (s .marks) (c .opening it) (c .stop))) (sym (d .iteration))
+    ∙ sym (ap seen (opening-is c s t (d .number)) ∙ seen-opened c s)
 
 first : {A : Type 0} (b : Bool) (x y : A) → b ≡ true → x ≡ cond b x y
 first b x y e = sym (ap (λ (b : Bool). cond b x y) e)

@@ -1,3 +1,4 @@
 -- Laws of plans and of the refusals of whole runs.
 pub mod PlanLaws
 pub mod RefusalLaws
+pub mod InputLaws

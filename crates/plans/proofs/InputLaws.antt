@@ -1,0 +1,54 @@
+-- What a whole run knows of an input that it accepts: its sides, its working sides, and its iterations.
+use Prim.Native.Nat.{ℕ, _*_, _≤_}
+use mathlib.Core.Path.{_≡_, sym, subst}
+use mathlib.Core.Bool.{Bool, true, false, not, _||_, true≢false}
+use mathlib.Core.List.{List}
+use native.Mathlib.Nat.{mul-le-mul}
+use native.Mathlib.Omega.{arith}
+use borrow.Author.Tests.{ltb-false}
+use lib.Dec.{ltb}
+use lib.Ieee.{Float, binary32, ofBits, neg}
+use lib.Ieee.Scale.{finite}
+use Rattle.answers.specs.Outcome.{outsideOf}
+use Rattle.grid.specs.Sides.{InRange}
+use Rattle.grid.specs.declared.Sides.{Sides}
+use Rattle.grid.proofs.SidesLaws.{in-range}
+use Rattle.resample.specs.WorkSize.{Within, workSize}
+use Rattle.resample.proofs.WorkLaws.{work-within}
+use Rattle.runs.specs.Refusals.{notShare, badFluvial, badThermal}
+use Rattle.runs.specs.declared.FluvialSettings.{FluvialSettings}
+use Rattle.runs.specs.declared.ThermalSettings.{ThermalSettings}
+use Rattle.plans.specs.Accepted.{Accepted}
+
+module _ {w h dw dh : ℕ} (n : Within w h dw dh) where
+  -- the working sides are a grid's
+  pub within-range : InRange dw dh
+  within-range = record { columns = n .dw-low; rows = n .dh-low; wide = omega (arith, n .dw-high, n .wide); high = omega (arith, n .dh-high, n .high) }
+
+  -- with no more cells than the map
+  pub within-cells : dw * dh ≤ w * h
+  within-cells = mul-le-mul (n .dw-high) (n .dh-high)
+
+pub accepted-within : {w h : ℕ} {bad : Bool} {map : List Float} {scratch : ℕ} → Accepted w h bad map scratch → (res : ℕ) {work : Sides} → work ≡ workSize w h res
+    → Within w h (work .w) (work .h)
+accepted-within {w} {h} a res e = subst (λ (g : Sides). Within w h (g .w) (g .h)) (sym e) (work-within w h res (in-range (a .sides)))
+
+-- the last of some tests none of which was met
+last-of : (a b c d : Bool) → (a || (b || (c || d))) ≡ false → d ≡ false
+last-of true b c d e = absurd (true≢false e)
+last-of false true c d e = absurd (true≢false e)
+last-of false false true d e = absurd (true≢false e)
+last-of false false false d e = e
+
+pub thermal-iterations : (s : ThermalSettings) → badThermal s ≡ false → s .iterations ≤ 4096
+thermal-iterations s e =
+    ltb-false 4096 (s .iterations) (last-of (not (finite (s .«water_level»))) (notShare (s .talus)) (notShare (s .strength)) (ltb 4096 (s .iterations)) e)
+
+pub fluvial-iterations : (s : FluvialSettings) → badFluvial s ≡ false → s .iterations ≤ 4096
+fluvial-iterations s e =
+    ltb-false 4096 (s .iterations)
+    (last-of false badUplift false (ltb 4096 (s .iterations))
+    (last-of (not (finite (s .«water_level»))) (notShare (s .strength)) (notShare (s .talus)) (badUplift || ltb 4096 (s .iterations)) e))
+  where
+    badUplift : Bool
+    badUplift = outsideOf (s .uplift) (neg (ofBits binary32 0x3f80_0000)) (ofBits binary32 0x3f80_0000)
