@@ -1,4 +1,5 @@
-use Rattle.upsample.specs.Samples.{bilinearOf}
+use denote.Ref.{now}
+use Rattle.upsample.proofs.CornerLaws.{index-in, place-in, sample-by}
 use borrow.Author.Needs.{needs}
 use Rattle.upsample.proofs.sample.Statement.{statement}
 use Rattle.upsample.proofs.sample.Tie as tie
@@ -16,11 +17,14 @@ fract-requires-2 : tie.Need-fract-requires-2
 fract-requires-2 c κs = search needs
 
 sample-at-requires : tie.Need-sample-at-requires
-sample-at-requires c κs = search needs
+sample-at-requires c κs =
+    let p = c .before .before .before .before .before .pre in
+    (place-in p (index-in _ _ (c .before .before .before .index .ensures) (p .w-low)) (index-in _ _ (c .before .index2 .ensures) (p .h-low)), p .size)
 
 returns : tie.Need-returns
-unfolding bilinearOf
-returns c = cc
+returns c =
+    let a = c .before .before .before .before .before .before .args in
+    sample-by (now (a .v)) (a .size .w) (a .size .h) (a .x) (a .y) (c .before .before .before .before .index .ensures) (c .before .before .before .fract .ensures) (c .before .before .index2 .ensures) (c .before .fract2 .ensures) (c .sample-at .ensures)
 
 pub sample-spec : {M : Type 1} → statement M
 sample-spec =
