@@ -1,15 +1,16 @@
 -- The blocks of a side are the source's. With s the side and r the reduced side, block b starts at the least x with b × s ≤ x × r.
 use Prim.Native.Nat.{ℕ, _+_, _-_, _*_, _/_, _^_, _≤_, _<_}
-use mathlib.Core.Path.{_≡_, sym, subst}
+use mathlib.Core.Path.{_≡_, sym, subst, ap₂, _∙_}
+use mathlib.Core.List.{List}
 use native.Mathlib.Nat.{div-lt-iff-lt-mul, le-div-iff-mul-le, div-eq-of-lt-le, mul-comm, lt-div-mul-add, mul-le-mul, mul-le-mul-right}
 use native.Mathlib.Omega.{arith}
 use lib.Dec.{T}
 use lib.IntN.{pos}
-use lib.Ieee.{binary32, inFloat}
-use Rattle.resample.specs.WorkSize.{Within}
+use lib.Ieee.{Float, binary32, div, inFloat}
+use Rattle.resample.specs.WorkSize.{Within, float}
 use Rattle.resample.specs.Places.{Part}
 use Rattle.resample.proofs.WorkLaws.{float-in}
-use Rattle.resample.specs.Blocks.{firstOf, SourceBlocks}
+use Rattle.resample.specs.Blocks.{firstOf, countOf, blockSum, averageOf, SourceBlocks}
 
 module _ (s r : ℕ) (low : 1 ≤ r) where
   -- at or past the first column of block b
@@ -88,3 +89,15 @@ module _ {w h dw dh : ℕ} (in-grid : Within w h dw dh) (x e y f : ℕ) (across 
 
   pub block-float : T (inFloat binary32 (pos ((e - x) * (f - y))))
   block-float = float-in _ block-cells
+
+-- the average of block (bx, by) from its first column and row, and those of the next ones
+pub average-by : (src : List Float) (w h dw dh bx by : ℕ) {x y e f : ℕ} {s : Float}
+    → x ≡ firstOf w dw bx → y ≡ firstOf h dh by → e ≡ firstOf w dw (bx + 1) → f ≡ firstOf h dh (by + 1) → s ≡ blockSum src w x (e - x) y (f - y)
+    → div binary32 s (float ((e - x) * (f - y))) ≡ averageOf src w h dw dh bx by
+unfolding averageOf
+average-by src w h dw dh bx by {x} {y} {e} {f} p q r t u =
+    let nx : e - x ≡ countOf w dw bx = ap₂ _-_ r p in
+    let ny : f - y ≡ countOf h dh by = ap₂ _-_ t q in
+    ap₂ (div binary32)
+    (u ∙ ap₂ (λ (i n : ℕ). blockSum src w i n y (f - y)) p nx ∙ ap₂ (λ (j m : ℕ). blockSum src w (firstOf w dw bx) (countOf w dw bx) j m) q ny)
+    (ap₂ (λ (n m : ℕ). float (n * m)) nx ny)

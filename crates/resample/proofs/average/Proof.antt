@@ -1,8 +1,8 @@
+use denote.Ref.{now}
 use borrow.Author.Needs.{needs}
 use Prim.Native.Nat.{_<_, _≤_}
 use native.Mathlib.Omega.{arith}
-use Rattle.resample.specs.Blocks.{averageOf}
-use Rattle.resample.proofs.BlockLaws.{run-of, block-part, block-cells, block-float}
+use Rattle.resample.proofs.BlockLaws.{run-of, block-part, block-cells, block-float, average-by}
 use Rattle.resample.proofs.average.Statement.{statement}
 use Rattle.resample.proofs.average.Tie as tie
 
@@ -47,8 +47,9 @@ int-to-float-result : tie.Need-int-to-float-result
 int-to-float-result c = block-float (c .before .before .before .before .before .before .before .pre .0) _ _ _ _ (across (c .before .before .before)) (along (c .before .before))
 
 returns : tie.Need-returns
-unfolding averageOf
-returns c = cc
+returns c =
+    let a = c .before .before .before .before .before .before .before .args in
+    average-by (now (a .src)) (a .size .w) (a .size .h) (a .dsize .w) (a .dsize .h) (a .bx) (a .by) (c .before .before .before .before .before .first-of .ensures) (c .before .before .before .before .first-of2 .ensures) (c .before .before .before .first-of3 .ensures) (c .before .before .first-of4 .ensures) (c .before .block-sum .ensures)
 
 pub average-spec : {M : Type 1} → statement M
 average-spec =
