@@ -1,22 +1,21 @@
 -- Laws of the whole flood: after i turns the slices hold the flood after i steps, and the queue its waiting cells.
 use Prim.Native.Nat.{ℕ, zero, suc, _+_, _-_, _*_, _^_, _≤_, _<_}
 use mathlib.Core.Path.{_≡_, refl, sym, ap, _∙_, subst}
-use mathlib.Core.Bool.{true}
 use mathlib.Core.Logic.{inl, inr}
 use mathlib.Core.List.{List, [], _∷_, _++_}
 use native.Mathlib.Numerals.{add-one}
 use native.Mathlib.Omega.{arith}
 use lib.ListN.{length, getD, set, take}
 use lib.Seq.{getD-set-same, getD-set-other, take-suc-set, take-all}
-use lib.Ieee.{Float, nan}
+use lib.Ieee.{Float}
 use borrow.Author.Tests.{eq-eqb, eqb-true}
 use Rattle.float_order.specs.Fit.{Fit}
 use Rattle.grid.proofs.SidesLaws.{cells-bound}
 use Rattle.drainage.specs.Ground.{floats, gridGround}
-use Rattle.drainage.specs.Flood.{Flood, pushAll, leave, waits, leastWaiting, step, floodAfter, flooded}
+use Rattle.drainage.specs.Flood.{Flood, leastWaiting, step, floodAfter, flooded}
 use Rattle.drainage.specs.Ways.{one, times}
 use Rattle.drainage.proofs.TallyLaws.{same-or-not, one-same, one-other, one-eq}
-use Rattle.drainage.proofs.FloodLaws.{Stage, step-leaves, leastWaiting-is, leastWaiting-found, floodAfter-none, floodAfter-more}
+use Rattle.drainage.proofs.FloodLaws.{step-leaves, leastWaiting-is, leastWaiting-found, floodAfter-none, floodAfter-more}
 use Rattle.drainage.proofs.GroundLaws.{grid-stage}
 use Rattle.heap.specs.Queue.{placeOf, within, Popped}
 use Rattle.flood.specs.Slices.{stateOf, Queued, Started, ReachedAll, Accepted, Flooded}

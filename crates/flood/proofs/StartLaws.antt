@@ -1,26 +1,21 @@
 -- Laws of the first state: rows of marks are the list of marks, and the waiting cells gathered are the queue.
-use Prim.Native.Nat.{ℕ, zero, suc, _+_, _*_, _≤_, _<_}
-use mathlib.Core.Path.{_≡_, refl, sym, ap, ap₂, _∙_, subst}
-use mathlib.Core.Bool.{Bool, true, false, _||_, cond}
+use Prim.Native.Nat.{ℕ, _+_, _*_, _≤_, _<_}
+use mathlib.Core.Path.{_≡_, refl, sym, ap, _∙_}
+use mathlib.Core.Bool.{cond}
 use mathlib.Core.Logic.{inl, inr}
-use mathlib.Core.List.{List, [], _∷_}
-use native.Mathlib.Nat.{mul-comm}
+use mathlib.Core.List.{List, []}
 use native.Mathlib.Omega.{arith}
-use lib.ListN.{length, getD, set, take, List·getD-eq-default}
-use lib.Ieee.{Float, nan, le}
-use Rattle.lists.specs.Loops.{turns, tabulate}
-use Rattle.lists.proofs.TurnLaws.{turns-none, turns-more}
-use Rattle.lists.proofs.TableLaws.{filled, filled-none, filled-more, filled-done, filled-length}
+use lib.ListN.{length, getD, List·getD-eq-default}
+use lib.Ieee.{Float, nan}
+use Rattle.lists.specs.Loops.{tabulate}
 use Rattle.grid.specs.Sides.{cellOf}
-use Rattle.grid.specs.Base.{onBorder, baseOf}
-use Rattle.grid.proofs.SidesLaws.{cell-lt}
+use Rattle.grid.specs.Base.{baseOf}
 use Rattle.grid.proofs.BaseLaws.{base-cell}
-use Rattle.drainage.specs.Ground.{floats, gridGround}
 use Rattle.drainage.specs.Flood.{start}
-use Rattle.drainage.specs.Ways.{one, times}
+use Rattle.drainage.specs.Ways.{times}
 use Rattle.drainage.proofs.TallyLaws.{same-or-not, one-same, one-other}
-use Rattle.heap.specs.Queue.{placeOf, within, Heap, Pushed}
-use Rattle.flood.specs.Slices.{stateOf, markOf, rowMarked, Queued, Gathered, Started}
+use Rattle.heap.specs.Queue.{placeOf, Pushed}
+use Rattle.flood.specs.Slices.{stateOf, markOf, Queued, Gathered, Started}
 
 module _ (w h : ℕ) (hs : List Float) (water : Float) where
   -- the marks of all cells, and that of column x, row y

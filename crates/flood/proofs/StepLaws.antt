@@ -1,29 +1,25 @@
 -- Laws of a step: a push, the pushes of a leaver, and a cell's leaving.
-use Prim.Native.Nat.{ℕ, zero, suc, _+_, _-_, _*_, _^_, _≤_, _<_}
-use mathlib.Core.Path.{_≡_, refl, sym, ap, ap₂, _∙_, subst}
-use mathlib.Core.Bool.{Bool, true, false, cond}
+use Prim.Native.Nat.{ℕ, suc, _+_, _*_, _^_, _≤_, _<_}
+use mathlib.Core.Path.{_≡_, sym, ap, ap₂, _∙_, subst}
+use mathlib.Core.Bool.{cond}
 use mathlib.Core.Logic.{inl, inr}
-use mathlib.Core.List.{List, [], _∷_, _++_}
-use native.Mathlib.Nat.{le-of-eq}
+use mathlib.Core.List.{List}
 use native.Mathlib.Numerals.{add-one}
 use native.Mathlib.Omega.{arith}
-use lib.ListN.{length, getD, set, take, length-set, List·getD-eq-default}
-use lib.Seq.{getD-set-same, getD-set-other, take-suc-set, take-all, take-set-le}
-use lib.Dec.{eqb}
+use lib.ListN.{length, getD, set, length-set, List·getD-eq-default}
+use lib.Seq.{getD-set-same, getD-set-other}
 use lib.Ieee.{Float, nan}
-use borrow.Author.Tests.{eq-eqb, ne-eqb, eqb-true}
-use Rattle.lists.specs.Loops.{turns}
+use borrow.Author.Tests.{eq-eqb, ne-eqb}
 use Rattle.lists.proofs.TurnLaws.{turns-none, turns-more}
 use Rattle.floats.specs.Stand.{maxOf}
 use Rattle.grid.specs.Sides.{columnOf, rowOf}
 use Rattle.grid.specs.Directions.{neighbourOf, neighbourAt}
-use Rattle.drainage.specs.Ground.{Ground, floats, gridGround}
-use Rattle.drainage.specs.Flood.{Flood, push, pushAll, leave, place, waits, leastWaiting, step, floodAfter, flooded}
-use Rattle.drainage.specs.Ways.{one, times}
-use Rattle.drainage.proofs.TallyLaws.{same-or-not, one-same, one-other, one-bound, one-eq}
-use Rattle.drainage.proofs.KeptLaws.{getD-inside, pushedTo, floodAfter-none, floodAfter-more}
-use Rattle.drainage.proofs.FloodLaws.{Stage, step-leaves, leastWaiting-is, leastWaiting-found}
-use Rattle.heap.specs.Queue.{placeOf, within, Heap, Pushed, Popped}
+use Rattle.drainage.specs.Ground.{floats, gridGround}
+use Rattle.drainage.specs.Flood.{Flood, push, pushAll}
+use Rattle.drainage.specs.Ways.{one}
+use Rattle.drainage.proofs.TallyLaws.{same-or-not, one-same, one-other, one-bound}
+use Rattle.drainage.proofs.KeptLaws.{getD-inside, pushedTo}
+use Rattle.heap.specs.Queue.{placeOf, within, Heap, Pushed}
 use Rattle.heap.proofs.RoomLaws.{heap-same, heap-room}
 use Rattle.flood.specs.Slices.{stateOf, Sizes, Queued, Reached, ReachedAll}
 

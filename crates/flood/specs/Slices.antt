@@ -1,8 +1,8 @@
 -- How slices stand for the flood of document 01 as crates/drainage defines it: statuses, spill heights, finders and the order, each in a list of
 -- its own, and the waiting cells in a queue.
-use Prim.Native.Nat.{ℕ, suc, _+_, _*_, _^_, _≤_, _<_}
+use Prim.Native.Nat.{ℕ, _*_, _^_, _≤_, _<_}
 use mathlib.Core.Path.{_≡_}
-use mathlib.Core.Bool.{Bool, true, _||_, cond}
+use mathlib.Core.Bool.{true, _||_, cond}
 use mathlib.Core.List.{List, []}
 use lib.ListN.{length, getD, set}
 use lib.Ieee.{Float, nan, le}

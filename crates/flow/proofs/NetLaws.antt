@@ -1,5 +1,5 @@
 -- What the theory of the flood gives the passes after it: finders are neighbours, receivers are cells, and the order is a list of cells.
-use Prim.Native.Nat.{ℕ, _*_, _≤_, _<_}
+use Prim.Native.Nat.{ℕ, _*_, _<_}
 use mathlib.Core.Path.{_≡_, refl, sym, ap₂, _∙_, subst}
 use mathlib.Core.Bool.{Bool, true, false}
 use mathlib.Core.Logic.{inl, inr}
@@ -13,15 +13,15 @@ use Rattle.float_order.specs.Fit.{Fit}
 use Rattle.grid.specs.Directions.{Adjacent}
 use Rattle.grid.proofs.SidesLaws.{cells-bound}
 use Rattle.drainage.specs.Ground.{Ground, floats, gridGround}
-use Rattle.drainage.specs.Flood.{Flood, flooded}
+use Rattle.drainage.specs.Flood.{flooded}
 use Rattle.drainage.specs.Receivers.{receivers}
 use Rattle.drainage.specs.Ways.{times, areasAlong}
 use Rattle.drainage.specs.Chains.{Near}
 use Rattle.drainage.specs.Theorems.{Network}
 use Rattle.drainage.specs.Grids.{Height}
 use Rattle.drainage.proofs.TallyLaws.{same-or-not}
-use Rattle.drainage.proofs.InvariantLaws.{Found, Flooding}
-use Rattle.drainage.proofs.StateLaws.{Stands, Holds, floodAfter-stands, flooded-left, heightOf, viewOf}
+use Rattle.drainage.proofs.InvariantLaws.{Flooding}
+use Rattle.drainage.proofs.StateLaws.{Stands, floodAfter-stands, flooded-left, heightOf, viewOf}
 use Rattle.drainage.proofs.GroundLaws.{gridGround-joined, finite-numbers, grid-heights, grid-networks}
 use Rattle.drainage.proofs.WorkListLaws.{in-lt}
 use Rattle.heap.proofs.RoomLaws.{times-at}

@@ -1,20 +1,17 @@
 -- Laws of the two passes as a whole: finders become receivers row by row, and areas are added backward along a list.
-use Prim.Native.Nat.{ℕ, zero, suc, _+_, _-_, _*_, _≤_, _<_}
+use Prim.Native.Nat.{ℕ, _+_, _*_, _≤_, _<_}
 use mathlib.Core.Path.{_≡_, refl, sym, ap, _∙_, subst}
-use mathlib.Core.Bool.{cond}
-use mathlib.Core.List.{List, [], _∷_}
+use mathlib.Core.List.{List, []}
 use native.Mathlib.Omega.{arith}
-use lib.ListN.{length, getD, set, drop, replicate, length-replicate, getD-replicate, drop-of-length-le}
-use lib.Seq.{getD-set-other, drop-cons, ext-getD}
-use lib.Ieee.{Float, nan, binary32, ofBits}
-use Rattle.lists.specs.Loops.{tabulate}
-use Rattle.lists.proofs.TableLaws.{filled, filled-ahead, length-tabulate, getD-tabulate}
+use lib.ListN.{length, getD, set}
+use lib.Seq.{getD-set-other}
+use lib.Ieee.{Float, nan}
+use Rattle.lists.proofs.TableLaws.{filled, filled-ahead}
 use Rattle.grid.specs.Sides.{cellOf}
 use Rattle.grid.specs.Directions.{Adjacent}
 use Rattle.grid.proofs.SidesLaws.{cell-lt}
 use Rattle.drainage.specs.Ground.{floats, gridGround}
 use Rattle.drainage.specs.Receivers.{receiverOf, receivers}
-use Rattle.drainage.specs.Ways.{areasAlong}
 use Rattle.flood.specs.Slices.{rowBy}
 use Rattle.flood.proofs.RowLaws.{rows-none, rows-more, rows-done, row-more}
 use Rattle.network.specs.Passes.{Finders, Received, RowReceived}

@@ -1,27 +1,22 @@
 -- Laws of the receivers: one neighbour against the best so far, all eight, and the list of them.
-use Prim.Native.Nat.{ℕ, zero, suc, _+_, _*_, _≤_, _<_}
-use mathlib.Core.Path.{_≡_, refl, sym, ap, ap₂, _∙_, subst}
+use Prim.Native.Nat.{ℕ, suc, _+_, _*_, _≤_, _<_}
+use mathlib.Core.Path.{_≡_, refl, sym, ap, ap₂, _∙_}
 use mathlib.Core.Logic.{inr}
 use mathlib.Core.Bool.{Bool, true, false, _&&_, cond}
 use mathlib.Core.List.{List}
 use native.Mathlib.Numerals.{add-one}
 use native.Mathlib.Omega.{arith}
-use lib.ListN.{length, getD, set}
-use lib.Seq.{getD-set-other}
-use lib.Dec.{eqb, ltb}
+use lib.ListN.{length, getD}
+use lib.Dec.{ltb}
 use lib.Ieee.{Float, nan, binary32, lt, sub, div}
 use borrow.Author.Tests.{lt-ltb, le-ltb, eq-eqb, ne-eqb}
-use Rattle.lists.specs.Loops.{turns, tabulate}
+use Rattle.lists.specs.Loops.{turns}
 use Rattle.lists.proofs.TurnLaws.{turns-none, turns-more}
-use Rattle.lists.proofs.TableLaws.{filled, filled-ahead}
-use Rattle.grid.specs.Sides.{cellOf, columnOf, rowOf}
-use Rattle.grid.specs.Directions.{neighbourOf, neighbourAt, Adjacent}
-use Rattle.grid.proofs.SidesLaws.{column-cell, row-cell}
-use Rattle.grid.proofs.NeighbourLaws.{neighbour-cell}
-use Rattle.drainage.specs.Ground.{Ground, floats, gridGround, distances}
-use Rattle.drainage.specs.Receivers.{Steepest, distanceTo, compared, steepestOf, receiverOf, receivers}
+use Rattle.grid.specs.Directions.{neighbourAt, Adjacent}
+use Rattle.drainage.specs.Ground.{floats, gridGround, distances}
+use Rattle.drainage.specs.Receivers.{Steepest, distanceTo, compared, steepestOf, receiverOf}
 use Rattle.network.specs.declared.Best.{Best}
-use Rattle.network.specs.Passes.{steepestAs, Compared, Received, Finders}
+use Rattle.network.specs.Passes.{steepestAs, Compared, Received}
 use Rattle.ways.specs.Apart.{apart}
 use Rattle.ways.proofs.DistanceLaws.{distance-is}
 

@@ -1,12 +1,10 @@
 -- The pass after the flood that puts receivers in the place of finders.
-use Prim.Native.Nat.{ℕ, suc, _*_, _≤_, _<_}
+use Prim.Native.Nat.{ℕ, _*_, _<_}
 use mathlib.Core.Path.{_≡_}
-use mathlib.Core.Bool.{Bool, _||_, cond}
 use mathlib.Core.List.{List}
-use lib.ListN.{length, getD, set}
-use lib.Dec.{eqb}
-use lib.Ieee.{Float, nan, binary32, ofBits, add}
-use Rattle.grid.specs.Sides.{cellOf, columnOf, rowOf}
+use lib.ListN.{getD}
+use lib.Ieee.{Float}
+use Rattle.grid.specs.Sides.{cellOf}
 use Rattle.grid.specs.Directions.{Adjacent}
 use Rattle.drainage.specs.Ground.{floats, gridGround}
 use Rattle.drainage.specs.Receivers.{Steepest, compared, receiverOf}

@@ -4,10 +4,10 @@ use lib.Ieee.{Float}
 use Rattle.lists.specs.Loops.{tabulate}
 use Prim.Native.Nat.{_-_, _≤_}
 use native.Mathlib.Omega.{arith}
-use mathlib.Core.Path.{_≡_, refl, sym, ap, _∙_}
-use lib.ListN.{length, getD, set, length-set}
+use mathlib.Core.Path.{_≡_, refl, ap, _∙_}
+use lib.ListN.{length, getD, length-set}
 use lib.Ieee.{nan}
-use Rattle.lists.proofs.TableLaws.{filled, filled-none, filled-more, filled-done, tabulate-getD}
+use Rattle.lists.proofs.TableLaws.{filled, filled-none, tabulate-getD}
 use Rattle.flood.proofs.copy_heights.Statement.{statement}
 use Rattle.flood.proofs.copy_heights.Tie as tie
 

@@ -1,5 +1,4 @@
 use native.Mathlib.Omega.{arith}
-use mathlib.Core.Path.{sym, ap, _∙_}
 use Rattle.flood.proofs.StartLaws.{gathered-more, gathered-less}
 use borrow.Author.Needs.{needs}
 use Rattle.flood.proofs.gather.Statement.{statement}

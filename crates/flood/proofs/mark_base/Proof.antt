@@ -2,9 +2,9 @@ use Rattle.flood.proofs.StartLaws.{marks, markAt, mark-is}
 use Rattle.flood.proofs.RowLaws.{rows-none, rows-more, rows-done}
 use Prim.Native.Nat.{_-_, _*_, _≤_}
 use native.Mathlib.Omega.{arith}
-use mathlib.Core.Path.{_≡_, refl, sym, ap, _∙_}
+use mathlib.Core.Path.{_≡_, refl, _∙_}
 use lib.ListN.{length}
-use Rattle.lists.proofs.TableLaws.{filled, filled-none}
+use Rattle.lists.proofs.TableLaws.{filled}
 use Rattle.flood.proofs.mark_base.Statement.{statement}
 use Rattle.flood.proofs.mark_base.Tie as tie
 

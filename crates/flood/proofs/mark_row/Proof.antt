@@ -3,12 +3,12 @@ use Rattle.flood.proofs.StartLaws.{markAt}
 use Rattle.flood.proofs.RowLaws.{row-more}
 use Rattle.grid.specs.Sides.{cellOf}
 use Prim.Native.Nat.{_-_, _*_, _≤_, _<_}
-use native.Mathlib.Nat.{le-antisymm, mul-le-mul-right, mul-comm}
+use native.Mathlib.Nat.{mul-le-mul-right, mul-comm}
 use native.Mathlib.Omega.{arith}
-use mathlib.Core.Path.{_≡_, refl, sym, ap, ap₂, _∙_}
-use lib.ListN.{length, set, length-set}
+use mathlib.Core.Path.{_≡_, refl, sym, ap, _∙_}
+use lib.ListN.{length, length-set}
 use Rattle.grid.proofs.SidesLaws.{cell-lt}
-use Rattle.lists.proofs.TurnLaws.{turns-none, turns-more}
+use Rattle.lists.proofs.TurnLaws.{turns-none}
 use Rattle.flood.proofs.mark_row.Statement.{statement}
 use Rattle.flood.proofs.mark_row.Tie as tie
 

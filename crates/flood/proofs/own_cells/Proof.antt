@@ -1,9 +1,9 @@
 use Rattle.flood.proofs.RowLaws.{stored-more, stored-done}
 use Prim.Native.Nat.{_-_, _≤_}
 use native.Mathlib.Omega.{arith}
-use mathlib.Core.Path.{_≡_, refl, sym, ap, _∙_}
-use lib.ListN.{length, getD, set, length-set}
-use Rattle.lists.proofs.TableLaws.{filled, filled-none, filled-more, filled-done}
+use mathlib.Core.Path.{_≡_, refl}
+use lib.ListN.{length, length-set}
+use Rattle.lists.proofs.TableLaws.{filled, filled-none}
 use Rattle.flood.proofs.own_cells.Statement.{statement}
 use Rattle.flood.proofs.own_cells.Tie as tie
 

@@ -1,6 +1,6 @@
 use native.Mathlib.Omega.{arith}
-use mathlib.Core.Path.{refl, sym, ap, _∙_}
-use lib.ListN.{set, length-set}
+use mathlib.Core.Path.{refl}
+use lib.ListN.{length-set}
 use Rattle.flood.proofs.StepLaws.{has-room, respilled, reached-none, reached-old, reached-new}
 use borrow.Author.Needs.{needs}
 use Rattle.flood.proofs.reach.Statement.{statement}

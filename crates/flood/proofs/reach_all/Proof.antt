@@ -1,7 +1,7 @@
 use Rattle.flood.proofs.StepLaws.{sizes-kept, sizes-whole}
 use native.Mathlib.Omega.{arith}
 use Prim.Native.Nat.{_*_, _-_, _≤_}
-use mathlib.Core.Path.{_≡_, refl, sym, ap, _∙_}
+use mathlib.Core.Path.{_≡_, refl, sym, _∙_}
 use lib.ListN.{length}
 use Rattle.grid.proofs.SidesLaws.{some-column, place-of}
 use Rattle.flood.specs.Slices.{Sizes}

@@ -1,11 +1,8 @@
-use native.Mathlib.Omega.{arith}
-use mathlib.Core.Path.{_≡_, refl, sym, ap, _∙_}
+use mathlib.Core.Path.{refl, sym, ap, _∙_}
 use mathlib.Core.Bool.{true, false}
 use borrow.Author.Tests.{not-true, not-false}
 use Rattle.answers.specs.Outcome.{refusedAt}
 use Rattle.grid.proofs.SidesLaws.{good-sides, cells-fit}
-use Rattle.grid.specs.Sides.{badSides, InRange}
-use Rattle.flow.specs.Route.{badLengths}
 use Rattle.flow.proofs.RouteLaws.{answer-is, enough, all-finite, not-all-finite}
 use borrow.Author.Needs.{needs}
 use Rattle.flow.proofs.refusal.Statement.{statement}

@@ -1,7 +1,7 @@
 use lib.Seq.{length-take-le}
 use Rattle.flow.proofs.NetLaws.{finders, downward, sizes-of, received-is, holding}
 use native.Mathlib.Omega.{arith}
-use mathlib.Core.Path.{refl, sym, ap, _∙_}
+use mathlib.Core.Path.{sym, _∙_}
 use borrow.Author.Needs.{needs}
 use Rattle.flow.proofs.route_grid.Statement.{statement}
 use Rattle.flow.proofs.route_grid.Tie as tie

@@ -1,7 +1,7 @@
 use Prim.Native.Nat.{_^_}
 use Prim.Native.Nat.{_-_, _*_, _≤_, _<_}
 use native.Mathlib.Omega.{arith}
-use mathlib.Core.Path.{sym, _∙_}
+use mathlib.Core.Path.{_∙_}
 use Rattle.grid.specs.Sides.{cellOf}
 use Rattle.grid.specs.Directions.{Adjacent}
 use Rattle.grid.proofs.SidesLaws.{cell-lt, cells-bound}
