@@ -1,20 +1,22 @@
 -- The four ways in which a whole run ends, on any course: what the code has after each of them is the run by its loops.
 use Prim.Native.Nat.{ℕ}
-use mathlib.Core.Path.{_≡_, sym, ap, _∙_}
-use mathlib.Core.Bool.{Bool, true, false, _&&_}
+use mathlib.Core.Path.{_≡_, refl, sym, ap, _∙_}
+use mathlib.Core.Bool.{Bool, true, false, _&&_, cond}
+use mathlib.Core.Logic.{inl, inr}
 use mathlib.Core.List.{List}
 use borrow.Author.Tests.{eq-eqb, ne-eqb}
 use lib.Dec.{eqb}
 use lib.Ieee.{Float}
 use Rattle.grid.specs.Heights.{allFinite}
 use Rattle.resample.specs.Blocks.{downsampled}
-use Rattle.upsample.specs.Samples.{asSource}
+use Rattle.upsample.specs.Samples.{asSource, addedOf}
 use Rattle.runs.specs.Machine.{Course}
-use Rattle.runs.specs.Run.{Ran, runFrom}
+use Rattle.runs.specs.Run.{Ran, ranAs, differenceOf, runFrom}
 use Rattle.runs.specs.Nested.{nested}
 use Rattle.erosion.specs.Reached.{Worked, seen, begun, halted, ranBy, addedTo, Reduced}
+use Rattle.erosion.specs.Ending.{Numbered}
 use Rattle.erosion.specs.declared.Reached.{Reached}
-use Rattle.erosion.proofs.ReachedLaws.{worked}
+use Rattle.erosion.proofs.ReachedLaws.{worked, iterated-numbered}
 
 module _ (w h : ℕ) (c : Course) (map : List Float) where
   abbrev pub reducedMap : List Float
@@ -26,6 +28,27 @@ module _ (w h : ℕ) (c : Course) (map : List Float) where
 
   abbrev onMap : Bool
   onMap = eqb (c .w) w && eqb (c .h) h
+
+  -- it ends with one of the three numbers
+  pub whole-numbered : Numbered (wholeRun .number)
+  whole-numbered =
+      go onMap (allFinite reducedMap) (eqb (nested c reducedMap .number) 0)
+      (allFinite (differenceOf (nested c reducedMap .heights) reducedMap)
+      && allFinite (addedOf asSource map w h (differenceOf (nested c reducedMap .heights) reducedMap) (c .w) (c .h)))
+    where
+      back : (e : Bool) (sum : List Float) → Numbered (cond e (ranAs 0 (nested c reducedMap) sum) (ranAs 22 (nested c reducedMap) map) .number)
+      back true sum = inl refl
+      back false sum = inr (inr refl)
+
+      go : (a b d e : Bool)
+          → Numbered (cond a (ranAs (nested c map .number) (nested c map) (nested c map .heights))
+          (cond b (cond d (cond e (ranAs 0 (nested c reducedMap) (addedOf asSource map w h (differenceOf (nested c reducedMap .heights) reducedMap) (c .w) (c .h)))
+          (ranAs 22 (nested c reducedMap) map)) (ranAs (nested c reducedMap .number) (nested c reducedMap) map))
+          (record { number = 22; incisions = 0; passes = 0; questions = 0; map = map })) .number)
+      go true b d e = iterated-numbered c (c .iterations) map
+      go false true true e = back e _
+      go false true false e = iterated-numbered c (c .iterations) reducedMap
+      go false false d e = inr (inr refl)
 
   -- on the map itself
   pub whole-on-map : (new : List Float) (r : Reached) → onMap ≡ true → worked new r ≡ seen (nested c map) → ranBy new r ≡ wholeRun
