@@ -169,7 +169,7 @@ fn replay_bilinear() {
     let n = next_length(&space);
     let v = &mut space[..n];
     read_floats(v);
-    put_value(upsample::bilinear(v, x, y, size));
+    put_value(bilinear::bilinear(v, x, y, size));
 }
 
 // Replays one task. Answers false at the end of the list.

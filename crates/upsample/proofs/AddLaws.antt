@@ -12,8 +12,9 @@ use Rattle.answers.specs.declared.Refusal.{Refusal}
 use Rattle.grid.specs.Heights.{firstNotFinite, allFinite}
 use Rattle.resample.specs.Blocks.{shapeRefusal}
 use Rattle.resample.proofs.RefusalLaws.{Shaped, shape-refused}
-use Rattle.upsample.specs.Places.{Grid}
-use Rattle.upsample.specs.Samples.{asSource, addedOf, Added}
+use Rattle.bilinear.specs.Places.{Grid}
+use Rattle.bilinear.specs.Samples.{asSource}
+use Rattle.upsample.specs.Samples.{addedOf, Added}
 
 pub full-grid : {w h len dw dh dlen : ℕ} → Shaped w h len dw dh dlen → Grid w h len
 full-grid s = omega (arith, s .in-grid, s .full)

@@ -1,5 +1,4 @@
 -- Laws of the definitions in specs/.
-pub mod CornerLaws
 pub mod FiniteLaws
 pub mod RowLaws
 pub mod AddLaws

@@ -8,7 +8,7 @@ use native.Mathlib.Omega.{arith}
 use lib.ListN.{length, getD, take, drop, length-take, length-drop}
 use lib.Seq.{getD-take, getD-drop, take-at, drop-at, drop-drop}
 use lib.Arith.{digits-div, digits-mod}
-use lib.Ieee.{Float, nan, binary32, div}
+use lib.Ieee.{Float, nan, binary32, add, div}
 use lib.Ieee.Fits.{add-fits}
 use borrow.Rule.Slice.PartMut.{putMid, post-is}
 use Rattle.floats.specs.Stand.{fractOf, indexOf}
@@ -18,7 +18,16 @@ use Rattle.lists.proofs.TableLaws.{length-tabulate, tabulate-same}
 use Rattle.resample.proofs.FillLaws.{Filling, filling-none, filling-next, filling-done, table-values}
 use Rattle.resample.specs.WorkSize.{float}
 use Rattle.resample.specs.Blocks.{Values}
-use Rattle.upsample.specs.Samples.{asSource, centreBy, centreOf, bilinearOf, addedIn, addedRow, addedAt, addedOf}
+use Rattle.bilinear.specs.Samples.{asSource, bilinearAt, bilinearOf}
+use Rattle.upsample.specs.Samples.{centreBy, centreOf, addedIn, addedRow, addedAt, addedOf}
+
+-- a height with the sample in column u, in row y and dy of the way to the next
+pub added-by : (height : Float) (v : List Float) (w h : ℕ) {u t : Float} (y : ℕ) (dy : Float) {i : ℕ} {d r : Float}
+    → u ≡ t → i ≡ indexOf w u → d ≡ fractOf u → r ≡ bilinearAt asSource v w h i d y dy
+    → add binary32 height r ≡ addedIn asSource height v w h t y dy
+added-by height v w h y dy a b c e =
+    ap (add binary32 height) (e ∙ ap₂ (λ (k : ℕ) (f : Float). bilinearAt asSource v w h k f y dy) b c)
+    ∙ ap (λ (z : Float). addedIn asSource height v w h z y dy) a
 
 -- the sum at column x of a row
 abbrev pub rowAt : List Float → Float → List Float → ℕ → ℕ → Float → ℕ → Float

@@ -1,9 +1,10 @@
 use denote.Ref.{now}
 use Rattle.upsample.proofs.RowLaws.{filling-start, rows-more, filling-rows, part-small}
-use Rattle.upsample.proofs.CornerLaws.{grid-row}
+use Rattle.bilinear.proofs.CornerLaws.{grid-row}
 use Rattle.resample.proofs.FillLaws.{Filling, filling-length}
 use Rattle.resample.proofs.WorkLaws.{float-in}
-use Rattle.upsample.specs.Samples.{asSource, addedAt, addedOf}
+use Rattle.bilinear.specs.Samples.{asSource}
+use Rattle.upsample.specs.Samples.{addedAt, addedOf}
 use native.Mathlib.Omega.{arith}
 use Prim.Native.Nat.{_≤_, _-_, _*_}
 use Rattle.upsample.proofs.add_into.Statement.{statement}

@@ -1,6 +1,7 @@
 use denote.Ref.{now}
 use borrow.Author.Needs.{needs}
-use Rattle.upsample.proofs.CornerLaws.{index-in, place-in, added-by}
+use Rattle.bilinear.proofs.CornerLaws.{index-in, place-in}
+use Rattle.upsample.proofs.RowLaws.{added-by}
 use Rattle.upsample.proofs.added.Statement.{statement}
 use Rattle.upsample.proofs.added.Tie as tie
 

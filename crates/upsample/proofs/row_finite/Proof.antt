@@ -1,5 +1,5 @@
 use mathlib.Core.Path.{subst}
-use Rattle.upsample.proofs.CornerLaws.{index-in}
+use Rattle.bilinear.proofs.CornerLaws.{index-in}
 use borrow.Author.Tests.{not-true, not-false}
 use lib.Ieee.Scale.{finite}
 use denote.Ref.{now}

@@ -3,10 +3,11 @@ use Rattle.upsample.proofs.RowLaws.{row-tested, part-small}
 use Rattle.lists.specs.Loops.{tabulate}
 use Rattle.grid.specs.Heights.{allFinite}
 use denote.Ref.{now}
-use Rattle.upsample.proofs.CornerLaws.{grid-row}
+use Rattle.bilinear.proofs.CornerLaws.{grid-row}
 use Rattle.upsample.proofs.FiniteLaws.{Finites, finites-start, rows-all, row-more, row-not}
 use Rattle.resample.proofs.WorkLaws.{float-in}
-use Rattle.upsample.specs.Samples.{asSource, addedAt, addedOf}
+use Rattle.bilinear.specs.Samples.{asSource}
+use Rattle.upsample.specs.Samples.{addedAt, addedOf}
 use mathlib.Core.Path.{_≡_, sym, _∙_}
 use native.Mathlib.Omega.{arith}
 use Prim.Native.Nat.{_+_, _≤_, _-_, _*_}

@@ -1,7 +1,7 @@
 use Rattle.resample.proofs.WorkLaws.{float-in}
 use native.Mathlib.Omega.{arith}
-use Rattle.upsample.proofs.bad_coordinate.Statement.{statement}
-use Rattle.upsample.proofs.bad_coordinate.Tie as tie
+use Rattle.bilinear.proofs.bad_coordinate.Statement.{statement}
+use Rattle.bilinear.proofs.bad_coordinate.Tie as tie
 
 int-to-float-result : tie.Need-int-to-float-result
 int-to-float-result c = float-in _ (omega (arith, c .before .before .pre))

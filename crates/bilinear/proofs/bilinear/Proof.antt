@@ -1,13 +1,13 @@
-use Rattle.upsample.proofs.CornerLaws.{grid-good}
-use Rattle.upsample.specs.Places.{Grid}
+use Rattle.bilinear.proofs.CornerLaws.{grid-good}
+use Rattle.bilinear.specs.Places.{Grid}
 use Rattle.resample.proofs.RefusalLaws.{sides-good}
 use borrow.Author.Tests.{not-true, not-false}
 use lib.ListN.{length}
 use denote.Ref.{now}
 use mathlib.Core.Path.{sym, _∙_}
 use borrow.Author.Needs.{needs}
-use Rattle.upsample.proofs.bilinear.Statement.{statement}
-use Rattle.upsample.proofs.bilinear.Tie as tie
+use Rattle.bilinear.proofs.bilinear.Statement.{statement}
+use Rattle.bilinear.proofs.bilinear.Tie as tie
 
 bad-sides-requires : tie.Need-bad-sides-requires
 bad-sides-requires c κs = search needs

@@ -1,9 +1,9 @@
-use Rattle.upsample.proofs.CornerLaws.{place-fits}
+use Rattle.bilinear.proofs.CornerLaws.{place-fits}
 use borrow.Author.Tests.{lt-ltb, le-ltb}
 use native.Mathlib.Omega.{arith}
 use borrow.Author.Needs.{needs}
-use Rattle.upsample.proofs.south_east.Statement.{statement}
-use Rattle.upsample.proofs.south_east.Tie as tie
+use Rattle.bilinear.proofs.south_east.Statement.{statement}
+use Rattle.bilinear.proofs.south_east.Tie as tie
 
 sub-if1 : tie.Need-sub-if1
 sub-if1 c = search needs

@@ -1,8 +1,8 @@
 use denote.Ref.{now}
-use Rattle.upsample.proofs.CornerLaws.{index-in, place-in, sample-by}
+use Rattle.bilinear.proofs.CornerLaws.{index-in, place-in, sample-by}
 use borrow.Author.Needs.{needs}
-use Rattle.upsample.proofs.sample.Statement.{statement}
-use Rattle.upsample.proofs.sample.Tie as tie
+use Rattle.bilinear.proofs.sample.Statement.{statement}
+use Rattle.bilinear.proofs.sample.Tie as tie
 
 index-requires : tie.Need-index-requires
 index-requires c κs = search needs

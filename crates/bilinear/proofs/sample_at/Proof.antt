@@ -1,10 +1,10 @@
 use denote.Ref.{now}
-use Rattle.upsample.proofs.CornerLaws.{sample-is}
-use Rattle.upsample.proofs.CornerLaws.{place-fits, nw-in, ne-in, sw-in, se-in}
+use Rattle.bilinear.proofs.CornerLaws.{sample-is}
+use Rattle.bilinear.proofs.CornerLaws.{place-fits, nw-in, ne-in, sw-in, se-in}
 use native.Mathlib.Omega.{arith}
 use borrow.Author.Needs.{needs}
-use Rattle.upsample.proofs.sample_at.Statement.{statement}
-use Rattle.upsample.proofs.sample_at.Tie as tie
+use Rattle.bilinear.proofs.sample_at.Statement.{statement}
+use Rattle.bilinear.proofs.sample_at.Tie as tie
 
 mul-nw : tie.Need-mul-nw
 mul-nw c = omega (arith, place-fits (c .before .before .pre .0))

@@ -7,14 +7,14 @@ use native.Mathlib.Nat.{mul-comm, mul-le-mul-right}
 use native.Mathlib.Omega.{arith}
 use lib.ListN.{getD}
 use lib.Dec.{eqb, ltb}
-use lib.Ieee.{Float, nan, binary32, add}
+use lib.Ieee.{Float, nan}
 use borrow.Author.Tests.{ltb-true, eqb-true, not-false}
 use Rattle.floats.specs.Stand.{fractOf, indexOf}
 use Rattle.grid.specs.Sides.{badSides}
 use Rattle.grid.specs.Directions.{Place}
 use Rattle.grid.proofs.SidesLaws.{cells-bound, good-sides}
-use Rattle.upsample.specs.Places.{Grid}
-use Rattle.upsample.specs.Samples.{asSource, northEast, southWest, southEast, between, bilinearAt, bilinearOf, addedIn}
+use Rattle.bilinear.specs.Places.{Grid}
+use Rattle.bilinear.specs.Samples.{asSource, northEast, southWest, southEast, between, bilinearAt, bilinearOf}
 
 -- row y ends within the grid
 rows : (w h y : ℕ) → y < h → y * w + w ≤ w * h
@@ -73,14 +73,6 @@ unfolding bilinearOf
 sample-by v w h x y {i} {j} {dx} {dy} a b c d e =
     e ∙ ap₂ (λ (k : ℕ) (f : Float). bilinearAt asSource v w h k f j dy) a b
     ∙ ap₂ (λ (k : ℕ) (f : Float). bilinearAt asSource v w h (indexOf w x) (fractOf x) k f) c d
-
--- a height with the sample in column u, in row y and dy of the way to the next
-pub added-by : (height : Float) (v : List Float) (w h : ℕ) {u t : Float} (y : ℕ) (dy : Float) {i : ℕ} {d r : Float}
-    → u ≡ t → i ≡ indexOf w u → d ≡ fractOf u → r ≡ bilinearAt asSource v w h i d y dy
-    → add binary32 height r ≡ addedIn asSource height v w h t y dy
-added-by height v w h y dy a b c e =
-    ap (add binary32 height) (e ∙ ap₂ (λ (k : ℕ) (f : Float). bilinearAt asSource v w h k f y dy) b c)
-    ∙ ap (λ (z : Float). addedIn asSource height v w h z y dy) a
 
 -- row y of a grid lies within its values, which are few
 pub grid-row : {w h len y : ℕ} → Grid w h len → y < h → (y * w + w ≤ len) × (len ≤ 2 ^ 24)

@@ -1,9 +1,9 @@
-use Rattle.upsample.proofs.CornerLaws.{place-fits}
+use Rattle.bilinear.proofs.CornerLaws.{place-fits}
 use borrow.Author.Tests.{lt-ltb, le-ltb}
 use native.Mathlib.Omega.{arith}
 use borrow.Author.Needs.{needs}
-use Rattle.upsample.proofs.south_west.Statement.{statement}
-use Rattle.upsample.proofs.south_west.Tie as tie
+use Rattle.bilinear.proofs.north_east.Statement.{statement}
+use Rattle.bilinear.proofs.north_east.Tie as tie
 
 sub-if1 : tie.Need-sub-if1
 sub-if1 c = search needs
@@ -29,8 +29,8 @@ add-result-3 c = omega (arith, place-fits (c .before .before .before .pre))
 returns-2 : tie.Need-returns-2
 returns-2 c = rw (le-ltb _ _ (c .before .if1 .left))
 
-pub south-west-spec : {M : Type 1} → statement M
-south-west-spec =
+pub north-east-spec : {M : Type 1} → statement M
+north-east-spec =
     tie.close
     (tie.spec
     sub-if1

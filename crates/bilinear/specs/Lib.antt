@@ -1,0 +1,3 @@
+-- Samples between the cells of a grid.
+pub mod Samples
+pub mod Places

@@ -1,0 +1,61 @@
+-- `bilinear`: the sample between the four cells around a place.
+use Prim.Native.Nat.{ℕ, _+_, _-_, _*_}
+use mathlib.Core.Bool.{Bool, not, _&&_, _||_, cond}
+use mathlib.Core.List.{List}
+use lib.ListN.{length, getD}
+use lib.Dec.{eqb, ltb}
+use lib.Ieee.{Float, nan, binary32, ofBits, add, sub, mul, lt, le}
+use lib.Ieee.Scale.{finite}
+use Rattle.answers.specs.Outcome.{Outcome, gives, refused, refusedAt}
+use Rattle.floats.specs.Stand.{fractOf, indexOf}
+use Rattle.grid.specs.Sides.{badSides}
+use Rattle.grid.specs.Heights.{firstNotFinite, allFinite}
+use Rattle.resample.specs.WorkSize.{float}
+
+-- How a sample past the far edge is taken. `asSource`: the south-east sample is the north-west one as soon as either far edge is reached; the
+-- north-east one is it at the east edge, the south-west one at the south edge.
+pub data FarEdge : Type 0 where
+  asSource : FarEdge
+
+-- the cell of each of the four samples around column x, row y
+abbrev pub northEast : FarEdge → ℕ → ℕ → ℕ → ℕ → ℕ
+northEast asSource w h x y = cond (ltb x (w - 1)) (x + 1 + y * w) (x + y * w)
+
+abbrev pub southWest : FarEdge → ℕ → ℕ → ℕ → ℕ → ℕ
+southWest asSource w h x y = cond (ltb y (h - 1)) (x + (y + 1) * w) (x + y * w)
+
+abbrev pub southEast : FarEdge → ℕ → ℕ → ℕ → ℕ → ℕ
+southEast asSource w h x y = cond (ltb x (w - 1) && ltb y (h - 1)) (x + 1 + (y + 1) * w) (x + y * w)
+
+-- (1 - d) × a + d × b
+abbrev pub between : Float → Float → Float → Float
+between d a b = add binary32 (mul binary32 (sub binary32 (ofBits binary32 0x3f80_0000) d) a) (mul binary32 d b)
+
+-- the sample at column ix, row iy, with dx and dy of the way to the next ones
+abbrev pub bilinearAt : FarEdge → List Float → ℕ → ℕ → ℕ → Float → ℕ → Float → Float
+bilinearAt kind v w h ix dx iy dy =
+    let nw = getD v (ix + iy * w) nan in
+    let ne = getD v (northEast kind w h ix iy) nan in
+    let sw = getD v (southWest kind w h ix iy) nan in
+    let se = getD v (southEast kind w h ix iy) nan in
+    between dy (between dx nw ne) (between dx sw se)
+
+-- the sample at column x, row y, both in cells
+unfoldable pub bilinearOf : FarEdge → List Float → ℕ → ℕ → Float → Float → Float
+bilinearOf kind v w h x y = bilinearAt kind v w h (indexOf w x) (fractOf x) (indexOf h y) (fractOf y)
+
+-- a sample coordinate: from 0 to below its side
+abbrev pub badCoordinate : Float → ℕ → Bool
+badCoordinate x side = not (le (ofBits binary32 0) x && lt x (float side))
+
+-- 1: a side; 3: the length; 4: a coordinate; 5: a value not finite; else `then`
+abbrev pub bilinearRefusal : {A : Type 0} → List Float → Float → Float → ℕ → ℕ → (ℕ → A) → (ℕ → ℕ → A) → A → A
+bilinearRefusal v x y w h number at then =
+    cond (badSides w h) (number 1)
+    (cond (not (eqb (length v) (w * h))) (number 3)
+    (cond (badCoordinate x w || badCoordinate y h) (number 4) (cond (allFinite v) then (at 5 (firstNotFinite v)))))
+
+-- then 22: the sample not finite
+abbrev pub bilinearAnswer : List Float → Float → Float → ℕ → ℕ → Outcome Float
+bilinearAnswer v x y w h =
+    bilinearRefusal v x y w h refused refusedAt (cond (finite (bilinearOf asSource v w h x y)) (gives (bilinearOf asSource v w h x y)) (refused 22))
