@@ -1,5 +1,6 @@
 -- The reader of document 01, 'The stream': from bytes to the run that they ask for, or to a refusal.
-use Prim.Native.Nat.{ℕ, zero, suc, _+_, _*_}
+use Prim.Native.Nat.{ℕ, zero, suc, _+_, _*_, _≤_}
+use mathlib.Core.Path.{_≡_}
 use mathlib.Core.Bool.{Bool, true, not, _&&_, _||_, cond}
 use mathlib.Core.List.{List}
 use lib.ListN.{length}
@@ -7,7 +8,7 @@ use lib.Dec.{eqb, ltb}
 use lib.Ieee.{Float}
 use Rattle.answers.specs.Outcome.{Outcome, gives, refused, refusedAt, refusalOf}
 use Rattle.lists.specs.Loops.{tabulate}
-use Rattle.grid.specs.Sides.{badSides, columnOf, rowOf}
+use Rattle.grid.specs.Sides.{badSides, columnOf, rowOf, InRange}
 use Rattle.grid.specs.Heights.{firstNotFinite, allFinite}
 use Rattle.grid.specs.declared.Sides.{Sides}
 use Rattle.runs.specs.Refusals.{badFluvial, badThermal}
@@ -127,6 +128,12 @@ readStream limited s =
     cond (badGrid s) (refused 8)
     (cond (badSides w h) (refused 1)
     (cond (limited && ltb 4096 (w * h)) (refused 9) (cond (badRest s w h) (refused 8) (valuesOf (parsedOf s (headerAt s))))))
+
+-- rows that fill the stream to its end, of a grid in range
+pub record Framed (s : List ℕ) (rows w h : ℕ) : Type 0 where
+  pub begins : rows ≤ 36
+  pub sides : InRange w h
+  pub whole : length s ≡ rowAt rows w h
 
 -- the answer of the code in these terms
 abbrev pub readOf : List ℕ → Read → Outcome Parsed

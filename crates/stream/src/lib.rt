@@ -13,10 +13,10 @@ ghost use mathlib.Core.Bool.{true, false, not, _&&_};
 ghost use Prim.Native.Nat.{_+_, _*_, _≤_, _<_};
 ghost use lib.Dec.{ltb};
 ghost use lib.ListN.{length};
-ghost use Rattle.grid.specs.Sides.{badSides};
+ghost use Rattle.grid.specs.Sides.{badSides, InRange};
 ghost use Rattle.grid.specs.Heights.{firstNotFinite};
 ghost use Rattle.stream.specs.Bytes.{number2, number4, float4, markAt, marked, rowMark};
-ghost use Rattle.stream.specs.Stream.{sidesAt, settingsLength, rowsAt, fluvialHeader, thermalHeader, headerAt, rowLength, rowAt, rowsMarked, heightAt, heightsAt, parsedOf, badGrid, badRest, badSettings, valuesOf, readStream, readOf};
+ghost use Rattle.stream.specs.Stream.{sidesAt, settingsLength, rowsAt, fluvialHeader, thermalHeader, headerAt, rowLength, rowAt, rowsMarked, heightAt, heightsAt, parsedOf, badGrid, badRest, badSettings, Framed, valuesOf, readStream, readOf};
 
 // The mark of each record.
 pub const GRID: [u8; 2] = *b"GR";
@@ -94,4 +94,80 @@ pub fn has_mark(bytes: &[u8], at: usize, mark: &[u8; 2]) -> bool
         return false;
     }
     bytes[at + 1] == mark[1]
+}
+
+// 8 of the grid record: another mark, or fewer than its 6 bytes.
+fn bad_grid(bytes: &[u8]) -> bool
+    ensures { λ r. ⌜ r ≡ badGrid (now (bytes .entry)) ⌝ }
+{
+    if bytes.len() < 6 {
+        return true;
+    }
+    !has_mark(bytes, 0, &GRID)
+}
+
+// The sides that the grid record gives.
+fn sides(bytes: &[u8]) -> Sides
+    requires { ⌜ 6 ≤ length (now bytes) ⌝ }
+    ensures { λ r. ⌜ r ≡ sidesAt (now (bytes .entry)) ⌝ }
+{
+    Sides {
+        w: read_u16(bytes, 2) as usize,
+        h: read_u16(bytes, 4) as usize,
+    }
+}
+
+// How many bytes of values follow the mark of the settings record; 0 for any other mark.
+fn settings_length(bytes: &[u8]) -> usize
+    ensures { λ r. ⌜ r ≡ settingsLength (markAt (now (bytes .entry)) 6) ⌝ }
+{
+    if has_mark(bytes, 6, &FLUVIAL) {
+        return 28;
+    }
+    if has_mark(bytes, 6, &THERMAL) {
+        return 24;
+    }
+    0
+}
+
+// Whether h rows of w heights that begin at a place all have their mark.
+fn rows_marked(bytes: &[u8], rows: usize, w: usize, h: usize) -> bool
+    requires { ⌜ Framed (now bytes) rows w h ⌝ }
+    ensures { λ r. ⌜ r ≡ rowsMarked (now (bytes .entry)) rows w h ⌝ }
+{
+    let step = 2 + 4 * w;
+    let mut at = rows;
+    let mut y: usize = 0;
+    while y < h {
+        if !has_mark(bytes, at, &ROW) {
+            return false;
+        }
+        at += step;
+        y += 1;
+    }
+    true
+}
+
+// The bytes of all rows of a grid.
+fn rows_length(size: Sides) -> usize
+    requires { ⌜ InRange (size .w) (size .h) ⌝ }
+    ensures { λ r. ⌜ r ≡ size .h * rowLength (size .w) ⌝ }
+{
+    size.h * (2 + 4 * size.w)
+}
+
+// 8 of the rest: a settings record with another mark, an early end or bytes left over, or a row with another mark.
+fn bad_rest(bytes: &[u8], size: Sides) -> bool
+    requires { ⌜ InRange (size .w) (size .h) ⌝ }
+    ensures { λ r. ⌜ r ≡ badRest (now (bytes .entry)) (size .w) (size .h) ⌝ }
+{
+    let settings = settings_length(bytes);
+    if settings == 0 {
+        return true;
+    }
+    let rows = 8 + settings;
+    if bytes.len() != rows + rows_length(size) {
+        return true;
+    }
+    !rows_marked(bytes, rows, size.w, size.h)
 }
