@@ -1,3 +1,5 @@
 -- Laws of the reader.
 pub mod MarkLaws
 pub mod RecordLaws
+pub mod CellLaws
+pub mod ReaderLaws

@@ -7,20 +7,14 @@ use mathlib.Core.List.{List}
 use native.Mathlib.Nat.{mul-le-mul}
 use native.Mathlib.Numerals.{add-one}
 use native.Mathlib.Omega.{arith}
-use borrow.Author.Tests.{ltb-true, ltb-false, lt-ltb, le-ltb, eq-eqb, ne-eqb, not-true, not-false}
+use borrow.Author.Tests.{lt-ltb, le-ltb, eq-eqb, ne-eqb, not-true, not-false}
+use lib.Arith.{lt-of-le-ne}
 use lib.Dec.{eqb, ltb}
 use lib.ListN.{length}
 use Rattle.grid.specs.Sides.{InRange}
 use Rattle.drainage.proofs.TallyLaws.{same-or-not}
 use Rattle.stream.specs.Bytes.{gridMark, fluvialMark, thermalMark, rowMark, same, markAt, marked}
 use Rattle.stream.specs.Stream.{settingsLength, rowsAt, rowLength, rowAt, rowsMarked, badGrid, badRest, Framed}
-
-ne-lt : (y h : ℕ) → (y ≡ h → ⊥) → y < suc h → y < h
-ne-lt y h d l = ltb-true y h (go (ltb y h) refl)
-  where
-    go : (b : Bool) → ltb y h ≡ b → ltb y h ≡ true
-    go true e = e
-    go false e = absurd (d (omega (arith, ltb-false y h e)))
 
 and-false : (b : Bool) → (b && false) ≡ false
 and-false true = refl
@@ -72,7 +66,7 @@ module _ (s : List ℕ) (rows w : ℕ) where
   unmarked (suc h) y l e =
       ⊎-elim
       (λ (same : y ≡ h). ap (λ (i : ℕ). rowsMarked s rows w h && marked s (rowAt rows w i) rowMark) (sym same) ∙ ap (λ (b : Bool). rowsMarked s rows w h && b) e ∙ and-false (rowsMarked s rows w h))
-      (λ (other : y ≡ h → ⊥). ap (λ (b : Bool). b && marked s (rowAt rows w h) rowMark) (unmarked h y (omega (arith, ne-lt y h other l)) e))
+      (λ (other : y ≡ h → ⊥). ap (λ (b : Bool). b && marked s (rowAt rows w h) rowMark) (unmarked h y (lt-of-le-ne (omega arith) other) e))
       (same-or-not y h)
 
   module _ {h at y : ℕ} (m : Marked h at y) (b : Bool) (e : b ≡ marked s at rowMark) where

@@ -1,7 +1,7 @@
 -- The reader of document 01, 'The stream': from bytes to the run that they ask for, or to a refusal.
 use Prim.Native.Nat.{ℕ, zero, suc, _+_, _*_, _≤_}
 use mathlib.Core.Path.{_≡_}
-use mathlib.Core.Bool.{Bool, true, not, _&&_, _||_, cond}
+use mathlib.Core.Bool.{Bool, true, false, not, _&&_, _||_, cond}
 use mathlib.Core.List.{List}
 use lib.ListN.{length}
 use lib.Dec.{eqb, ltb}
@@ -38,39 +38,33 @@ abbrev pub rowsAt : List ℕ → ℕ
 rowsAt s = 8 + settingsLength (markAt s 6)
 
 -- 46 4C: water level, strength, talus, uplift, iterations, working side, S; four bytes each
-abbrev pub fluvialHeader : List ℕ → Header
-fluvialHeader s =
+abbrev pub fluvialAt : List ℕ → FluvialSettings
+fluvialAt s =
     record {
-      size = sidesAt s;
-      settings =
-          Fluvial (record {
-            «water_level» = float4 s 8;
-            strength = float4 s 12;
-            talus = float4 s 16;
-            uplift = float4 s 20;
-            iterations = number4 s 24;
-            «work_res» = number4 s 28;
-          });
-      stop = number4 s 32;
-      rows = rowsAt s;
+      «water_level» = float4 s 8;
+      strength = float4 s 12;
+      talus = float4 s 16;
+      uplift = float4 s 20;
+      iterations = number4 s 24;
+      «work_res» = number4 s 28;
     }
 
+abbrev pub fluvialHeader : List ℕ → Header
+fluvialHeader s = record { size = sidesAt s; settings = Fluvial (fluvialAt s); stop = number4 s 32; rows = rowsAt s }
+
 -- 54 48: water level, talus, strength, iterations, working side, S; four bytes each
-abbrev pub thermalHeader : List ℕ → Header
-thermalHeader s =
+abbrev pub thermalAt : List ℕ → ThermalSettings
+thermalAt s =
     record {
-      size = sidesAt s;
-      settings =
-          Thermal (record {
-            «water_level» = float4 s 8;
-            talus = float4 s 12;
-            strength = float4 s 16;
-            iterations = number4 s 20;
-            «work_res» = number4 s 24;
-          });
-      stop = number4 s 28;
-      rows = rowsAt s;
+      «water_level» = float4 s 8;
+      talus = float4 s 12;
+      strength = float4 s 16;
+      iterations = number4 s 20;
+      «work_res» = number4 s 24;
     }
+
+abbrev pub thermalHeader : List ℕ → Header
+thermalHeader s = record { size = sidesAt s; settings = Thermal (thermalAt s); stop = number4 s 28; rows = rowsAt s }
 
 unfoldable pub headerAt : List ℕ → Header
 headerAt s = cond (marked s 6 fluvialMark) (fluvialHeader s) (thermalHeader s)
@@ -90,9 +84,12 @@ rowsMarked s rows w (suc y) = rowsMarked s rows w y && marked s (rowAt rows w y)
 abbrev pub heightAt : List ℕ → ℕ → ℕ → ℕ → ℕ → Float
 heightAt s rows w x y = float4 s (rowAt rows w y + (2 + 4 * x))
 
+abbrev pub cellAt : List ℕ → ℕ → ℕ → ℕ → Float
+cellAt s rows w i = heightAt s rows w (columnOf w i) (rowOf w i)
+
 unfoldable pub heightsAt : List ℕ → ℕ → ℕ → ℕ → List Float
 unfolding number4 tabulate
-heightsAt s rows w h = tabulate (w * h) (λ i. heightAt s rows w (columnOf w i) (rowOf w i))
+heightsAt s rows w h = tabulate (w * h) (cellAt s rows w)
 
 abbrev pub parsedOf : List ℕ → Header → Parsed
 parsedOf s head = record { header = head; heights = heightsAt s (head .rows) (head .size .w) (head .size .h) }
@@ -134,6 +131,11 @@ pub record Framed (s : List ℕ) (rows w h : ℕ) : Type 0 where
   pub begins : rows ≤ 36
   pub sides : InRange w h
   pub whole : length s ≡ rowAt rows w h
+
+-- a stream of which nothing is refused by 8, on a grid in range
+pub record Whole (s : List ℕ) (w h : ℕ) : Type 0 where
+  pub sides : InRange w h
+  pub rest : badRest s w h ≡ false
 
 -- the answer of the code in these terms
 abbrev pub readOf : List ℕ → Read → Outcome Parsed

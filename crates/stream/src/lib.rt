@@ -16,7 +16,7 @@ ghost use lib.ListN.{length};
 ghost use Rattle.grid.specs.Sides.{badSides, InRange};
 ghost use Rattle.grid.specs.Heights.{firstNotFinite};
 ghost use Rattle.stream.specs.Bytes.{number2, number4, float4, markAt, marked, rowMark};
-ghost use Rattle.stream.specs.Stream.{sidesAt, settingsLength, rowsAt, fluvialHeader, thermalHeader, headerAt, rowLength, rowAt, rowsMarked, heightAt, heightsAt, parsedOf, badGrid, badRest, badSettings, Framed, valuesOf, readStream, readOf};
+ghost use Rattle.stream.specs.Stream.{sidesAt, settingsLength, rowsAt, fluvialHeader, thermalHeader, headerAt, rowLength, rowAt, rowsMarked, heightAt, heightsAt, parsedOf, badGrid, badRest, badSettings, Framed, Whole, fluvialAt, thermalAt, cellAt, valuesOf, readStream, readOf};
 
 // The mark of each record.
 pub const GRID: [u8; 2] = *b"GR";
@@ -170,4 +170,153 @@ fn bad_rest(bytes: &[u8], size: Sides) -> bool
         return true;
     }
     !rows_marked(bytes, rows, size.w, size.h)
+}
+
+// The values of a fluvial settings record.
+fn read_fluvial(bytes: &[u8]) -> FluvialSettings
+    requires { ⌜ 32 ≤ length (now bytes) ⌝ }
+    ensures { λ r. ⌜ r ≡ fluvialAt (now (bytes .entry)) ⌝ }
+{
+    FluvialSettings {
+        water_level: read_f32(bytes, 8),
+        strength: read_f32(bytes, 12),
+        talus: read_f32(bytes, 16),
+        uplift: read_f32(bytes, 20),
+        iterations: read_u32(bytes, 24),
+        work_res: read_u32(bytes, 28),
+    }
+}
+
+// The values of a thermal settings record.
+fn read_thermal(bytes: &[u8]) -> ThermalSettings
+    requires { ⌜ 28 ≤ length (now bytes) ⌝ }
+    ensures { λ r. ⌜ r ≡ thermalAt (now (bytes .entry)) ⌝ }
+{
+    ThermalSettings {
+        water_level: read_f32(bytes, 8),
+        talus: read_f32(bytes, 12),
+        strength: read_f32(bytes, 16),
+        iterations: read_u32(bytes, 20),
+        work_res: read_u32(bytes, 24),
+    }
+}
+
+// What the grid and settings records of a stream that is whole say.
+fn read_header(bytes: &[u8], size: Sides) -> Header
+    requires { ⌜ size ≡ sidesAt (now bytes) ⌝ }
+    requires { ⌜ Whole (now bytes) (size .w) (size .h) ⌝ }
+    ensures { λ r. ⌜ r ≡ headerAt (now (bytes .entry)) ⌝ }
+{
+    if has_mark(bytes, 6, &FLUVIAL) {
+        return Header {
+            size: size,
+            settings: Settings::Fluvial(read_fluvial(bytes)),
+            stop: read_u32(bytes, 32),
+            rows: 36,
+        };
+    }
+    Header {
+        size: size,
+        settings: Settings::Thermal(read_thermal(bytes)),
+        stop: read_u32(bytes, 28),
+        rows: 32,
+    }
+}
+
+// 4: a setting outside its range.
+fn bad_settings(settings: Settings) -> bool
+    ensures { λ r. ⌜ r ≡ badSettings settings ⌝ }
+{
+    match settings {
+        Settings::Fluvial(s) => bad_fluvial(s),
+        Settings::Thermal(s) => bad_thermal(s),
+    }
+}
+
+// 9: more cells than the program takes.
+fn too_many(limited: bool, size: Sides) -> bool
+    requires { ⌜ InRange (size .w) (size .h) ⌝ }
+    ensures { λ r. ⌜ r ≡ (limited && ltb 4096 (size .w * size .h)) ⌝ }
+{
+    if limited {
+        return size.w * size.h > 4096;
+    }
+    false
+}
+
+// The height of a cell, where the rows begin at a place.
+fn height(bytes: &[u8], rows: usize, size: Sides, i: usize) -> f32
+    requires { ⌜ Framed (now bytes) rows (size .w) (size .h) ⌝ }
+    requires { ⌜ i < size .w * size .h ⌝ }
+    ensures { λ r. ⌜ r ≡ cellAt (now (bytes .entry)) rows (size .w) i ⌝ }
+{
+    let row = i / size.w * (2 + 4 * size.w);
+    read_f32(bytes, rows + row + (2 + 4 * (i % size.w)))
+}
+
+// The first cell whose height is not finite; the number of cells where every height is finite.
+fn first_bad_height(bytes: &[u8], rows: usize, size: Sides) -> usize
+    requires { ⌜ Framed (now bytes) rows (size .w) (size .h) ⌝ }
+    ensures { λ r. ⌜ r ≡ firstNotFinite (heightsAt (now (bytes .entry)) rows (size .w) (size .h)) ⌝ }
+{
+    let n = size.w * size.h;
+    let mut i: usize = 0;
+    while i < n {
+        if !is_finite(height(bytes, rows, size, i)) {
+            return i;
+        }
+        i += 1;
+    }
+    n
+}
+
+// Writes the heights of the stream into the map.
+pub fn load(bytes: &[u8], rows: usize, size: Sides, map: &mut [f32])
+    requires { ⌜ Framed (now bytes) rows (size .w) (size .h) ⌝ }
+    requires { ⌜ length (now map) ≡ size .w * size .h ⌝ }
+    ensures { λ _. ⌜ now (map .exit) ≡ heightsAt (now (bytes .entry)) rows (size .w) (size .h) ⌝ }
+{
+    let n = size.w * size.h;
+    let mut i: usize = 0;
+    while i < n {
+        map[i] = height(bytes, rows, size, i);
+        i += 1;
+    }
+}
+
+// 4 and 5 of a stream that is whole.
+fn checked(bytes: &[u8], head: Header) -> Read
+    requires { ⌜ Framed (now bytes) (head .rows) (head .size .w) (head .size .h) ⌝ }
+    ensures { λ r. ⌜ readOf (now (bytes .entry)) r ≡ valuesOf (parsedOf (now (bytes .entry)) head) ⌝ }
+{
+    let settings = head.settings;
+    if bad_settings(settings) {
+        return Read::Refused(Refusal::Setting);
+    }
+    let size = head.size;
+    let cell = first_bad_height(bytes, head.rows, size);
+    if cell != size.w * size.h {
+        return Read::Refused(Refusal::Height(cell));
+    }
+    Read::Accepted(head)
+}
+
+// Reads a stream, the one way to what it asks for. The stream check leaves 9 out: there `limited` is false.
+pub fn read_stream(limited: bool, bytes: &[u8]) -> Read
+    ensures { λ r. ⌜ readOf (now (bytes .entry)) r ≡ readStream limited (now (bytes .entry)) ⌝ }
+{
+    if bad_grid(bytes) {
+        return Read::Refused(Refusal::Stream);
+    }
+    let size = sides(bytes);
+    if bad_sides(size) {
+        return Read::Refused(Refusal::Side);
+    }
+    if too_many(limited, size) {
+        return Read::Refused(Refusal::Cells);
+    }
+    if bad_rest(bytes, size) {
+        return Read::Refused(Refusal::Stream);
+    }
+    checked(bytes, read_header(bytes, size))
 }

@@ -1,0 +1,153 @@
+-- The header of a whole stream, and the order in which a stream is refused.
+use Prim.Native.Nat.{ℕ, _+_, _*_, _≤_, _<_}
+use mathlib.Core.Path.{_≡_, refl, sym, ap, ap₂, subst, _∙_}
+use mathlib.Core.Bool.{Bool, true, false, not, _&&_, _||_, cond, true≢false}
+use mathlib.Core.List.{List}
+use native.Mathlib.Omega.{arith}
+use borrow.Author.Tests.{ltb-false, eqb-true, eqb-false, ne-eqb, eq-eqb, not-false}
+use lib.Dec.{eqb, ltb}
+use lib.ListN.{length}
+use Rattle.answers.specs.Outcome.{Outcome, gives, refused, refusedAt}
+use Rattle.grid.specs.Sides.{badSides, InRange}
+use Rattle.grid.specs.Heights.{firstNotFinite, allFinite}
+use Rattle.grid.specs.declared.Sides.{Sides}
+use Rattle.grid.proofs.SidesLaws.{good-sides}
+use Rattle.runs.specs.declared.FluvialSettings.{FluvialSettings}
+use Rattle.runs.specs.declared.ThermalSettings.{ThermalSettings}
+use Rattle.stream.specs.Bytes.{number4, gridMark, fluvialMark, thermalMark, same, markAt, marked}
+use Rattle.stream.specs.Stream.{Parsed, sidesAt, settingsLength, rowsAt, rowAt, rowsMarked, fluvialAt, thermalAt, fluvialHeader, thermalHeader, headerAt, heightsAt, parsedOf, badGrid, badRest, badSettings, valuesOf, readStream, Framed, Whole}
+use Rattle.stream.specs.declared.Settings.the-variants.{Fluvial, Thermal}
+use Rattle.stream.specs.declared.Header.{Header}
+use Rattle.stream.proofs.RecordLaws.{settings-few}
+use Rattle.stream.proofs.CellLaws.{heights-length}
+
+or-left : (a b : Bool) → (a || b) ≡ false → a ≡ false
+or-left true b e = e
+or-left false b e = refl
+
+or-right : (a b : Bool) → (a || b) ≡ false → b ≡ false
+or-right true b e = absurd (true≢false e)
+or-right false b e = e
+
+module _ {s : List ℕ} {w h : ℕ} (whole : Whole s w h) where
+  opened : (eqb (settingsLength (markAt s 6)) 0 || (not (eqb (length s) (rowAt (rowsAt s) w h)) || not (rowsMarked s (rowsAt s) w h))) ≡ false
+  unfolding badRest
+  opened = whole .rest
+
+  some-settings : settingsLength (markAt s 6) ≡ 0 → ⊥
+  some-settings = eqb-false (settingsLength (markAt s 6)) 0 (or-left _ _ opened)
+
+  filled-up : length s ≡ rowAt (rowsAt s) w h
+  filled-up = eqb-true (length s) (rowAt (rowsAt s) w h) (not-false _ (or-left _ _ (or-right (eqb (settingsLength (markAt s 6)) 0) _ opened)))
+
+  -- the two kinds of settings record, by the mark
+  module _ {b : Bool} (e : b ≡ marked s 6 fluvialMark) where
+    rows-fluvial : b ≡ true → rowsAt s ≡ 36
+    rows-fluvial t = rw (sym e ∙ t)
+
+    pub room-fluvial : b ≡ true → 36 ≤ length s
+    room-fluvial t = omega (arith, rows-fluvial t, filled-up)
+
+    pub header-fluvial : b ≡ true → {size : Sides} {f : FluvialSettings} {stop : ℕ} → size ≡ sidesAt s → f ≡ fluvialAt s → stop ≡ number4 s 32
+        → _≡_ {A = Header} (record { size = size; settings = Fluvial f; stop = stop; rows = 36 }) (headerAt s)
+    unfolding headerAt
+    header-fluvial t {size} {f} {stop} a c d =
+        (λ i. record { size = a i; settings = Fluvial (c i); stop = d i; rows = sym (rows-fluvial t) i }) ∙ sym (rw (sym e ∙ t))
+
+    rows-thermal : b ≡ false → rowsAt s ≡ 32
+    rows-thermal t = go (same (markAt s 6) fluvialMark) (same (markAt s 6) thermalMark) (sym e ∙ t) some-settings
+      where
+        go : (f t : Bool) → f ≡ false → (_≡_ {A = ℕ} (cond f 28 (cond t 24 0)) 0 → ⊥) → _≡_ {A = ℕ} (8 + cond f 28 (cond t 24 0)) 32
+        go true t e d = absurd (true≢false e)
+        go false true e d = refl
+        go false false e d = absurd (d refl)
+
+    pub room-thermal : b ≡ false → 32 ≤ length s
+    room-thermal t = omega (arith, rows-thermal t, filled-up)
+
+    pub header-thermal : b ≡ false → {size : Sides} {f : ThermalSettings} {stop : ℕ} → size ≡ sidesAt s → f ≡ thermalAt s → stop ≡ number4 s 28
+        → _≡_ {A = Header} (record { size = size; settings = Thermal f; stop = stop; rows = 32 }) (headerAt s)
+    unfolding headerAt
+    header-thermal t {size} {f} {stop} a c d =
+        (λ i. record { size = a i; settings = Thermal (c i); stop = d i; rows = sym (rows-thermal t) i }) ∙ sym (rw (sym e ∙ t))
+
+  whole-framed : Framed s (rowsAt s) w h
+  whole-framed = record { begins = omega (arith, settings-few s (settingsLength (markAt s 6)) refl); sides = whole .sides; whole = filled-up }
+
+header-size : (s : List ℕ) → headerAt s .size ≡ sidesAt s
+unfolding headerAt
+header-size s = go (marked s 6 fluvialMark)
+  where
+    go : (b : Bool) → cond b (fluvialHeader s) (thermalHeader s) .size ≡ sidesAt s
+    go true = refl
+    go false = refl
+
+header-rows : (s : List ℕ) → headerAt s .rows ≡ rowsAt s
+unfolding headerAt
+header-rows s = go (marked s 6 fluvialMark)
+  where
+    go : (b : Bool) → cond b (fluvialHeader s) (thermalHeader s) .rows ≡ rowsAt s
+    go true = refl
+    go false = refl
+
+-- 5, or the stream is accepted
+module _ (s : List ℕ) (head : Header) where
+  module _ {b : Bool} (e : b ≡ badSettings (head .settings)) (t : b ≡ false) {cell : ℕ} (f : cell ≡ firstNotFinite (heightsAt s (head .rows) (head .size .w) (head .size .h))) where
+    full : length (heightsAt s (head .rows) (head .size .w) (head .size .h)) ≡ head .size .w * head .size .h
+    full = heights-length s (head .rows) (head .size .w) (head .size .h)
+
+    pub values-height : (cell ≡ head .size .w * head .size .h → ⊥) → _≡_ {A = Outcome Parsed} (refusedAt 5 cell) (valuesOf (parsedOf s head))
+    unfolding allFinite
+    values-height d = ap (refusedAt 5) f ∙ sym (rw (sym e ∙ t, ne-eqb _ _ (λ g. d (f ∙ g ∙ full))))
+
+    pub values-given : cell ≡ head .size .w * head .size .h → _≡_ {A = Outcome Parsed} (gives (parsedOf s head)) (valuesOf (parsedOf s head))
+    unfolding allFinite
+    values-given d = sym (rw (sym e ∙ t, eq-eqb _ _ (sym f ∙ d ∙ sym full)))
+
+-- the tests of a stream in their order
+module _ (limited : Bool) (s : List ℕ) where
+  pub read-grid : {b : Bool} → b ≡ badGrid s → b ≡ true → _≡_ {A = Outcome Parsed} (refused 8) (readStream limited s)
+  unfolding readStream
+  read-grid e t = sym (rw (sym e ∙ t))
+
+  module _ {g : Bool} (eg : g ≡ badGrid s) (fg : g ≡ false) where
+    pub read-room : 6 ≤ length s
+    unfolding badGrid
+    read-room = ltb-false (length s) 6 (or-left _ _ (sym eg ∙ fg))
+
+    module _ {size : Sides} (e : size ≡ sidesAt s) where
+      pub read-sides : {b : Bool} → b ≡ badSides (size .w) (size .h) → b ≡ true → _≡_ {A = Outcome Parsed} (refused 1) (readStream limited s)
+      unfolding readStream
+      read-sides f t = sym (rw (sym eg ∙ fg, ap (λ (g : Sides). badSides (g .w) (g .h)) (sym e) ∙ sym f ∙ t))
+
+      module _ {a : Bool} (ea : a ≡ badSides (size .w) (size .h)) (fa : a ≡ false) where
+        pub read-range : InRange (size .w) (size .h)
+        read-range = good-sides (size .w) (size .h) (sym ea ∙ fa)
+
+        pub read-cells : {b : Bool} → b ≡ (limited && ltb 4096 (size .w * size .h)) → b ≡ true → _≡_ {A = Outcome Parsed} (refused 9) (readStream limited s)
+        unfolding readStream
+        read-cells f t =
+            sym (rw (sym eg ∙ fg, ap (λ (g : Sides). badSides (g .w) (g .h)) (sym e) ∙ sym ea ∙ fa, ap (λ (g : Sides). limited && ltb 4096 (g .w * g .h)) (sym e) ∙ sym f ∙ t))
+
+        module _ {n : Bool} (en : n ≡ (limited && ltb 4096 (size .w * size .h))) (fn : n ≡ false) where
+          rest-left : readStream limited s ≡ cond (badRest s (size .w) (size .h)) (refused 8) (valuesOf (parsedOf s (headerAt s)))
+          unfolding readStream
+          rest-left =
+              rw (sym eg ∙ fg, ap (λ (g : Sides). badSides (g .w) (g .h)) (sym e) ∙ sym ea ∙ fa, ap (λ (g : Sides). limited && ltb 4096 (g .w * g .h)) (sym e) ∙ sym en ∙ fn)
+              (ap (λ (g : Sides). cond (badRest s (g .w) (g .h)) (refused 8) (valuesOf (parsedOf s (headerAt s)))) (sym e))
+
+          pub read-rest : {b : Bool} → b ≡ badRest s (size .w) (size .h) → b ≡ true → _≡_ {A = Outcome Parsed} (refused 8) (readStream limited s)
+          read-rest f t = sym (rest-left ∙ rw (sym f ∙ t))
+
+          module _ {r : Bool} (er : r ≡ badRest s (size .w) (size .h)) (fr : r ≡ false) where
+            pub read-whole : Whole s (size .w) (size .h)
+            read-whole = record { sides = read-range; rest = sym er ∙ fr }
+
+            pub read-framed : {head : Header} → head ≡ headerAt s → Framed s (head .rows) (head .size .w) (head .size .h)
+            read-framed {head} f =
+                subst (λ (p : Header). Framed s (p .rows) (p .size .w) (p .size .h)) (sym f)
+                (subst (λ (n : ℕ). Framed s n (headerAt s .size .w) (headerAt s .size .h)) (sym (header-rows s))
+                (subst (λ (g : Sides). Framed s (rowsAt s) (g .w) (g .h)) (e ∙ sym (header-size s)) (whole-framed read-whole)))
+
+            pub read-values : {head : Header} → head ≡ headerAt s → {o : Outcome Parsed} → o ≡ valuesOf (parsedOf s head) → o ≡ readStream limited s
+            read-values f g = g ∙ ap (λ (p : Header). valuesOf (parsedOf s p)) f ∙ sym (rest-left ∙ rw (sym er ∙ fr))
