@@ -1,0 +1,3 @@
+-- Laws of gen_thermal_erosion.
+pub mod SlideLaws
+pub mod RunLaws

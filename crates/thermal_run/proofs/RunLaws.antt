@@ -1,0 +1,151 @@
+-- The run on its working grid, and the whole call: what its parts ask follows from what they are given, and its ends are the run's.
+use Prim.Native.Nat.{ℕ, _*_, _≤_, min}
+use mathlib.Core.Path.{_≡_, refl, sym, ap, ap₂, _∙_, subst}
+use mathlib.Core.Bool.{Bool, true, false, _&&_, true≢false}
+use mathlib.Core.List.{List}
+use native.Mathlib.Omega.{arith}
+use borrow.Author.Tests.{eqb-true}
+use lib.ListN.{length}
+use lib.Dec.{eqb}
+use lib.Ieee.{Float}
+use Rattle.answers.specs.Outcome.{Outcome, gives, answerOf}
+use Rattle.answers.specs.declared.Answer.{Answer}
+use Rattle.answers.specs.declared.Refusal.{Refusal}
+use Rattle.grid.specs.declared.Sides.{Sides}
+use Rattle.generators.specs.Marks.{fresh}
+use Rattle.generators.specs.declared.Progress.{Progress}
+use Rattle.resample.specs.WorkSize.{Within, workSize}
+use Rattle.upsample.specs.Places.{Grid}
+use Rattle.upsample.specs.Samples.{asSource}
+use Rattle.runs.specs.Run.{Ran, thermalCourse, runOn, thermalRun}
+use Rattle.runs.specs.Refusals.{badThermal}
+use Rattle.runs.specs.declared.ThermalSettings.{ThermalSettings}
+use Rattle.runs.proofs.CourseLaws.{run-nested}
+use Rattle.plans.specs.Accepted.{refusalOn, Accepted}
+use Rattle.plans.proofs.RefusalLaws.{accepted-by}
+use Rattle.plans.proofs.InputLaws.{within-range, within-cells, accepted-within, thermal-iterations}
+use Rattle.erosion.specs.Reached.{begun, halted, ranBy}
+use Rattle.erosion.specs.Ending.{endedWith, accepted, refusedTo, Numbered, Answered}
+use Rattle.erosion.specs.declared.Reached.{Reached}
+use Rattle.erosion.specs.declared.RunAnswer.{RunAnswer}
+use Rattle.erosion.proofs.EndingLaws.{ending-refused, ending-ran}
+use Rattle.erosion.proofs.WholeLaws.{wholeRun, whole-numbered}
+use Rattle.thermal_run.specs.ThermalRun.{inputRefusal, ThermalRun, Slides, Reduces, Erodes}
+
+module _ {w h dw dh : ℕ} (n : Within w h dw dh) where
+  -- the grids of the map and of the averages
+  pub map-grid : {len : ℕ} → len ≡ w * h → Grid w h len
+  map-grid e =
+      record { w-low = omega (arith, n .dw-low, n .dw-high); w-high = n .wide; h-low = omega (arith, n .dh-low, n .dh-high); h-high = n .high; size = e }
+
+  pub work-grid : {len : ℕ} → len ≡ dw * dh → Grid dw dh len
+  work-grid e =
+      let r = within-range n in
+      record { w-low = r .columns; w-high = r .wide; h-low = r .rows; h-high = r .high; size = e }
+
+  module _ (conf : ThermalSettings) (stop : ℕ) (map : List Float) where
+    -- the run by its loops is the run
+    pub by-loops : {x : Ran} → x ≡ wholeRun w h (thermalCourse dw dh conf stop) map → x ≡ runOn asSource w h (thermalCourse dw dh conf stop) map
+    by-loops e = e ∙ sym (run-nested asSource w h (thermalCourse dw dh conf stop) map (n .dh-low) (omega arith))
+
+    pub ran-numbered : {x : Ran} → x ≡ runOn asSource w h (thermalCourse dw dh conf stop) map → Numbered (x .number)
+    ran-numbered {x} e =
+        subst (λ (x : Ran). Numbered (x .number))
+        (sym (e ∙ run-nested asSource w h (thermalCourse dw dh conf stop) map (n .dh-low) (omega arith)))
+        (whole-numbered w h (thermalCourse dw dh conf stop) map)
+
+-- the end where an average is not finite
+pub halted-fresh : {x r : Reached} {m : Progress} → x ≡ halted 22 m r → m ≡ fresh → r ≡ begun → x ≡ halted 22 (begun .marks) begun
+halted-fresh e f g = e ∙ ap₂ (halted 22) f g
+
+both : (a b : Bool) → (a && b) ≡ true → (a ≡ true) × (b ≡ true)
+both true b e = (refl, e)
+both false b e = absurd (true≢false (sym e))
+
+module _ {w h dw dh : ℕ} {conf : ThermalSettings} {map small eroded copy : ℕ} where
+  module _ (e : Erodes w h dw dh conf map small eroded copy) where
+    -- the first working cells of the scratch slices
+    pub small-room : dw * dh ≤ small
+    small-room = omega (arith, within-cells (e .sides), e .averages)
+
+    pub eroded-room : dw * dh ≤ eroded
+    eroded-room = omega (arith, within-cells (e .sides), e .changed)
+
+    pub copy-room : dw * dh ≤ copy
+    copy-room = omega (arith, within-cells (e .sides), e .copied)
+
+    -- on the map
+    pub erodes-slides : {t : Bool} {k : ℕ} → t ≡ (eqb dw w && eqb dh h) → t ≡ true → k ≡ dw * dh → Slides dw dh conf map k
+    erodes-slides f t k =
+        let s = both (eqb dw w) (eqb dh h) (sym f ∙ t) in
+        record {
+          sides = within-range (e .sides);
+          iterations = e .iterations;
+          heights = e .heights ∙ ap₂ (λ (a b : ℕ). a * b) (sym (eqb-true dw w (s .0))) (sym (eqb-true dh h (s .1)));
+          copied = k;
+        }
+
+    -- on the averages
+    pub erodes-reduces : {a b d : ℕ} → a ≡ dw * dh → b ≡ dw * dh → d ≡ dw * dh → Reduces w h dw dh conf map a b d
+    erodes-reduces a b d =
+        record { sides = e .sides; iterations = e .iterations; heights = e .heights; averages = a; changed = b; copied = d }
+
+-- the whole call
+module _ (w h : ℕ) (conf : ThermalSettings) (stop : ℕ) (map small eroded copy : List Float) where
+  abbrev outcome : Outcome (Unit {0})
+  outcome = inputRefusal w h conf map (length small) (length eroded) (length copy)
+
+  -- by the test of the settings and the length of the shortest scratch slice
+  pub decided : {o : Outcome (Unit {0})} {bad : Bool} {scratch k : ℕ} → o ≡ refusalOn w h bad map scratch → bad ≡ badThermal conf
+      → scratch ≡ min (length small) k → k ≡ min (length eroded) (length copy) → o ≡ outcome
+  decided e b s k = e ∙ ap₂ (λ (bad : Bool) (scratch : ℕ). refusalOn w h bad map scratch) b (s ∙ ap (min (length small)) k)
+
+  pub run-refused : {r : RunAnswer} {early : Answer} (why : Refusal) → answerOf early ≡ outcome → early ≡ Answer.Refused why → r ≡ refusedTo why
+      → ThermalRun w h conf stop map small eroded copy r map small eroded copy
+  run-refused {r} {early} why f e g = record {
+    ended = ap (λ (r : RunAnswer). endedWith r map) g ∙ ending-refused why early outcome map (thermalRun w h conf stop map) e f;
+    small-kept = λ _. refl;
+    eroded-kept = λ _. refl;
+    copy-kept = λ _. refl;
+  }
+
+  module _ {early : Answer} (f : answerOf early ≡ outcome) (e : early ≡ Answer.Done) where
+    accepts : outcome ≡ gives tt
+    accepts = sym f ∙ ap answerOf e
+
+    not-refused : accepted outcome ≡ false → ⊥
+    not-refused z = true≢false (sym (ap accepted accepts) ∙ z)
+
+    pub run-accepted : Accepted w h (badThermal conf) map (min (length small) (min (length eroded) (length copy)))
+    run-accepted = accepted-by w h (badThermal conf) map _ accepts
+
+    module _ {work : Sides} (g : work ≡ workSize w h (conf .«work_res»)) where
+      pub run-within : Within w h (work .w) (work .h)
+      run-within = accepted-within run-accepted (conf .«work_res») g
+
+      pub run-erodes : Erodes w h (work .w) (work .h) conf (length map) (length small) (length eroded) (length copy)
+      run-erodes =
+          let a = run-accepted in
+          record {
+            sides = run-within;
+            iterations = thermal-iterations conf (a .settings);
+            heights = a .cells;
+            averages = omega (arith, a .room);
+            changed = omega (arith, a .room);
+            copied = omega (arith, a .room);
+          }
+
+      whole-is : runOn asSource w h (thermalCourse (work .w) (work .h) conf stop) map ≡ thermalRun w h conf stop map
+      unfolding thermalRun
+      whole-is = ap (λ (work : Sides). runOn asSource w h (thermalCourse (work .w) (work .h) conf stop) map) g
+
+      pub run-done : {r : Reached} {a : RunAnswer} (map′ small′ eroded′ copy′ : List Float) → Answered r a
+          → ranBy map′ r ≡ runOn asSource w h (thermalCourse (work .w) (work .h) conf stop) map
+          → ThermalRun w h conf stop map small eroded copy a map′ small′ eroded′ copy′
+      run-done {r} {a} map′ small′ eroded′ copy′ s t =
+          record {
+            ended = ending-ran r a outcome map map′ (thermalRun w h conf stop map) s (t ∙ whole-is) accepts;
+            small-kept = λ z. absurd (not-refused z);
+            eroded-kept = λ z. absurd (not-refused z);
+            copy-kept = λ z. absurd (not-refused z);
+          }

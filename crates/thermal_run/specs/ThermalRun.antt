@@ -1,0 +1,57 @@
+-- What gen_thermal_erosion promises of its answer, the map and the scratch slices, and what its parts ask.
+use Prim.Native.Nat.{ℕ, _*_, _≤_, min}
+use mathlib.Core.Path.{_≡_}
+use mathlib.Core.Bool.{false}
+use mathlib.Core.List.{List}
+use lib.ListN.{length}
+use lib.IntN.{pos}
+use lib.Ieee.{Float, binary32, ofInt, div}
+use Rattle.answers.specs.Outcome.{Outcome}
+use Rattle.grid.specs.Sides.{InRange}
+use Rattle.resample.specs.WorkSize.{Within}
+use Rattle.runs.specs.Run.{thermalRun}
+use Rattle.runs.specs.Refusals.{badThermal}
+use Rattle.runs.specs.declared.ThermalSettings.{ThermalSettings}
+use Rattle.plans.specs.Accepted.{refusalOn}
+use Rattle.erosion.specs.Ending.{endingOf, endedWith, accepted}
+use Rattle.erosion.specs.declared.RunAnswer.{RunAnswer}
+
+-- what is refused of the input, where the shortest scratch slice counts
+abbrev pub inputRefusal : ℕ → ℕ → ThermalSettings → List Float → ℕ → ℕ → ℕ → Outcome (Unit {0})
+inputRefusal w h conf map small eroded copy = refusalOn w h (badThermal conf) map (min small (min eroded copy))
+
+-- The answer, the counts and the map are those of the run of document 01, or of the refusal; a refused input leaves scratch as it was.
+pub record ThermalRun (w h : ℕ) (conf : ThermalSettings) (stop : ℕ) (map small eroded copy : List Float) (r : RunAnswer) (map′ small′ eroded′ copy′ : List Float) : Type 0 where
+  pub ended : endedWith r map′ ≡ endingOf (inputRefusal w h conf map (length small) (length eroded) (length copy)) map (thermalRun w h conf stop map)
+  pub small-kept : accepted (inputRefusal w h conf map (length small) (length eroded) (length copy)) ≡ false → small′ ≡ small
+  pub eroded-kept : accepted (inputRefusal w h conf map (length small) (length eroded) (length copy)) ≡ false → eroded′ ≡ eroded
+  pub copy-kept : accepted (inputRefusal w h conf map (length small) (length eroded) (length copy)) ≡ false → copy′ ≡ copy
+
+-- the fraction p at which a pass begins
+abbrev pub passFraction : ℕ → ℕ → Float
+passFraction pass passes = div binary32 (ofInt binary32 (pos pass)) (ofInt binary32 (pos passes))
+
+-- what the passes ask of their grid, the settings and the lengths of the map and its copy
+pub record Slides (w h : ℕ) (conf : ThermalSettings) (map copy : ℕ) : Type 0 where
+  pub sides : InRange w h
+  pub iterations : conf .iterations ≤ 4096
+  pub heights : map ≡ w * h
+  pub copied : copy ≡ w * h
+
+-- what a run on the reduced dw × dh grid asks
+pub record Reduces (w h dw dh : ℕ) (conf : ThermalSettings) (map small eroded copy : ℕ) : Type 0 where
+  pub sides : Within w h dw dh
+  pub iterations : conf .iterations ≤ 4096
+  pub heights : map ≡ w * h
+  pub averages : small ≡ dw * dh
+  pub changed : eroded ≡ dw * dh
+  pub copied : copy ≡ dw * dh
+
+-- what a run on either grid asks
+pub record Erodes (w h dw dh : ℕ) (conf : ThermalSettings) (map small eroded copy : ℕ) : Type 0 where
+  pub sides : Within w h dw dh
+  pub iterations : conf .iterations ≤ 4096
+  pub heights : map ≡ w * h
+  pub averages : w * h ≤ small
+  pub changed : w * h ≤ eroded
+  pub copied : w * h ≤ copy

@@ -1,0 +1,145 @@
+// The source's gen_thermal_erosion: a whole thermal run, on the map or on a reduced grid whose change is added back.
+use answers::Answer;
+use erosion::Reached;
+use erosion::RunAnswer;
+use erosion::add_back;
+use erosion::answered;
+use erosion::begun;
+use erosion::ended;
+use erosion::on_map;
+use erosion::reduce;
+use erosion::refused;
+use erosion::run_pass;
+use generators::fresh;
+use grid::Sides;
+use plans::bad_thermal;
+use plans::least;
+use plans::refusal;
+use plans::thermal_passes;
+use plans::thermal_plan;
+use resample::work_sides;
+use runs::ThermalSettings;
+use talus::thresholds;
+ghost use mathlib.Core.Path.{_≡_};
+ghost use mathlib.Core.Bool.{false, _&&_};
+ghost use Prim.Native.Nat.{_≤_};
+ghost use lib.Dec.{eqb};
+ghost use lib.ListN.{length};
+ghost use Rattle.upsample.specs.Samples.{asSource};
+ghost use Rattle.runs.specs.Run.{thermalCourse, runOn};
+ghost use Rattle.runs.specs.Nested.{nested};
+ghost use Rattle.erosion.specs.Reached.{Worked, seen, ranBy};
+ghost use Rattle.thermal_run.specs.ThermalRun.{passFraction, Slides, Reduces, Erodes, ThermalRun};
+
+// The fraction of the run's passes that are done before a pass.
+fn fraction(pass: usize, passes: usize) -> f32
+    requires { ⌜ pass ≤ 32768 ⌝ }
+    requires { ⌜ passes ≤ 32768 ⌝ }
+    ensures { λ r. ⌜ r ≡ passFraction pass passes ⌝ }
+{
+    pass as f32 / passes as f32
+}
+
+// Runs every pass on the working grid, until 21 or 22 ends the run.
+fn slide_passes(
+    work: Sides,
+    hmap: &mut [f32],
+    conf: ThermalSettings,
+    stop: u32,
+    copy: &mut [f32],
+) -> Reached
+    requires { ⌜ Slides (work .w) (work .h) conf (length (now hmap)) (length (now copy)) ⌝ }
+    ensures { λ r. ⌜ _≡_ {A = Worked} (record { heights = now (hmap .exit); reached = r }) (seen (nested (thermalCourse (work .w) (work .h) conf stop) (now (hmap .entry)))) ⌝ }
+{
+    let params = thermal_plan(work, conf);
+    let ts = thresholds(params.threshold);
+    let passes = thermal_passes(work, conf);
+    let mut r = begun();
+    let mut pass: usize = 0;
+    while pass < passes {
+        if r.number != 0 {
+            return r;
+        }
+        let from = fraction(pass, passes);
+        let to = fraction(pass + 1, passes);
+        r = run_pass(work, &ts, hmap, copy, params, from, to, stop, r);
+        pass += 1;
+    }
+    r
+}
+
+// Erodes a reduced copy, then adds the difference back onto the map; 21 and 22 leave the map as it came.
+fn erode_reduced(
+    size: Sides,
+    hmap: &mut [f32],
+    work: Sides,
+    conf: ThermalSettings,
+    stop: u32,
+    small: &mut [f32],
+    eroded: &mut [f32],
+    copy: &mut [f32],
+) -> Reached
+    requires { ⌜ (eqb (work .w) (size .w) && eqb (work .h) (size .h)) ≡ false ⌝ }
+    requires { ⌜ Reduces (size .w) (size .h) (work .w) (work .h) conf (length (now hmap)) (length (now small)) (length (now eroded)) (length (now copy)) ⌝ }
+    ensures { λ r. ⌜ ranBy (now (hmap .exit)) r ≡ runOn asSource (size .w) (size .h) (thermalCourse (work .w) (work .h) conf stop) (now (hmap .entry)) ⌝ }
+{
+    if !reduce(size, hmap, work, small, eroded) {
+        return ended(22, fresh(), begun());
+    }
+    let r = slide_passes(work, eroded, conf, stop, copy);
+    if r.number != 0 {
+        return r;
+    }
+    add_back(size, hmap, work, small, eroded, r)
+}
+
+// A run on its working grid: the map itself where the sides are the map's, else the reduced grid.
+fn erode(
+    size: Sides,
+    hmap: &mut [f32],
+    work: Sides,
+    conf: ThermalSettings,
+    stop: u32,
+    small: &mut [f32],
+    eroded: &mut [f32],
+    copy: &mut [f32],
+) -> Reached
+    requires { ⌜ Erodes (size .w) (size .h) (work .w) (work .h) conf (length (now hmap)) (length (now small)) (length (now eroded)) (length (now copy)) ⌝ }
+    ensures { λ r. ⌜ ranBy (now (hmap .exit)) r ≡ runOn asSource (size .w) (size .h) (thermalCourse (work .w) (work .h) conf stop) (now (hmap .entry)) ⌝ }
+{
+    let m = work.w * work.h;
+    if on_map(work, size) {
+        return slide_passes(work, hmap, conf, stop, &mut copy[..m]);
+    }
+    erode_reduced(
+        size,
+        hmap,
+        work,
+        conf,
+        stop,
+        &mut small[..m],
+        &mut eroded[..m],
+        &mut copy[..m],
+    )
+}
+
+// A whole thermal run of document 01. small, eroded and copy are scratch.
+pub fn gen_thermal_erosion(
+    size: Sides,
+    hmap: &mut [f32],
+    conf: ThermalSettings,
+    stop: u32,
+    small: &mut [f32],
+    eroded: &mut [f32],
+    copy: &mut [f32],
+) -> RunAnswer
+    ensures { λ r. ⌜ ThermalRun (size .w) (size .h) conf stop (now (hmap .entry)) (now (small .entry)) (now (eroded .entry)) (now (copy .entry)) r (now (hmap .exit)) (now (small .exit)) (now (eroded .exit)) (now (copy .exit)) ⌝ }
+{
+    let scratch = least(small.len(), least(eroded.len(), copy.len()));
+    let early = refusal(size, hmap, bad_thermal(conf), scratch);
+    if let Answer::Refused(why) = early {
+        return refused(why);
+    }
+    let work = work_sides(size, conf.work_res);
+    answered(erode(size, hmap, work, conf, stop, small, eroded, copy))
+}
