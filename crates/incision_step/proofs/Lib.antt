@@ -1,0 +1,2 @@
+-- Laws of the opening of an iteration.
+pub mod OpeningLaws

@@ -1,0 +1,2 @@
+-- The opening of an iteration.
+pub mod Opening

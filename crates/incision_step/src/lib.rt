@@ -1,0 +1,85 @@
+// How an iteration of gen_fluvial_erosion opens: the question of the stop marks, the routing of the heights as they then stand, and one incision
+// along the flood's own order.
+use erosion::Reached;
+use erosion::ended;
+use flow::route_grid;
+use fluvial_erosion::FluvialParams;
+use fluvial_erosion::incise_along;
+use generators::ask;
+use grid::Sides;
+use grid::all_finite;
+use thermal_erosion::copy_heights;
+ghost use mathlib.Core.Path.{_≡_};
+ghost use Prim.Native.Nat.{_*_};
+ghost use Rattle.flood.specs.Slices.{Accepted};
+ghost use Rattle.flow.specs.Route.{lentOf, Enough};
+ghost use Rattle.erosion.specs.Reached.{Worked};
+ghost use Rattle.incision_step.specs.Opening.{Carves, Counts, afterOpening};
+
+// Routes the heights and incises a copy of them, with the areas that the routing left.
+fn carve(
+    size: Sides,
+    hmap: &[f32],
+    params: FluvialParams,
+    copy: &mut [f32],
+    area: &mut [f32],
+    order: &mut [u32],
+    recv: &mut [u32],
+    queue: &mut [u32],
+    status: &mut [u8],
+)
+    requires { ⌜ Accepted (size .w) (size .h) (now hmap) ⌝ }
+    requires { ⌜ Enough (size .w * size .h) (lentOf (now hmap) (now order) (now recv) (now copy) (now area) (now queue) (now status)) ⌝ }
+    ensures { λ _. ⌜ Carves (size .w) (size .h) params (now (hmap .entry)) (now (copy .exit)) ⌝ }
+{
+    route_grid(
+        size,
+        hmap,
+        params.water_level,
+        order,
+        recv,
+        copy,
+        area,
+        queue,
+        status,
+    );
+    copy_heights(hmap, copy);
+    incise_along(size, params, area, recv, order, copy);
+}
+
+// Opens an iteration at the fraction p of the run. The copy becomes the map only where every height of it is finite; a stop comes before the routing.
+pub fn open_iteration(
+    size: Sides,
+    hmap: &mut [f32],
+    params: FluvialParams,
+    p: f32,
+    stop: u32,
+    r: Reached,
+    copy: &mut [f32],
+    area: &mut [f32],
+    order: &mut [u32],
+    recv: &mut [u32],
+    queue: &mut [u32],
+    status: &mut [u8],
+) -> Reached
+    requires { ⌜ Accepted (size .w) (size .h) (now hmap) ⌝ }
+    requires { ⌜ Enough (size .w * size .h) (lentOf (now hmap) (now order) (now recv) (now copy) (now area) (now queue) (now status)) ⌝ }
+    requires { ⌜ Counts r ⌝ }
+    ensures { λ e. ⌜ _≡_ {A = Worked} (record { heights = now (hmap .exit); reached = e }) (afterOpening (size .w) (size .h) params p stop (now (hmap .entry)) r) ⌝ }
+{
+    let marks = ask(r.marks, p, stop);
+    if marks.stopped {
+        return ended(21, marks, r);
+    }
+    carve(size, hmap, params, copy, area, order, recv, queue, status);
+    if all_finite(size, copy) {
+        copy_heights(copy, hmap);
+        return Reached {
+            marks: marks,
+            incisions: r.incisions + 1,
+            passes: r.passes,
+            number: 0,
+        };
+    }
+    ended(22, marks, r)
+}
