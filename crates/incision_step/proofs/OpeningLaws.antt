@@ -1,11 +1,9 @@
--- A routing gives what the incision after it asks, both together are the incision of the definition, and what the code leaves of an opening is
--- the state after it.
-use Prim.Native.Nat.{ℕ, suc, _+_, _*_, _≤_, _<_}
+-- A routing gives what the incision after it asks, and both together are the incision of the definition.
+use Prim.Native.Nat.{ℕ, _+_, _*_, _<_}
 use mathlib.Core.Path.{_≡_, refl, sym, ap, _∙_, subst}
-use mathlib.Core.Bool.{Bool, true, false, cond}
+use mathlib.Core.Bool.{Bool, true, false}
 use mathlib.Core.Logic.{_⊎_, inl, inr}
 use mathlib.Core.List.{List}
-use native.Mathlib.Numerals.{add-one}
 use native.Mathlib.Omega.{arith}
 use lib.ListN.{length, getD}
 use lib.Ieee.{Float}
@@ -14,7 +12,7 @@ use Rattle.float_order.specs.Fit.{Fit}
 use Rattle.grid.specs.Heights.{allFinite}
 use Rattle.generators.specs.Marks.{reportOf}
 use Rattle.generators.specs.declared.Progress.{Progress}
-use Rattle.drainage.specs.Ground.{Ground, floats, gridGround}
+use Rattle.drainage.specs.Ground.{floats, gridGround}
 use Rattle.drainage.specs.Theorems.{Network}
 use Rattle.drainage.proofs.TallyLaws.{same-or-not}
 use Rattle.drainage.proofs.GroundLaws.{grid-networks}
@@ -26,11 +24,8 @@ use Rattle.flow.proofs.NetLaws.{downward}
 use Rattle.fluvial_erosion.specs.Incision.{inciseAlong, incisedBy}
 use Rattle.fluvial_erosion.specs.Along.{Drains}
 use Rattle.fluvial_erosion.specs.declared.FluvialParams.{FluvialParams}
-use Rattle.runs.specs.Machine.{Course, State, endedBy, cut, openStep}
-use Rattle.runs.specs.Run.{ours, incisionBy}
-use Rattle.runs.specs.Nested.{oneOpening, Due}
-use Rattle.runs.proofs.IterationLaws.{opening-is}
-use Rattle.erosion.specs.Reached.{Worked, reachedIn, seen, halted, afterMade}
+use Rattle.runs.specs.Run.{incisionBy}
+use Rattle.erosion.specs.Reached.{Worked, halted, afterMade}
 use Rattle.erosion.specs.declared.Reached.{Reached}
 use Rattle.erosion.proofs.ReachedLaws.{worked, made-stopped, made-done, made-off}
 use Rattle.incision_step.specs.Opening.{cutOf, Carves, afterOpening}
@@ -88,37 +83,7 @@ module _ (w h : ℕ) (params : FluvialParams) (p : Float) (stop : ℕ) (hs : Lis
     pub opened-off : {x : Reached} → all ≡ false → x ≡ halted 22 m r → worked hs x ≡ afterOpening w h params p stop hs r
     opened-off {x} t e = made-off hs r m (cutOf w h params 0 hs) (completed m) x on all finites t e ∙ ap ends asked
 
--- what the code leaves of an opening is the state after it, on a course whose incisions are ours
-abbrev pub Cuts : Course → ℕ → ℕ → FluvialParams → Type 0
-Cuts c w h params = (it : ℕ) (hs : List Float) → c .incision it hs ≡ cutOf w h params 0 hs
-
-seen-open : (c : Course) (s : State) (new : List Float) (m : Progress)
-    → seen (cond (m .stopped) (endedBy c 21 m s) (cond (allFinite new) (cut c new m s) (endedBy c 22 m s)))
-    ≡ afterMade (s .heights) (reachedIn s) m new (record { marks = m; incisions = s .incisions + 1; passes = s .passes; number = 0 })
-seen-open c s new m = rw add-one (go (m .stopped) (allFinite new))
-  where
-    completed : Reached
-    completed = record { marks = m; incisions = suc (s .incisions); passes = s .passes; number = 0 }
-
-    go : (a b : Bool) → seen (cond a (endedBy c 21 m s) (cond b (cut c new m s) (endedBy c 22 m s)))
-        ≡ cond a (record { heights = s .heights; reached = halted 21 m (reachedIn s) })
-        (cond b (record { heights = new; reached = completed }) (record { heights = s .heights; reached = halted 22 m (reachedIn s) }))
-    go true b = refl
-    go false true = refl
-    go false false = refl
-
-pub opening-seen : (c : Course) (w h : ℕ) (params : FluvialParams) (it : ℕ) (s : State) (map : List Float) (r : Reached) (x : Worked)
-    → c .cutting ≡ true
-    → Cuts c w h params
-    → Due c it s
-    → worked map r ≡ seen s
-    → x ≡ afterOpening w h params (c .opening it) (c .stop) map r
-    → x ≡ seen (oneOpening c s)
-opening-seen c w h params it s map r x cutting cuts d e f =
-    f ∙ ap (λ (x : Worked). afterOpening w h params (c .opening it) (c .stop) (x .heights) (x .reached)) e
-    ∙ ap (λ (k : ℕ). afterOpening w h params (c .opening k) (c .stop) (s .heights) (reachedIn s)) (sym (d .iteration))
-    ∙ ap (λ (new : List Float). afterMade (s .heights) (reachedIn s) m new (record { marks = m; incisions = s .incisions + 1; passes = s .passes; number = 0 })) (sym (cuts (s .iteration) (s .heights)))
-    ∙ sym (ap seen (opening-is c s cutting (d .number)) ∙ seen-open c s (c .incision (s .iteration) (s .heights)) m)
-  where
-    m : Progress
-    m = reportOf (s .marks) (c .opening (s .iteration)) (c .stop)
+-- our incisions do not depend on the iteration's number
+pub cut-any : (w h : ℕ) (p : FluvialParams) (it : ℕ) (hs : List Float) → cutOf w h p 0 hs ≡ cutOf w h p it hs
+unfolding incisionBy
+cut-any w h p it hs = refl

@@ -1,0 +1,2 @@
+-- Laws of the loops of a fluvial run.
+pub mod SlideLaws

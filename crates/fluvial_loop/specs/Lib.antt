@@ -1,0 +1,2 @@
+-- The loops of a fluvial run.
+pub mod Loops
