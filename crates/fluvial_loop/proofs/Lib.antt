@@ -1,2 +1,3 @@
 -- Laws of the loops of a fluvial run.
 pub mod SlideLaws
+pub mod IterateLaws

@@ -61,3 +61,49 @@ fn talus_passes(
     }
     r
 }
+
+// The iterations of a run on its working grid, until one of them is ended by 21 or 22.
+pub fn run_iterations(
+    size: Sides,
+    hmap: &mut [f32],
+    plan: FluvialPlan,
+    stop: u32,
+    copy: &mut [f32],
+    area: &mut [f32],
+    order: &mut [u32],
+    recv: &mut [u32],
+    queue: &mut [u32],
+    status: &mut [u8],
+) -> Reached
+    requires { ⌜ Bounded (courseBy (size .w) (size .h) plan stop) ⌝ }
+    requires { ⌜ Accepted (size .w) (size .h) (now hmap) ⌝ }
+    requires { ⌜ Enough (size .w * size .h) (lentOf (now hmap) (now order) (now recv) (now copy) (now area) (now queue) (now status)) ⌝ }
+    ensures { λ e. ⌜ _≡_ {A = Worked} (record { heights = now (hmap .exit); reached = e }) (seen (nested (courseBy (size .w) (size .h) plan stop) (now (hmap .entry)))) ⌝ }
+{
+    let iterations = plan.iterations;
+    let mut r = begun();
+    let mut it: usize = 0;
+    while it < iterations {
+        if r.number != 0 {
+            return r;
+        }
+        let p = it as f32 / iterations as f32;
+        r = open_iteration(
+            size,
+            hmap,
+            plan.cuts,
+            p,
+            stop,
+            r,
+            copy,
+            area,
+            order,
+            recv,
+            queue,
+            status,
+        );
+        r = talus_passes(size, hmap, copy, plan, it, stop, r);
+        it += 1;
+    }
+    r
+}

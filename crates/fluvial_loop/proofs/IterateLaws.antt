@@ -1,0 +1,141 @@
+-- The loop over the iterations of a fluvial run: what holds at its test, what its parts ask, and what it leaves.
+use Prim.Native.Nat.{ℕ, suc, _+_, _*_, _^_, _≤_, _<_}
+use mathlib.Core.Path.{_≡_, refl, sym, ap, _∙_, subst}
+use mathlib.Core.Bool.{Bool, true, false, cond}
+use mathlib.Core.List.{List}
+use native.Mathlib.Nat.{mul-le-mul-right}
+use native.Mathlib.Omega.{arith}
+use lib.ListN.{length}
+use lib.Ieee.{Float}
+use Rattle.lists.proofs.TurnLaws.{turns-more}
+use Rattle.float_order.specs.Fit.{Fit}
+use Rattle.grid.specs.Heights.{allFinite}
+use Rattle.generators.specs.Marks.{reportOf}
+use Rattle.generators.specs.declared.Progress.{Progress}
+use Rattle.drainage.specs.Ground.{gridGround}
+use Rattle.flood.specs.Slices.{Accepted}
+use Rattle.flow.specs.Route.{lentOf, Enough}
+use Rattle.flow.specs.declared.Lent.{Lent}
+use Rattle.runs.specs.Machine.{Course, State, start, steps}
+use Rattle.runs.specs.Run.{ours}
+use Rattle.runs.specs.Nested.{oneOpening, oneIteration, iterated, nested, Due, Bounded}
+use Rattle.runs.proofs.SoundLaws.{Sized, Sound}
+use Rattle.runs.proofs.KeptLaws.{iterated-sound}
+use Rattle.runs.proofs.CutLaws.{incision-sized}
+use Rattle.runs.proofs.AskedLaws.{opening-asked, iterated-asked}
+use Rattle.runs.proofs.IterationLaws.{due-iterated}
+use Rattle.erosion.specs.Reached.{Worked, seen, begun, halted, afterMade}
+use Rattle.erosion.specs.declared.Reached.{Reached}
+use Rattle.erosion.proofs.ReachedLaws.{worked, openedBy}
+use Rattle.erosion.proofs.LoopLaws.{Going, going-none, going-done, going-ended, going-asked, going-incisions, going-opening}
+use Rattle.incision_step.specs.Opening.{cutOf, afterOpening, Counts}
+use Rattle.incision_step.proofs.OpeningLaws.{cut-any}
+use Rattle.fluvial_loop.specs.Loops.{courseBy, slidBy, Slides}
+use Rattle.fluvial_loop.specs.declared.FluvialPlan.{FluvialPlan}
+use Rattle.fluvial_loop.proofs.SlideLaws.{slid-seen}
+
+-- the lengths of the slices one by one
+pub lent-same : {hs hs′ order order′ recv recv′ copy copy′ area area′ queue queue′ status status′ : ℕ}
+    → hs ≡ hs′ → order ≡ order′ → recv ≡ recv′ → copy ≡ copy′ → area ≡ area′ → queue ≡ queue′ → status ≡ status′
+    → _≡_ {A = Lent} (record { heights = hs; order = order; receivers = recv; spill = copy; areas = area; queue = queue; status = status })
+    (record { heights = hs′; order = order′; receivers = recv′; spill = copy′; areas = area′; queue = queue′; status = status′ })
+lent-same a b c d e f g i =
+    record { heights = a i; order = b i; receivers = c i; spill = d i; areas = e i; queue = f i; status = g i }
+
+-- iteration `it` is due, or the run has ended; every slice has kept its length
+pub record Iterating (c : Course) (hs : List Float) (then : Lent) (it : ℕ) (map : List Float) (r : Reached) (now : Lent) : Type 0 where
+  pub within : it ≤ c .iterations
+  pub held : worked map r ≡ seen (iterated c it hs)
+  pub lengths : now ≡ then
+
+module _ (w h : ℕ) (plan : FluvialPlan) (stop : ℕ) (hs : List Float) (then : Lent) where
+  abbrev course : Course
+  course = courseBy w h plan stop
+
+  pub iterating-none : {r : Reached} → r ≡ begun → Iterating course hs then 0 hs r then
+  iterating-none e = record { within = omega arith; held = ap (worked hs) e ∙ going-none course hs .held; lengths = refl }
+
+  module _ (it : ℕ) (map : List Float) (r : Reached) (now : Lent) (i : Iterating course hs then it map r now) where
+    -- the loop is left
+    pub iterating-done : course .iterations ≤ it → worked map r ≡ seen (nested course hs)
+    iterating-done l =
+        let e : it ≡ course .iterations = omega (arith, i .within) in
+        i .held ∙ ap (λ (n : ℕ). seen (iterated course n hs)) e
+
+    pub iterating-ended : (r .number ≡ 0 → ⊥) → worked map r ≡ seen (nested course hs)
+    iterating-ended z = going-ended course hs it (i .held) (i .within) z
+
+    pub iterating-enough : Enough (w * h) then → Enough (w * h) now
+    iterating-enough e = subst (Enough (w * h)) (sym (i .lengths)) e
+
+    -- the heights are those of a grid that may be routed
+    pub iterating-accepted : Accepted w h hs → Fit hs → length map ≡ w * h → Accepted w h map
+    iterating-accepted a fit e =
+        let sound : Sound (w * h) (iterated course it hs) =
+        iterated-sound (w * h) course (λ it hs. incision-sized (gridGround w h (plan .cuts .«water_level»)) (plan .cuts) ours (w * h) it hs) hs
+        (record { long = a .cells; fit = fit }) (a .finites) it in
+        record { sides = a .sides; cells = e; finites = ap (λ (x : Worked). allFinite (x .heights)) (i .held) ∙ sound .finite }
+
+    module _ (b : Bounded course) (l : it < course .iterations) (z : r .number ≡ 0) where
+      going : Going course hs it map r
+      going = record { held = i .held; on = z }
+
+      pub iterating-counts : Counts r
+      iterating-counts = record { questions = going-asked course hs it going b l; incisions = going-incisions course hs it going b l }
+
+      module _ (opened : List Float) (o : Reached) (made : worked opened o ≡ afterOpening w h (plan .cuts) (course .opening it) stop map r) where
+        -- the opening is that of the state
+        iterating-opened : worked opened o ≡ seen (oneOpening course (iterated course it hs))
+        iterating-opened = going-opening course hs it going b l refl (made ∙ cuts)
+          where
+            m : Progress
+            m = reportOf (r .marks) (course .opening it) stop
+
+            cuts : afterOpening w h (plan .cuts) (course .opening it) stop map r ≡ openedBy course it map r m
+            cuts =
+                ap (λ (new : List Float). afterMade map r m new (record { marks = m; incisions = r .incisions + 1; passes = r .passes; number = 0 }))
+                (cut-any w h (plan .cuts) it map)
+
+        opened-passes : o .passes ≡ r .passes
+        opened-passes = ap (λ (x : Worked). x .reached .passes) made ∙ go (reportOf (r .marks) (course .opening it) stop) (cutOf w h (plan .cuts) 0 map)
+          where
+            go : (m : Progress) (new : List Float)
+                → afterMade map r m new (record { marks = m; incisions = r .incisions + 1; passes = r .passes; number = 0 }) .reached .passes ≡ r .passes
+            go m new = both (m .stopped) (allFinite new)
+              where
+                both : (a b : Bool)
+                    → cond a (worked map (halted 21 m r))
+                    (cond b (worked new (record { marks = m; incisions = r .incisions + 1; passes = r .passes; number = 0 })) (worked map (halted 22 m r))) .reached .passes
+                    ≡ r .passes
+                both true b = refl
+                both false true = refl
+                both false false = refl
+
+        -- what the passes ask
+        pub iterating-slides : {n k : ℕ} → n ≡ w * h → k ≡ n → Slides course it n k o
+        iterating-slides e f =
+            let s : State = iterated course it hs in
+            let due : Due course it s = due-iterated course (b .some) hs it (ap (λ (x : Worked). x .reached .number) (sym (i .held)) ∙ z) in
+            let asked : o .marks .asked ≡ oneOpening course s .marks .asked = ap (λ (x : Worked). x .reached .marks .asked) iterating-opened in
+            let passes : o .passes ≡ it * course .passes = opened-passes ∙ ap (λ (x : Worked). x .reached .passes) (i .held) ∙ due .passes in
+            record {
+              bounded = b;
+              due = l;
+              heights = e;
+              copied = f;
+              questions = omega (arith, asked, opening-asked course s, iterated-asked course hs it, b .steps, mul-le-mul-right (suc (course .passes * h)) l);
+              count = omega (arith, passes, b .passes, mul-le-mul-right (course .passes) l);
+            }
+
+        -- and after them the next iteration is due
+        pub iterating-more : (new : List Float) (e : Reached) (later : Lent) → worked new e ≡ slidBy course it (plan .passes) (worked opened o) → later ≡ now
+            → Iterating course hs then (it + 1) new e later
+        iterating-more new e later f k =
+            record {
+              within = omega arith;
+              held =
+                  f ∙ ap (slidBy course it (plan .passes)) iterating-opened
+                  ∙ sym (slid-seen course it (iterated course it hs) (due-iterated course (b .some) hs it) (b .some))
+                  ∙ ap seen (sym (turns-more (λ i. oneIteration course) it (start course hs)));
+              lengths = k ∙ i .lengths;
+            }
