@@ -15,11 +15,14 @@ use Rattle.grid.specs.declared.Sides.{Sides}
 use Rattle.generators.specs.Marks.{fresh}
 use Rattle.generators.specs.declared.Progress.{Progress}
 use Rattle.resample.specs.WorkSize.{Within, workSize}
+use Rattle.thermal_erosion.specs.declared.ThermalParams.{ThermalParams}
 use Rattle.upsample.specs.Places.{Grid}
 use Rattle.upsample.specs.Samples.{asSource}
+use Rattle.runs.specs.Plan.{thermalPasses, thermalParams}
 use Rattle.runs.specs.Run.{Ran, thermalCourse, runOn, thermalRun}
 use Rattle.runs.specs.Refusals.{badThermal}
 use Rattle.runs.specs.declared.ThermalSettings.{ThermalSettings}
+use Rattle.runs.proofs.PlanLaws.{Counted, thermal-passes}
 use Rattle.runs.proofs.CourseLaws.{run-nested}
 use Rattle.plans.specs.Accepted.{refusalOn, Accepted}
 use Rattle.plans.proofs.RefusalLaws.{accepted-by}
@@ -30,7 +33,7 @@ use Rattle.erosion.specs.declared.Reached.{Reached}
 use Rattle.erosion.specs.declared.RunAnswer.{RunAnswer}
 use Rattle.erosion.proofs.EndingLaws.{ending-refused, ending-ran}
 use Rattle.erosion.proofs.WholeLaws.{wholeRun, whole-numbered}
-use Rattle.thermal_run.specs.ThermalRun.{inputRefusal, ThermalRun, Slides, Reduces, Erodes}
+use Rattle.thermal_run.specs.ThermalRun.{inputRefusal, slideCourse, ThermalRun, Slides, Reduces, Erodes}
 
 module _ {w h dw dh : ℕ} (n : Within w h dw dh) where
   -- the grids of the map and of the averages
@@ -43,16 +46,16 @@ module _ {w h dw dh : ℕ} (n : Within w h dw dh) where
       let r = within-range n in
       record { w-low = r .columns; w-high = r .wide; h-low = r .rows; h-high = r .high; size = e }
 
-  module _ (conf : ThermalSettings) (stop : ℕ) (map : List Float) where
+  module _ (params : ThermalParams) (passes stop : ℕ) (map : List Float) where
     -- the run by its loops is the run
-    pub by-loops : {x : Ran} → x ≡ wholeRun w h (thermalCourse dw dh conf stop) map → x ≡ runOn asSource w h (thermalCourse dw dh conf stop) map
-    by-loops e = e ∙ sym (run-nested asSource w h (thermalCourse dw dh conf stop) map (n .dh-low) (omega arith))
+    pub by-loops : {x : Ran} → x ≡ wholeRun w h (slideCourse dw dh params passes stop) map → x ≡ runOn asSource w h (slideCourse dw dh params passes stop) map
+    by-loops e = e ∙ sym (run-nested asSource w h (slideCourse dw dh params passes stop) map (n .dh-low) (omega arith))
 
-    pub ran-numbered : {x : Ran} → x ≡ runOn asSource w h (thermalCourse dw dh conf stop) map → Numbered (x .number)
+    pub ran-numbered : {x : Ran} → x ≡ runOn asSource w h (slideCourse dw dh params passes stop) map → Numbered (x .number)
     ran-numbered {x} e =
         subst (λ (x : Ran). Numbered (x .number))
-        (sym (e ∙ run-nested asSource w h (thermalCourse dw dh conf stop) map (n .dh-low) (omega arith)))
-        (whole-numbered w h (thermalCourse dw dh conf stop) map)
+        (sym (e ∙ run-nested asSource w h (slideCourse dw dh params passes stop) map (n .dh-low) (omega arith)))
+        (whole-numbered w h (slideCourse dw dh params passes stop) map)
 
 -- the end where an average is not finite
 pub halted-fresh : {x r : Reached} {m : Progress} → x ≡ halted 22 m r → m ≡ fresh → r ≡ begun → x ≡ halted 22 (begun .marks) begun
@@ -62,8 +65,8 @@ both : (a b : Bool) → (a && b) ≡ true → (a ≡ true) × (b ≡ true)
 both true b e = (refl, e)
 both false b e = absurd (true≢false (sym e))
 
-module _ {w h dw dh : ℕ} {conf : ThermalSettings} {map small eroded copy : ℕ} where
-  module _ (e : Erodes w h dw dh conf map small eroded copy) where
+module _ {w h dw dh : ℕ} {passes map small eroded copy : ℕ} where
+  module _ (e : Erodes w h dw dh passes map small eroded copy) where
     -- the first working cells of the scratch slices
     pub small-room : dw * dh ≤ small
     small-room = omega (arith, within-cells (e .sides), e .averages)
@@ -75,20 +78,21 @@ module _ {w h dw dh : ℕ} {conf : ThermalSettings} {map small eroded copy : ℕ
     copy-room = omega (arith, within-cells (e .sides), e .copied)
 
     -- on the map
-    pub erodes-slides : {t : Bool} {k : ℕ} → t ≡ (eqb dw w && eqb dh h) → t ≡ true → k ≡ dw * dh → Slides dw dh conf map k
+    pub erodes-slides : {t : Bool} {k : ℕ} → t ≡ (eqb dw w && eqb dh h) → t ≡ true → k ≡ dw * dh → Slides dw dh passes map k
     erodes-slides f t k =
         let s = both (eqb dw w) (eqb dh h) (sym f ∙ t) in
         record {
           sides = within-range (e .sides);
-          iterations = e .iterations;
+          some = e .some;
+          few = e .few;
           heights = e .heights ∙ ap₂ (λ (a b : ℕ). a * b) (sym (eqb-true dw w (s .0))) (sym (eqb-true dh h (s .1)));
           copied = k;
         }
 
     -- on the averages
-    pub erodes-reduces : {a b d : ℕ} → a ≡ dw * dh → b ≡ dw * dh → d ≡ dw * dh → Reduces w h dw dh conf map a b d
+    pub erodes-reduces : {a b d : ℕ} → a ≡ dw * dh → b ≡ dw * dh → d ≡ dw * dh → Reduces w h dw dh passes map a b d
     erodes-reduces a b d =
-        record { sides = e .sides; iterations = e .iterations; heights = e .heights; averages = a; changed = b; copied = d }
+        record { sides = e .sides; some = e .some; few = e .few; heights = e .heights; averages = a; changed = b; copied = d }
 
 -- the whole call
 module _ (w h : ℕ) (conf : ThermalSettings) (stop : ℕ) (map small eroded copy : List Float) where
@@ -123,29 +127,39 @@ module _ (w h : ℕ) (conf : ThermalSettings) (stop : ℕ) (map small eroded cop
       pub run-within : Within w h (work .w) (work .h)
       run-within = accepted-within run-accepted (conf .«work_res») g
 
-      pub run-erodes : Erodes w h (work .w) (work .h) conf (length map) (length small) (length eroded) (length copy)
-      run-erodes =
-          let a = run-accepted in
-          record {
-            sides = run-within;
-            iterations = thermal-iterations conf (a .settings);
-            heights = a .cells;
-            averages = omega (arith, a .room);
-            changed = omega (arith, a .room);
-            copied = omega (arith, a .room);
-          }
+      module _ {passes : ℕ} (i : passes ≡ thermalPasses (work .w) (work .h) conf) where
+        counted : Counted 32768 passes
+        counted =
+            let s = within-range run-within in
+            subst (Counted 32768) (sym i) (thermal-passes (work .w) (work .h) (s .wide) (s .high) (conf .iterations) (thermal-iterations conf (run-accepted .settings)))
 
-      whole-is : runOn asSource w h (thermalCourse (work .w) (work .h) conf stop) map ≡ thermalRun w h conf stop map
-      unfolding thermalRun
-      whole-is = ap (λ (work : Sides). runOn asSource w h (thermalCourse (work .w) (work .h) conf stop) map) g
+        pub run-erodes : Erodes w h (work .w) (work .h) passes (length map) (length small) (length eroded) (length copy)
+        run-erodes =
+            let a = run-accepted in
+            record {
+              sides = run-within;
+              some = counted .some;
+              few = counted .few;
+              heights = a .cells;
+              averages = omega (arith, a .room);
+              changed = omega (arith, a .room);
+              copied = omega (arith, a .room);
+            }
 
-      pub run-done : {r : Reached} {a : RunAnswer} (map′ small′ eroded′ copy′ : List Float) → Answered r a
-          → ranBy map′ r ≡ runOn asSource w h (thermalCourse (work .w) (work .h) conf stop) map
-          → ThermalRun w h conf stop map small eroded copy a map′ small′ eroded′ copy′
-      run-done {r} {a} map′ small′ eroded′ copy′ s t =
-          record {
-            ended = ending-ran r a outcome map map′ (thermalRun w h conf stop map) s (t ∙ whole-is) accepts;
-            small-kept = λ z. absurd (not-refused z);
-            eroded-kept = λ z. absurd (not-refused z);
-            copy-kept = λ z. absurd (not-refused z);
-          }
+        module _ {params : ThermalParams} (p : params ≡ thermalParams (work .w) (work .h) conf) where
+          whole-is : runOn asSource w h (slideCourse (work .w) (work .h) params passes stop) map ≡ thermalRun w h conf stop map
+          unfolding thermalRun
+          whole-is =
+              ap₂ (λ (params : ThermalParams) (passes : ℕ). runOn asSource w h (slideCourse (work .w) (work .h) params passes stop) map) p i
+              ∙ ap (λ (work : Sides). runOn asSource w h (thermalCourse (work .w) (work .h) conf stop) map) g
+
+          pub run-done : {r : Reached} {a : RunAnswer} (map′ small′ eroded′ copy′ : List Float) → Answered r a
+              → ranBy map′ r ≡ runOn asSource w h (slideCourse (work .w) (work .h) params passes stop) map
+              → ThermalRun w h conf stop map small eroded copy a map′ small′ eroded′ copy′
+          run-done {r} {a} map′ small′ eroded′ copy′ s t =
+              record {
+                ended = ending-ran r a outcome map map′ (thermalRun w h conf stop map) s (t ∙ whole-is) accepts;
+                small-kept = λ z. absurd (not-refused z);
+                eroded-kept = λ z. absurd (not-refused z);
+                copy-kept = λ z. absurd (not-refused z);
+              }

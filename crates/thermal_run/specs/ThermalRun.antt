@@ -1,14 +1,17 @@
 -- What gen_thermal_erosion promises of its answer, the map and the scratch slices, and what its parts ask.
-use Prim.Native.Nat.{ℕ, _*_, _≤_, min}
+use Prim.Native.Nat.{ℕ, _+_, _*_, _≤_, min}
 use mathlib.Core.Path.{_≡_}
 use mathlib.Core.Bool.{false}
 use mathlib.Core.List.{List}
 use lib.ListN.{length}
 use lib.IntN.{pos}
-use lib.Ieee.{Float, binary32, ofInt, div}
+use lib.Ieee.{Float, binary32, ofBits, ofInt, div}
 use Rattle.answers.specs.Outcome.{Outcome}
 use Rattle.grid.specs.Sides.{InRange}
 use Rattle.resample.specs.WorkSize.{Within}
+use Rattle.talus.specs.Talus.{thresholdsOf}
+use Rattle.thermal_erosion.specs.declared.ThermalParams.{ThermalParams}
+use Rattle.runs.specs.Machine.{Course}
 use Rattle.runs.specs.Run.{thermalRun}
 use Rattle.runs.specs.Refusals.{badThermal}
 use Rattle.runs.specs.declared.ThermalSettings.{ThermalSettings}
@@ -31,26 +34,47 @@ pub record ThermalRun (w h : ℕ) (conf : ThermalSettings) (stop : ℕ) (map sma
 abbrev pub passFraction : ℕ → ℕ → Float
 passFraction pass passes = div binary32 (ofInt binary32 (pos pass)) (ofInt binary32 (pos passes))
 
--- what the passes ask of their grid, the settings and the lengths of the map and its copy
-pub record Slides (w h : ℕ) (conf : ThermalSettings) (map copy : ℕ) : Type 0 where
+-- the course of so many passes by a plan's parameters
+abbrev pub slideCourse : ℕ → ℕ → ThermalParams → ℕ → ℕ → Course
+slideCourse w h params passes stop =
+    record {
+      w = w;
+      h = h;
+      iterations = passes;
+      passes = 1;
+      cutting = false;
+      incision = λ it hs. hs;
+      opening = λ it. ofBits binary32 0;
+      begins = λ it pass. passFraction (it + pass) passes;
+      thresholds = thresholdsOf (params .threshold);
+      strength = params .strength;
+      water = params .«water_level»;
+      stop = stop;
+    }
+
+-- what the passes ask of their grid, their number and the lengths of the map and its copy
+pub record Slides (w h passes map copy : ℕ) : Type 0 where
   pub sides : InRange w h
-  pub iterations : conf .iterations ≤ 4096
+  pub some : 1 ≤ passes
+  pub few : passes ≤ 32768
   pub heights : map ≡ w * h
   pub copied : copy ≡ w * h
 
 -- what a run on the reduced dw × dh grid asks
-pub record Reduces (w h dw dh : ℕ) (conf : ThermalSettings) (map small eroded copy : ℕ) : Type 0 where
+pub record Reduces (w h dw dh passes map small eroded copy : ℕ) : Type 0 where
   pub sides : Within w h dw dh
-  pub iterations : conf .iterations ≤ 4096
+  pub some : 1 ≤ passes
+  pub few : passes ≤ 32768
   pub heights : map ≡ w * h
   pub averages : small ≡ dw * dh
   pub changed : eroded ≡ dw * dh
   pub copied : copy ≡ dw * dh
 
 -- what a run on either grid asks
-pub record Erodes (w h dw dh : ℕ) (conf : ThermalSettings) (map small eroded copy : ℕ) : Type 0 where
+pub record Erodes (w h dw dh passes map small eroded copy : ℕ) : Type 0 where
   pub sides : Within w h dw dh
-  pub iterations : conf .iterations ≤ 4096
+  pub some : 1 ≤ passes
+  pub few : passes ≤ 32768
   pub heights : map ≡ w * h
   pub averages : w * h ≤ small
   pub changed : w * h ≤ eroded

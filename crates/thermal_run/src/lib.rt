@@ -20,16 +20,17 @@ use plans::thermal_plan;
 use resample::work_sides;
 use runs::ThermalSettings;
 use talus::thresholds;
+use thermal_erosion::ThermalParams;
 ghost use mathlib.Core.Path.{_≡_};
 ghost use mathlib.Core.Bool.{false, _&&_};
 ghost use Prim.Native.Nat.{_≤_};
 ghost use lib.Dec.{eqb};
 ghost use lib.ListN.{length};
 ghost use Rattle.upsample.specs.Samples.{asSource};
-ghost use Rattle.runs.specs.Run.{thermalCourse, runOn};
+ghost use Rattle.runs.specs.Run.{runOn};
 ghost use Rattle.runs.specs.Nested.{nested};
 ghost use Rattle.erosion.specs.Reached.{Worked, seen, ranBy};
-ghost use Rattle.thermal_run.specs.ThermalRun.{passFraction, Slides, Reduces, Erodes, ThermalRun};
+ghost use Rattle.thermal_run.specs.ThermalRun.{passFraction, slideCourse, Slides, Reduces, Erodes, ThermalRun};
 
 // The fraction of the run's passes that are done before a pass.
 fn fraction(pass: usize, passes: usize) -> f32
@@ -44,16 +45,15 @@ fn fraction(pass: usize, passes: usize) -> f32
 fn slide_passes(
     work: Sides,
     hmap: &mut [f32],
-    conf: ThermalSettings,
+    params: ThermalParams,
+    passes: usize,
     stop: u32,
     copy: &mut [f32],
 ) -> Reached
-    requires { ⌜ Slides (work .w) (work .h) conf (length (now hmap)) (length (now copy)) ⌝ }
-    ensures { λ r. ⌜ _≡_ {A = Worked} (record { heights = now (hmap .exit); reached = r }) (seen (nested (thermalCourse (work .w) (work .h) conf stop) (now (hmap .entry)))) ⌝ }
+    requires { ⌜ Slides (work .w) (work .h) passes (length (now hmap)) (length (now copy)) ⌝ }
+    ensures { λ r. ⌜ _≡_ {A = Worked} (record { heights = now (hmap .exit); reached = r }) (seen (nested (slideCourse (work .w) (work .h) params passes stop) (now (hmap .entry)))) ⌝ }
 {
-    let params = thermal_plan(work, conf);
     let ts = thresholds(params.threshold);
-    let passes = thermal_passes(work, conf);
     let mut r = begun();
     let mut pass: usize = 0;
     while pass < passes {
@@ -73,24 +73,25 @@ fn erode_reduced(
     size: Sides,
     hmap: &mut [f32],
     work: Sides,
-    conf: ThermalSettings,
+    params: ThermalParams,
+    passes: usize,
     stop: u32,
     small: &mut [f32],
     eroded: &mut [f32],
     copy: &mut [f32],
 ) -> Reached
     requires { ⌜ (eqb (work .w) (size .w) && eqb (work .h) (size .h)) ≡ false ⌝ }
-    requires { ⌜ Reduces (size .w) (size .h) (work .w) (work .h) conf (length (now hmap)) (length (now small)) (length (now eroded)) (length (now copy)) ⌝ }
-    ensures { λ r. ⌜ ranBy (now (hmap .exit)) r ≡ runOn asSource (size .w) (size .h) (thermalCourse (work .w) (work .h) conf stop) (now (hmap .entry)) ⌝ }
+    requires { ⌜ Reduces (size .w) (size .h) (work .w) (work .h) passes (length (now hmap)) (length (now small)) (length (now eroded)) (length (now copy)) ⌝ }
+    ensures { λ r. ⌜ ranBy (now (hmap .exit)) r ≡ runOn asSource (size .w) (size .h) (slideCourse (work .w) (work .h) params passes stop) (now (hmap .entry)) ⌝ }
 {
     if !reduce(size, hmap, work, small, eroded) {
         return ended(22, fresh(), begun());
     }
-    let r = slide_passes(work, eroded, conf, stop, copy);
-    if r.number != 0 {
-        return r;
+    let done = slide_passes(work, eroded, params, passes, stop, copy);
+    if done.number != 0 {
+        return done;
     }
-    add_back(size, hmap, work, small, eroded, r)
+    add_back(size, hmap, work, small, eroded, done)
 }
 
 // A run on its working grid: the map itself where the sides are the map's, else the reduced grid.
@@ -98,24 +99,26 @@ fn erode(
     size: Sides,
     hmap: &mut [f32],
     work: Sides,
-    conf: ThermalSettings,
+    params: ThermalParams,
+    passes: usize,
     stop: u32,
     small: &mut [f32],
     eroded: &mut [f32],
     copy: &mut [f32],
 ) -> Reached
-    requires { ⌜ Erodes (size .w) (size .h) (work .w) (work .h) conf (length (now hmap)) (length (now small)) (length (now eroded)) (length (now copy)) ⌝ }
-    ensures { λ r. ⌜ ranBy (now (hmap .exit)) r ≡ runOn asSource (size .w) (size .h) (thermalCourse (work .w) (work .h) conf stop) (now (hmap .entry)) ⌝ }
+    requires { ⌜ Erodes (size .w) (size .h) (work .w) (work .h) passes (length (now hmap)) (length (now small)) (length (now eroded)) (length (now copy)) ⌝ }
+    ensures { λ r. ⌜ ranBy (now (hmap .exit)) r ≡ runOn asSource (size .w) (size .h) (slideCourse (work .w) (work .h) params passes stop) (now (hmap .entry)) ⌝ }
 {
     let m = work.w * work.h;
     if on_map(work, size) {
-        return slide_passes(work, hmap, conf, stop, &mut copy[..m]);
+        return slide_passes(work, hmap, params, passes, stop, &mut copy[..m]);
     }
     erode_reduced(
         size,
         hmap,
         work,
-        conf,
+        params,
+        passes,
         stop,
         &mut small[..m],
         &mut eroded[..m],
@@ -141,5 +144,8 @@ pub fn gen_thermal_erosion(
         return refused(why);
     }
     let work = work_sides(size, conf.work_res);
-    answered(erode(size, hmap, work, conf, stop, small, eroded, copy))
+    let params = thermal_plan(work, conf);
+    let passes = thermal_passes(work, conf);
+    let done = erode(size, hmap, work, params, passes, stop, small, eroded, copy);
+    answered(done)
 }

@@ -1,6 +1,6 @@
 use mathlib.Core.Path.{sym, _∙_}
 use borrow.Author.Tests.{not-true, not-false}
-use Rattle.runs.specs.Run.{thermalCourse}
+use Rattle.thermal_run.specs.ThermalRun.{slideCourse}
 use Rattle.erosion.proofs.WholeLaws.{whole-averages, whole-ended, whole-added}
 use Rattle.thermal_run.proofs.RunLaws.{map-grid, work-grid, by-loops, halted-fresh}
 use borrow.Author.Needs.{needs}
@@ -29,7 +29,7 @@ same-length-3 : tie.Need-same-length-3
 same-length-3 c = search needs
 
 returns : tie.Need-returns
-returns c = let a = c .before .before .before .before .before .before .before .before .before .before .before .before .before .before .before .before .args in by-loops (c .before .before .before .before .before .before .before .before .before .before .before .before .before .before .before .before .pre .1 .sides) (a .conf) (a .stop) (a .hmap .now) (whole-averages _ _ (thermalCourse (a .work .w) (a .work .h) (a .conf) (a .stop)) (a .hmap .now) (c .before .before .before .before .before .before .before .before .before .before .before .before .before .before .before .before .pre .0) (c .before .before .before .before .before .before .before .before .reduce .ensures) _ (not-true _ (c .before .before .before .if1 .taken)) (halted-fresh (c .ended .ensures) (c .before .before .fresh .ensures) (c .before .begun .ensures)))
+returns c = let a = c .before .before .before .before .before .before .before .before .before .before .before .before .before .before .before .before .args in by-loops (c .before .before .before .before .before .before .before .before .before .before .before .before .before .before .before .before .pre .1 .sides) (a .params) (a .passes) (a .stop) (a .hmap .now) (whole-averages _ _ (slideCourse (a .work .w) (a .work .h) (a .params) (a .passes) (a .stop)) (a .hmap .now) (c .before .before .before .before .before .before .before .before .before .before .before .before .before .before .before .before .pre .0) (c .before .before .before .before .before .before .before .before .reduce .ensures) _ (not-true _ (c .before .before .before .if1 .taken)) (halted-fresh (c .ended .ensures) (c .before .before .fresh .ensures) (c .before .begun .ensures)))
 
 slide-passes-requires : tie.Need-slide-passes-requires
 slide-passes-requires c κs = search needs
@@ -47,7 +47,7 @@ same-length-7 : tie.Need-same-length-7
 same-length-7 c = search needs
 
 returns-2 : tie.Need-returns-2
-returns-2 c = let a = c .before .before .before .before .before .before .before .before .before .before .before .before .before .before .before .before .before .before .before .before .before .before .args in by-loops (c .before .before .before .before .before .before .before .before .before .before .before .before .before .before .before .before .before .before .before .before .before .before .pre .1 .sides) (a .conf) (a .stop) (a .hmap .now) (whole-ended _ _ (thermalCourse (a .work .w) (a .work .h) (a .conf) (a .stop)) (a .hmap .now) (c .before .before .before .before .before .before .before .before .before .before .before .before .before .before .before .before .before .before .before .before .before .before .pre .0) (c .before .before .before .before .before .before .before .before .before .before .before .before .before .before .reduce .ensures) (not-false _ (c .before .before .before .before .before .before .before .before .before .if1 .left)) _ _ (c .before .before .before .before .before .before .slide-passes .ensures) (c .if2 .taken))
+returns-2 c = let a = c .before .before .before .before .before .before .before .before .before .before .before .before .before .before .before .before .before .before .before .before .before .before .args in by-loops (c .before .before .before .before .before .before .before .before .before .before .before .before .before .before .before .before .before .before .before .before .before .before .pre .1 .sides) (a .params) (a .passes) (a .stop) (a .hmap .now) (whole-ended _ _ (slideCourse (a .work .w) (a .work .h) (a .params) (a .passes) (a .stop)) (a .hmap .now) (c .before .before .before .before .before .before .before .before .before .before .before .before .before .before .before .before .before .before .before .before .before .before .pre .0) (c .before .before .before .before .before .before .before .before .before .before .before .before .before .before .reduce .ensures) (not-false _ (c .before .before .before .before .before .before .before .before .before .if1 .left)) _ _ (c .before .before .before .before .before .before .slide-passes .ensures) (c .if2 .taken))
 
 add-back-requires : tie.Need-add-back-requires
 add-back-requires c κs = let p = c .before .before .before .before .before .before .before .before .before .before .before .before .before .before .before .before .before .before .before .before .before .before .before .before .before .pre .1 in (map-grid (p .sides) (p .heights), (work-grid (p .sides) (c .before .before .before .before .before .before .before .before .before .before .before .before .before .before .before .before .before .reduce .kept .1 .1 .1 .0 ∙ p .averages), (c .before .before .before .before .before .before .before .before .before .slide-passes .kept .1 .0 ∙ c .before .before .before .before .before .before .before .before .before .before .before .before .before .before .before .before .before .reduce .kept .1 .1 .1 .1 .0 ∙ p .changed ∙ sym (c .before .before .before .before .before .before .before .before .before .before .before .before .before .before .before .before .before .reduce .kept .1 .1 .1 .0 ∙ p .averages), c .before .before .before .if2 .left)))
@@ -56,7 +56,7 @@ same-length-8 : tie.Need-same-length-8
 same-length-8 c = search needs
 
 same-length-9 : tie.Need-same-length-9
-same-length-9 c = search needs
+same-length-9 c = c .before .before .before .before .before .before .before .before .before .before .before .before .before .before .before .before .before .before .before .before .before .before .reduce .kept .1 .1 .1 .0
 
 same-length-10 : tie.Need-same-length-10
 same-length-10 c = search needs
@@ -65,7 +65,7 @@ same-length-11 : tie.Need-same-length-11
 same-length-11 c = search needs
 
 returns-3 : tie.Need-returns-3
-returns-3 c = let a = c .before .before .before .before .before .before .before .before .before .before .before .before .before .before .before .before .before .before .before .before .before .before .before .before .before .before .before .before .before .before .args in by-loops (c .before .before .before .before .before .before .before .before .before .before .before .before .before .before .before .before .before .before .before .before .before .before .before .before .before .before .before .before .before .before .pre .1 .sides) (a .conf) (a .stop) (a .hmap .now) (whole-added _ _ (thermalCourse (a .work .w) (a .work .h) (a .conf) (a .stop)) (a .hmap .now) (c .before .before .before .before .before .before .before .before .before .before .before .before .before .before .before .before .before .before .before .before .before .before .before .before .before .before .before .before .before .before .pre .0) (c .before .before .before .before .before .before .before .before .before .before .before .before .before .before .before .before .before .before .before .before .before .before .reduce .ensures) (not-false _ (c .before .before .before .before .before .before .before .before .before .before .before .before .before .before .before .before .before .if1 .left)) _ _ (c .before .before .before .before .before .before .before .before .before .before .before .before .before .before .slide-passes .ensures) _ (c .before .before .before .before .before .before .before .before .if2 .left) (c .before .before .before .before .add-back .ensures))
+returns-3 c = let a = c .before .before .before .before .before .before .before .before .before .before .before .before .before .before .before .before .before .before .before .before .before .before .before .before .before .before .before .before .before .before .args in by-loops (c .before .before .before .before .before .before .before .before .before .before .before .before .before .before .before .before .before .before .before .before .before .before .before .before .before .before .before .before .before .before .pre .1 .sides) (a .params) (a .passes) (a .stop) (a .hmap .now) (whole-added _ _ (slideCourse (a .work .w) (a .work .h) (a .params) (a .passes) (a .stop)) (a .hmap .now) (c .before .before .before .before .before .before .before .before .before .before .before .before .before .before .before .before .before .before .before .before .before .before .before .before .before .before .before .before .before .before .pre .0) (c .before .before .before .before .before .before .before .before .before .before .before .before .before .before .before .before .before .before .before .before .before .before .reduce .ensures) (not-false _ (c .before .before .before .before .before .before .before .before .before .before .before .before .before .before .before .before .before .if1 .left)) _ _ (c .before .before .before .before .before .before .before .before .before .before .before .before .before .before .slide-passes .ensures) _ (c .before .before .before .before .before .before .before .before .if2 .left) (c .before .before .before .before .add-back .ensures))
 
 pub erode-reduced-spec : {M : Type 1} → statement M
 erode-reduced-spec =

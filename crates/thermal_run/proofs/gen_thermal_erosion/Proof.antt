@@ -1,5 +1,7 @@
-use Rattle.thermal_run.proofs.RunLaws.{decided, run-refused, run-accepted, run-within, run-erodes, run-done, ran-numbered}
+use native.Mathlib.Omega.{arith}
 use borrow.Author.Needs.{needs}
+use Rattle.plans.proofs.InputLaws.{thermal-iterations}
+use Rattle.thermal_run.proofs.RunLaws.{decided, run-refused, run-accepted, run-within, run-erodes, run-done, ran-numbered}
 use Rattle.thermal_run.proofs.gen_thermal_erosion.Statement.{statement}
 use Rattle.thermal_run.proofs.gen_thermal_erosion.Tie as tie
 
@@ -33,11 +35,17 @@ enum-told c = search needs
 work-sides-requires : tie.Need-work-sides-requires
 work-sides-requires c κs = let a = c .before .before .before .before .before .before .before .before .before .before .before .args in let s = run-accepted (a .size .w) (a .size .h) (a .conf) (a .stop) (a .hmap .now) (a .small .now) (a .eroded .now) (a .copy .now) (decided (a .size .w) (a .size .h) (a .conf) (a .stop) (a .hmap .now) (a .small .now) (a .eroded .now) (a .copy .now) (c .before .before .refusal .ensures) (c .before .before .before .bad-thermal .ensures) (c .before .before .before .before .before .least2 .ensures) (c .before .before .before .before .before .before .least .ensures)) (c .enum-told .given .1) .sides in (s .wide, s .high)
 
+thermal-plan-requires : tie.Need-thermal-plan-requires
+thermal-plan-requires c κs = let a = c .before .before .before .before .before .before .before .before .before .before .before .before .args in let n = run-within (a .size .w) (a .size .h) (a .conf) (a .stop) (a .hmap .now) (a .small .now) (a .eroded .now) (a .copy .now) (decided (a .size .w) (a .size .h) (a .conf) (a .stop) (a .hmap .now) (a .small .now) (a .eroded .now) (a .copy .now) (c .before .before .before .refusal .ensures) (c .before .before .before .before .bad-thermal .ensures) (c .before .before .before .before .before .before .least2 .ensures) (c .before .before .before .before .before .before .before .least .ensures)) (c .before .enum-told .given .1) (c .work-sides .ensures) in (omega (arith, n .dw-high, n .wide), omega (arith, n .dh-high, n .high))
+
+thermal-passes-requires : tie.Need-thermal-passes-requires
+thermal-passes-requires c κs = let a = c .before .before .before .before .before .before .before .before .before .before .before .before .before .args in let n = run-within (a .size .w) (a .size .h) (a .conf) (a .stop) (a .hmap .now) (a .small .now) (a .eroded .now) (a .copy .now) (decided (a .size .w) (a .size .h) (a .conf) (a .stop) (a .hmap .now) (a .small .now) (a .eroded .now) (a .copy .now) (c .before .before .before .before .refusal .ensures) (c .before .before .before .before .before .bad-thermal .ensures) (c .before .before .before .before .before .before .before .least2 .ensures) (c .before .before .before .before .before .before .before .before .least .ensures)) (c .before .before .enum-told .given .1) (c .before .work-sides .ensures) in (omega (arith, n .dw-high, n .wide), (omega (arith, n .dh-high, n .high), thermal-iterations (a .conf) (run-accepted (a .size .w) (a .size .h) (a .conf) (a .stop) (a .hmap .now) (a .small .now) (a .eroded .now) (a .copy .now) (decided (a .size .w) (a .size .h) (a .conf) (a .stop) (a .hmap .now) (a .small .now) (a .eroded .now) (a .copy .now) (c .before .before .before .before .refusal .ensures) (c .before .before .before .before .before .bad-thermal .ensures) (c .before .before .before .before .before .before .before .least2 .ensures) (c .before .before .before .before .before .before .before .before .least .ensures)) (c .before .before .enum-told .given .1) .settings)))
+
 erode-requires : tie.Need-erode-requires
-erode-requires c κs = let a = c .before .before .before .before .before .before .before .before .before .before .before .before .before .before .before .before .args in run-erodes (a .size .w) (a .size .h) (a .conf) (a .stop) (a .hmap .now) (a .small .now) (a .eroded .now) (a .copy .now) (decided (a .size .w) (a .size .h) (a .conf) (a .stop) (a .hmap .now) (a .small .now) (a .eroded .now) (a .copy .now) (c .before .before .before .before .before .before .before .refusal .ensures) (c .before .before .before .before .before .before .before .before .bad-thermal .ensures) (c .before .before .before .before .before .before .before .before .before .before .least2 .ensures) (c .before .before .before .before .before .before .before .before .before .before .before .least .ensures)) (c .before .before .before .before .before .enum-told .given .1) (c .before .before .before .before .work-sides .ensures)
+erode-requires c κs = let a = c .before .before .before .before .before .before .before .before .before .before .before .before .before .before .before .before .before .before .args in run-erodes (a .size .w) (a .size .h) (a .conf) (a .stop) (a .hmap .now) (a .small .now) (a .eroded .now) (a .copy .now) (decided (a .size .w) (a .size .h) (a .conf) (a .stop) (a .hmap .now) (a .small .now) (a .eroded .now) (a .copy .now) (c .before .before .before .before .before .before .before .before .before .refusal .ensures) (c .before .before .before .before .before .before .before .before .before .before .bad-thermal .ensures) (c .before .before .before .before .before .before .before .before .before .before .before .before .least2 .ensures) (c .before .before .before .before .before .before .before .before .before .before .before .before .before .least .ensures)) (c .before .before .before .before .before .before .before .enum-told .given .1) (c .before .before .before .before .before .before .work-sides .ensures) (c .before .before .before .before .thermal-passes .ensures)
 
 answered-requires : tie.Need-answered-requires
-answered-requires c κs = let a = c .before .before .before .before .before .before .before .before .before .before .before .before .before .before .before .before .before .before .before .before .before .before .before .before .before .args in ran-numbered (run-within (a .size .w) (a .size .h) (a .conf) (a .stop) (a .hmap .now) (a .small .now) (a .eroded .now) (a .copy .now) (decided (a .size .w) (a .size .h) (a .conf) (a .stop) (a .hmap .now) (a .small .now) (a .eroded .now) (a .copy .now) (c .before .before .before .before .before .before .before .before .before .before .before .before .before .before .before .before .refusal .ensures) (c .before .before .before .before .before .before .before .before .before .before .before .before .before .before .before .before .before .bad-thermal .ensures) (c .before .before .before .before .before .before .before .before .before .before .before .before .before .before .before .before .before .before .before .least2 .ensures) (c .before .before .before .before .before .before .before .before .before .before .before .before .before .before .before .before .before .before .before .before .least .ensures)) (c .before .before .before .before .before .before .before .before .before .before .before .before .before .before .enum-told .given .1) (c .before .before .before .before .before .before .before .before .before .before .before .before .before .work-sides .ensures)) (a .conf) (a .stop) (a .hmap .now) (c .before .before .before .before .before .before .before .before .erode .ensures)
+answered-requires c κs = let a = c .before .before .before .before .before .before .before .before .before .before .before .before .before .before .before .before .before .before .before .before .before .before .before .before .before .before .before .args in ran-numbered (run-within (a .size .w) (a .size .h) (a .conf) (a .stop) (a .hmap .now) (a .small .now) (a .eroded .now) (a .copy .now) (decided (a .size .w) (a .size .h) (a .conf) (a .stop) (a .hmap .now) (a .small .now) (a .eroded .now) (a .copy .now) (c .before .before .before .before .before .before .before .before .before .before .before .before .before .before .before .before .before .before .refusal .ensures) (c .before .before .before .before .before .before .before .before .before .before .before .before .before .before .before .before .before .before .before .bad-thermal .ensures) (c .before .before .before .before .before .before .before .before .before .before .before .before .before .before .before .before .before .before .before .before .before .least2 .ensures) (c .before .before .before .before .before .before .before .before .before .before .before .before .before .before .before .before .before .before .before .before .before .before .least .ensures)) (c .before .before .before .before .before .before .before .before .before .before .before .before .before .before .before .before .enum-told .given .1) (c .before .before .before .before .before .before .before .before .before .before .before .before .before .before .before .work-sides .ensures)) (c .before .before .before .before .before .before .before .before .before .before .before .before .before .before .thermal-plan .result) (c .before .before .before .before .before .before .before .before .before .before .before .before .before .thermal-passes .result) (a .stop) (a .hmap .now) (c .before .before .before .before .before .before .before .before .erode .ensures)
 
 same-length-2 : tie.Need-same-length-2
 same-length-2 c = search needs
@@ -52,7 +60,7 @@ same-length-5 : tie.Need-same-length-5
 same-length-5 c = search needs
 
 returns-2 : tie.Need-returns-2
-returns-2 c = let a = c .before .before .before .before .before .before .before .before .before .before .before .before .before .before .before .before .before .before .before .before .before .before .before .before .before .before .args in run-done (a .size .w) (a .size .h) (a .conf) (a .stop) (a .hmap .now) (a .small .now) (a .eroded .now) (a .copy .now) (decided (a .size .w) (a .size .h) (a .conf) (a .stop) (a .hmap .now) (a .small .now) (a .eroded .now) (a .copy .now) (c .before .before .before .before .before .before .before .before .before .before .before .before .before .before .before .before .before .refusal .ensures) (c .before .before .before .before .before .before .before .before .before .before .before .before .before .before .before .before .before .before .bad-thermal .ensures) (c .before .before .before .before .before .before .before .before .before .before .before .before .before .before .before .before .before .before .before .before .least2 .ensures) (c .before .before .before .before .before .before .before .before .before .before .before .before .before .before .before .before .before .before .before .before .before .least .ensures)) (c .before .before .before .before .before .before .before .before .before .before .before .before .before .before .before .enum-told .given .1) (c .before .before .before .before .before .before .before .before .before .before .before .before .before .before .work-sides .ensures) _ _ _ _ (c .answered .ensures) (c .before .before .before .before .before .before .before .before .before .erode .ensures)
+returns-2 c = let a = c .before .before .before .before .before .before .before .before .before .before .before .before .before .before .before .before .before .before .before .before .before .before .before .before .before .before .before .before .args in run-done (a .size .w) (a .size .h) (a .conf) (a .stop) (a .hmap .now) (a .small .now) (a .eroded .now) (a .copy .now) (decided (a .size .w) (a .size .h) (a .conf) (a .stop) (a .hmap .now) (a .small .now) (a .eroded .now) (a .copy .now) (c .before .before .before .before .before .before .before .before .before .before .before .before .before .before .before .before .before .before .before .refusal .ensures) (c .before .before .before .before .before .before .before .before .before .before .before .before .before .before .before .before .before .before .before .before .bad-thermal .ensures) (c .before .before .before .before .before .before .before .before .before .before .before .before .before .before .before .before .before .before .before .before .before .before .least2 .ensures) (c .before .before .before .before .before .before .before .before .before .before .before .before .before .before .before .before .before .before .before .before .before .before .before .least .ensures)) (c .before .before .before .before .before .before .before .before .before .before .before .before .before .before .before .before .before .enum-told .given .1) (c .before .before .before .before .before .before .before .before .before .before .before .before .before .before .before .before .work-sides .ensures) (c .before .before .before .before .before .before .before .before .before .before .before .before .before .before .thermal-passes .ensures) (c .before .before .before .before .before .before .before .before .before .before .before .before .before .before .before .thermal-plan .ensures) _ _ _ _ (c .answered .ensures) (c .before .before .before .before .before .before .before .before .before .erode .ensures)
 
 pub gen-thermal-erosion-spec : {M : Type 1} → statement M
 gen-thermal-erosion-spec =
@@ -68,6 +76,8 @@ gen-thermal-erosion-spec =
     returns
     enum-told
     work-sides-requires
+    thermal-plan-requires
+    thermal-passes-requires
     erode-requires
     answered-requires
     same-length-2

@@ -1,73 +1,65 @@
 use Prim.Native.Nat.{_-_}
-use mathlib.Core.Path.{_≡_}
 use native.Mathlib.Omega.{arith}
 use borrow.Author.Needs.{needs}
 use lib.ListN.{length}
-use Rattle.runs.specs.Plan.{thermalPasses, thermalParams}
-use Rattle.runs.specs.declared.ThermalSettings.{ThermalSettings}
-use Rattle.thermal_run.proofs.SlideLaws.{Passing, passing-none, passing-done, passing-ended, passing-ready, passing-more, few-passes}
+use Rattle.thermal_run.specs.ThermalRun.{slideCourse}
+use Rattle.thermal_run.proofs.SlideLaws.{Passing, passing-none, passing-done, passing-ended, passing-ready, passing-more}
 use Rattle.thermal_run.proofs.slide_passes.Statement.{statement}
 use Rattle.thermal_run.proofs.slide_passes.Tie as tie
 
 abbrev Inv-loop : tie.InvT-loop
-Inv-loop work hmap₀ stop copy₀ params ts passes r₀ pass₀ hmap copy r pass = (conf : ThermalSettings) → passes ≡ thermalPasses (work .w) (work .h) conf → params ≡ thermalParams (work .w) (work .h) conf → Passing (work .w) (work .h) conf stop hmap₀ (length copy₀) pass hmap copy r
+Inv-loop work hmap₀ params passes stop copy₀ ts r₀ pass₀ hmap copy r pass = Passing (slideCourse (work .w) (work .h) params passes stop) hmap₀ (length copy₀) pass hmap copy r
 
 abbrev μ-loop : tie.MeasureT-loop
-μ-loop work hmap₀ stop copy₀ params ts passes r₀ pass₀ hmap copy r pass = passes - pass
-
-thermal-plan-requires : tie.Need-thermal-plan-requires Inv-loop μ-loop
-thermal-plan-requires c κs = let s = c .before .before .pre .sides in (s .wide, s .high)
+μ-loop work hmap₀ params passes stop copy₀ ts r₀ pass₀ hmap copy r pass = passes - pass
 
 thresholds-requires : tie.Need-thresholds-requires Inv-loop μ-loop
 thresholds-requires c κs = search needs
-
-thermal-passes-requires : tie.Need-thermal-passes-requires Inv-loop μ-loop
-thermal-passes-requires c κs = let s = c .before .before .before .before .pre .sides in (s .wide, (s .high, c .before .before .before .before .pre .iterations))
 
 begun-requires : tie.Need-begun-requires Inv-loop μ-loop
 begun-requires c κs = search needs
 
 loop-holds : tie.Need-loop-holds Inv-loop μ-loop
-loop-holds c = λ conf e q. passing-none _ _ conf _ _ _ (c .begun .ensures)
+loop-holds c = passing-none _ _ _ _ _ _ _ (c .begun .ensures)
 
 same-length : tie.Need-same-length Inv-loop μ-loop
-same-length c = (c .before .before .before .loop .inv (c .before .before .before .before .before .before .before .before .before .before .args .conf) (c .before .before .before .before .before .thermal-passes .ensures) (c .before .before .before .before .before .before .before .thermal-plan .ensures)) .long
+same-length c = c .before .before .before .loop .inv .long
 
 same-length-2 : tie.Need-same-length-2 Inv-loop μ-loop
-same-length-2 c = (c .before .before .before .loop .inv (c .before .before .before .before .before .before .before .before .before .before .args .conf) (c .before .before .before .before .before .thermal-passes .ensures) (c .before .before .before .before .before .before .before .thermal-plan .ensures)) .room
+same-length-2 c = c .before .before .before .loop .inv .room
 
 returns : tie.Need-returns Inv-loop μ-loop
-returns c = passing-ended _ _ _ _ _ (c .before .before .before .loop .inv (c .before .before .before .before .before .before .before .before .before .before .args .conf) (c .before .before .before .before .before .thermal-passes .ensures) (c .before .before .before .before .before .before .before .thermal-plan .ensures)) (c .if1 .taken)
+returns c = passing-ended _ _ _ _ _ _ (c .before .before .before .loop .inv) (c .if1 .taken)
 
 fraction-requires : tie.Need-fraction-requires Inv-loop μ-loop
-fraction-requires c κs = let n = few-passes (c .before .before .before .before .before .before .before .before .before .before .pre) (c .before .before .before .before .before .thermal-passes .ensures) in (omega (arith, n, c .before .before .loop-test .taken), n)
+fraction-requires c κs = let n = c .before .before .before .before .before .before .before .before .pre .few in (omega (arith, n, c .before .before .loop-test .taken), n)
 
 add-fraction : tie.Need-add-fraction Inv-loop μ-loop
-add-fraction c = omega (arith, few-passes (c .before .before .before .before .before .before .before .before .before .before .before .pre) (c .before .before .before .before .before .before .thermal-passes .ensures), c .before .before .before .loop-test .taken)
+add-fraction c = omega (arith, c .before .before .before .before .before .before .before .before .before .pre .few, c .before .before .before .loop-test .taken)
 
 fraction-requires-2 : tie.Need-fraction-requires-2 Inv-loop μ-loop
-fraction-requires-2 c κs = let n = few-passes (c .before .before .before .before .before .before .before .before .before .before .before .pre) (c .before .before .before .before .before .before .thermal-passes .ensures) in (omega (arith, n, c .before .before .before .loop-test .taken), n)
+fraction-requires-2 c κs = let n = c .before .before .before .before .before .before .before .before .before .pre .few in (omega (arith, n, c .before .before .before .loop-test .taken), n)
 
 run-pass-requires : tie.Need-run-pass-requires Inv-loop μ-loop
-run-pass-requires c κs = passing-ready _ _ _ _ _ (c .before .before .before .before .before .before .before .before .loop .inv (c .before .before .before .before .before .before .before .before .before .before .before .before .before .before .before .args .conf) (c .before .before .before .before .before .before .before .before .before .before .thermal-passes .ensures) (c .before .before .before .before .before .before .before .before .before .before .before .before .thermal-plan .ensures)) (c .before .before .before .before .before .if1 .left) (c .before .before .before .before .before .before .before .before .before .before .before .before .before .before .before .pre) (omega (arith, c .before .before .before .before .before .before .before .loop-test .taken, c .before .before .before .before .before .before .before .before .before .before .thermal-passes .ensures))
+run-pass-requires c κs = passing-ready _ _ _ _ _ _ (c .before .before .before .before .before .before .before .before .loop .inv) (c .before .before .before .before .before .if1 .left) (c .before .before .before .before .before .before .before .before .before .before .before .before .before .pre) (c .before .before .before .before .before .before .before .loop-test .taken)
 
 add-pass : tie.Need-add-pass Inv-loop μ-loop
-add-pass c = omega (arith, few-passes (c .before .before .before .before .before .before .before .before .before .before .before .before .before .before .before .before .before .before .before .before .pre) (c .before .before .before .before .before .before .before .before .before .before .before .before .before .before .before .thermal-passes .ensures), c .before .before .before .before .before .before .before .before .before .before .before .before .loop-test .taken)
+add-pass c = omega (arith, c .before .before .before .before .before .before .before .before .before .before .before .before .before .before .before .before .before .before .pre .few, c .before .before .before .before .before .before .before .before .before .before .before .before .loop-test .taken)
 
 loop-less : tie.Need-loop-less Inv-loop μ-loop
 loop-less c = omega (arith, c .before .before .before .before .before .before .before .before .before .before .before .before .loop-test .taken)
 
 loop-again : tie.Need-loop-again Inv-loop μ-loop
-loop-again c = λ conf e q. passing-more _ _ _ _ _ (c .before .before .before .before .before .before .before .before .before .before .before .before .before .loop .inv conf e q) (c .before .before .before .before .before .before .before .before .before .before .if1 .left) _ _ _ (record { heights = _; reached = c .before .before .before .before .run-pass .result }) _ e q (c .before .before .before .before .before .before .before .before .before .before .before .before .before .before .before .before .thresholds .ensures) (c .before .before .before .before .before .before .before .before .before .fraction .ensures) (c .before .before .before .before .before .before .before .before .fraction2 .ensures) (c .before .before .before .before .run-pass .ensures) (c .before .before .before .before .before .before .before .before .before .before .before .before .loop-test .taken) (c .before .before .before .before .run-pass .kept .1 .1 .0) (c .before .before .before .before .run-pass .kept .1 .1 .1 .0)
+loop-again c = passing-more _ _ _ _ _ _ (c .before .before .before .before .before .before .before .before .before .before .before .before .before .loop .inv) (c .before .before .before .before .before .before .before .before .before .before .if1 .left) _ _ (record { heights = _; reached = c .before .before .before .before .run-pass .result }) _ (c .before .before .before .before .before .before .before .before .before .before .before .before .before .before .before .thresholds .ensures) (c .before .before .before .before .before .before .before .before .before .fraction .ensures) (c .before .before .before .before .before .before .before .before .fraction2 .ensures) (c .before .before .before .before .run-pass .ensures) (c .before .before .before .before .before .before .before .before .before .before .before .before .loop-test .taken) (c .before .before .before .before .run-pass .kept .1 .1 .0) (c .before .before .before .before .run-pass .kept .1 .1 .1 .0)
 
 same-length-3 : tie.Need-same-length-3 Inv-loop μ-loop
-same-length-3 c = (c .before .loop .inv (c .before .before .before .before .before .before .before .before .args .conf) (c .before .before .before .thermal-passes .ensures) (c .before .before .before .before .before .thermal-plan .ensures)) .long
+same-length-3 c = c .before .loop .inv .long
 
 same-length-4 : tie.Need-same-length-4 Inv-loop μ-loop
-same-length-4 c = (c .before .loop .inv (c .before .before .before .before .before .before .before .before .args .conf) (c .before .before .before .thermal-passes .ensures) (c .before .before .before .before .before .thermal-plan .ensures)) .room
+same-length-4 c = c .before .loop .inv .room
 
 returns-2 : tie.Need-returns-2 Inv-loop μ-loop
-returns-2 c = passing-done _ _ _ _ _ (c .before .loop .inv (c .before .before .before .before .before .before .before .before .args .conf) (c .before .before .before .thermal-passes .ensures) (c .before .before .before .before .before .thermal-plan .ensures)) (omega (arith, c .loop-test .left, c .before .before .before .thermal-passes .ensures))
+returns-2 c = passing-done _ _ _ _ _ _ (c .before .loop .inv) (c .loop-test .left)
 
 pub slide-passes-spec : {M : Type 1} → statement M
 slide-passes-spec =
@@ -75,9 +67,7 @@ slide-passes-spec =
     (tie.spec
     Inv-loop
     μ-loop
-    thermal-plan-requires
     thresholds-requires
-    thermal-passes-requires
     begun-requires
     loop-holds
     same-length
