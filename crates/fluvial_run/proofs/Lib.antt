@@ -1,0 +1,2 @@
+-- Laws of gen_fluvial_erosion.
+pub mod RunLaws
