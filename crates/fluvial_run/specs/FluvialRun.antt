@@ -8,7 +8,6 @@ use lib.Ieee.{Float}
 use Rattle.answers.specs.Outcome.{Outcome}
 use Rattle.grid.specs.Heights.{allFinite}
 use Rattle.drainage.specs.Ground.{gridGround}
-use Rattle.flow.specs.declared.Lent.{Lent}
 use Rattle.resample.specs.WorkSize.{Within}
 use Rattle.runs.specs.Plan.{fluvialPlan}
 use Rattle.runs.specs.Machine.{Course}
@@ -61,17 +60,30 @@ pub record FluvialRun (w h : ℕ) (conf : FluvialSettings) (stop : ℕ) (map sma
 abbrev pub courseOn : ℕ → ℕ → FluvialSettings → ℕ → Course
 courseOn w h conf stop = fluvialCourse (gridGround w h (conf .«water_level»)) w h (fluvialPlan w h conf) stop ours
 
--- room for n cells in every scratch slice of an iteration
-pub record Rooms (n : ℕ) (l : Lent) : Type 0 where
+-- the lengths of the scratch slices of an iteration
+pub record Lengths : Type 0 where
+  pub copy : ℕ
+  pub area : ℕ
+  pub order : ℕ
+  pub recv : ℕ
+  pub queue : ℕ
+  pub status : ℕ
+
+abbrev pub lengthsOf : List Float → List Float → List ℕ → List ℕ → List ℕ → List ℕ → Lengths
+lengthsOf copy area order recv queue status =
+    record { copy = length copy; area = length area; order = length order; recv = length recv; queue = length queue; status = length status }
+
+-- room for n cells in each of them
+pub record Rooms (n : ℕ) (l : Lengths) : Type 0 where
+  pub copy : n ≤ l .copy
+  pub area : n ≤ l .area
   pub order : n ≤ l .order
-  pub receivers : n ≤ l .receivers
-  pub copy : n ≤ l .spill
-  pub areas : n ≤ l .areas
+  pub recv : n ≤ l .recv
   pub queue : n ≤ l .queue
   pub status : n ≤ l .status
 
 -- what a run on the reduced dw × dh grid asks
-pub record Reduces (w h dw dh : ℕ) (conf : FluvialSettings) (map small eroded : ℕ) (l : Lent) : Type 0 where
+pub record Reduces (w h dw dh : ℕ) (conf : FluvialSettings) (map small eroded : ℕ) (l : Lengths) : Type 0 where
   pub sides : Within w h dw dh
   pub iterations : conf .iterations ≤ 4096
   pub heights : map ≡ w * h
@@ -80,7 +92,7 @@ pub record Reduces (w h dw dh : ℕ) (conf : FluvialSettings) (map small eroded 
   pub rooms : Rooms (dw * dh) l
 
 -- what a run on either grid asks
-pub record Erodes (w h dw dh : ℕ) (conf : FluvialSettings) (map : List Float) (small eroded : ℕ) (l : Lent) : Type 0 where
+pub record Erodes (w h dw dh : ℕ) (conf : FluvialSettings) (map : List Float) (small eroded : ℕ) (l : Lengths) : Type 0 where
   pub sides : Within w h dw dh
   pub iterations : conf .iterations ≤ 4096
   pub heights : length map ≡ w * h

@@ -21,7 +21,7 @@ slice-relend-prefix-run-iterations-2 : tie.Need-slice-relend-prefix-run-iteratio
 slice-relend-prefix-run-iterations-2 c = search needs
 
 slice-aggregate-run-iterations-2 : tie.Need-slice-aggregate-run-iterations-2
-slice-aggregate-run-iterations-2 c = sym (length-take-le _ _ (c .before .before .before .before .before .before .before .before .before .before .before .before .pre .1 .1 .areas))
+slice-aggregate-run-iterations-2 c = sym (length-take-le _ _ (c .before .before .before .before .before .before .before .before .before .before .before .before .pre .1 .1 .area))
 
 slice-relend-prefix-run-iterations-3 : tie.Need-slice-relend-prefix-run-iterations-3
 slice-relend-prefix-run-iterations-3 c = search needs
@@ -33,12 +33,12 @@ slice-relend-prefix-run-iterations-4 : tie.Need-slice-relend-prefix-run-iteratio
 slice-relend-prefix-run-iterations-4 c = search needs
 
 slice-aggregate-run-iterations-4 : tie.Need-slice-aggregate-run-iterations-4
-slice-aggregate-run-iterations-4 c = sym (length-take-le _ _ (c .before .before .before .before .before .before .before .before .before .before .before .before .before .before .pre .1 .1 .receivers))
+slice-aggregate-run-iterations-4 c = sym (length-take-le _ _ (c .before .before .before .before .before .before .before .before .before .before .before .before .before .before .pre .1 .1 .recv))
 
 run-iterations-requires : tie.Need-run-iterations-requires
 run-iterations-requires c κs = let s = c .before .before .before .before .before .before .before .before .before .before .before .before .before .before .before .before in
     let a = s .args in
-    (course-bounded (a .work .w) (a .work .h) (a .conf) (a .stop) (c .before .before .before .before .before .before .plan-on .ensures) (s .pre .1 .0 .sides) (s .pre .0), (s .pre .1 .0, rooms-enough (a .hmap .now) (a .order .now) (a .recv .now) (a .copy .now) (a .area .now) (a .queue .now) (a .status .now) (s .pre .1 .1) (s .pre .1 .0 .cells)))
+    (course-bounded (a .work .w) (a .work .h) (a .conf) (a .stop) (c .before .before .before .before .before .before .plan-on .ensures) (s .pre .1 .0 .sides) (s .pre .0), (s .pre .1 .0, rooms-enough (a .hmap .now) (a .copy .now) (a .area .now) (a .order .now) (a .recv .now) (a .queue .now) (a .status .now) (s .pre .1 .1) (s .pre .1 .0 .cells)))
 
 same-length : tie.Need-same-length
 same-length c = search needs

@@ -1,0 +1,138 @@
+use mathlib.Core.Path.{sym, _∙_}
+use borrow.Author.Tests.{not-true, not-false}
+use Rattle.erosion.proofs.WholeLaws.{whole-averages, whole-ended, whole-added}
+use Rattle.thermal_run.proofs.RunLaws.{map-grid, work-grid, halted-fresh}
+use Rattle.fluvial_run.specs.FluvialRun.{courseOn}
+use Rattle.fluvial_run.proofs.RunLaws.{by-loops, averages-accepted}
+use borrow.Author.Needs.{needs}
+use Rattle.fluvial_run.proofs.erode_reduced.Statement.{statement}
+use Rattle.fluvial_run.proofs.erode_reduced.Tie as tie
+
+reduce-requires : tie.Need-reduce-requires
+reduce-requires c κs = search needs
+
+fresh-requires : tie.Need-fresh-requires
+fresh-requires c κs = search needs
+
+begun-requires : tie.Need-begun-requires
+begun-requires c κs = search needs
+
+ended-requires : tie.Need-ended-requires
+ended-requires c κs = search needs
+
+same-length : tie.Need-same-length
+same-length c = search needs
+
+same-length-2 : tie.Need-same-length-2
+same-length-2 c = search needs
+
+same-length-3 : tie.Need-same-length-3
+same-length-3 c = search needs
+
+returns : tie.Need-returns
+returns c = let s = c .before .before .before .before .before .before .before .before .before .before .before .before .before .before .before .before .before .before .before .before .before in let a = s .args in by-loops (s .pre .1 .sides) (a .conf) (a .stop) (a .hmap .now) (whole-averages _ _ (courseOn (a .work .w) (a .work .h) (a .conf) (a .stop)) (a .hmap .now) (s .pre .0) (c .before .before .before .before .before .before .before .before .reduce .ensures) _ (not-true _ (c .before .before .before .if1 .taken)) (halted-fresh (c .ended .ensures) (c .before .before .fresh .ensures) (c .before .begun .ensures)))
+
+run-grid-requires : tie.Need-run-grid-requires
+run-grid-requires c κs = let p = c .before .before .before .before .before .before .before .before .before .before .before .before .before .before .before .before .before .before .before .before .before .before .before .before .before .pre .1 in
+    (p .iterations, (averages-accepted (p .sides) _ (c .before .before .before .before .before .before .before .before .before .before .before .before .reduce .ensures) (not-false _ (c .before .before .before .before .before .before .before .if1 .left)) (c .before .before .before .before .before .before .before .before .before .before .before .before .reduce .kept .1 .1 .1 .1 .0 ∙ p .changed), p .rooms))
+
+same-length-4 : tie.Need-same-length-4
+same-length-4 c = search needs
+
+same-length-5 : tie.Need-same-length-5
+same-length-5 c = search needs
+
+same-length-6 : tie.Need-same-length-6
+same-length-6 c = search needs
+
+same-length-7 : tie.Need-same-length-7
+same-length-7 c = search needs
+
+same-length-8 : tie.Need-same-length-8
+same-length-8 c = search needs
+
+same-length-9 : tie.Need-same-length-9
+same-length-9 c = search needs
+
+same-length-10 : tie.Need-same-length-10
+same-length-10 c = search needs
+
+same-length-11 : tie.Need-same-length-11
+same-length-11 c = search needs
+
+same-length-12 : tie.Need-same-length-12
+same-length-12 c = search needs
+
+returns-2 : tie.Need-returns-2
+returns-2 c = let s = c .before .before .before .before .before .before .before .before .before .before .before .before .before .before .before .before .before .before .before .before .before .before .before .before .before .before .before .before .before .before .before .before .before .before .before .before .before .before .before .before .before .before in let a = s .args in by-loops (s .pre .1 .sides) (a .conf) (a .stop) (a .hmap .now) (whole-ended _ _ (courseOn (a .work .w) (a .work .h) (a .conf) (a .stop)) (a .hmap .now) (s .pre .0) (c .before .before .before .before .before .before .before .before .before .before .before .before .before .before .before .before .before .before .before .before .before .before .before .before .before .before .before .before .before .reduce .ensures) (not-false _ (c .before .before .before .before .before .before .before .before .before .before .before .before .before .before .before .before .before .before .before .before .before .before .before .before .if1 .left)) _ _ (c .before .before .before .before .before .before .before .before .before .before .before .before .before .before .before .before .run-grid .ensures) (c .if2 .taken))
+
+add-back-requires : tie.Need-add-back-requires
+add-back-requires c κs = let p = c .before .before .before .before .before .before .before .before .before .before .before .before .before .before .before .before .before .before .before .before .before .before .before .before .before .before .before .before .before .before .before .before .before .before .before .before .before .before .before .before .before .before .before .before .before .pre .1 in
+    let k = c .before .before .before .before .before .before .before .before .before .before .before .before .before .before .before .before .before .before .before .before .before .before .before .before .before .before .before .before .before .before .before .before .reduce .kept .1 .1 .1 in
+    let n = k .0 ∙ p .averages in
+    (map-grid (p .sides) (p .heights), (work-grid (p .sides) n, (c .before .before .before .before .before .before .before .before .before .before .before .before .before .before .before .before .before .before .before .run-grid .kept .1 .0 ∙ k .1 .0 ∙ p .changed ∙ sym n, c .before .before .before .if2 .left)))
+
+same-length-13 : tie.Need-same-length-13
+same-length-13 c = search needs
+
+same-length-14 : tie.Need-same-length-14
+same-length-14 c = c .before .before .before .before .before .before .before .before .before .before .before .before .before .before .before .before .before .before .before .before .before .before .before .before .before .before .before .before .before .before .before .before .before .before .before .before .before .reduce .kept .1 .1 .1 .0
+
+same-length-15 : tie.Need-same-length-15
+same-length-15 c = c .before .before .before .before .add-back .kept .1 .1 .1 .1 .0 ∙ c .before .before .before .before .before .before .before .before .before .before .before .before .before .before .before .before .before .before .before .before .before .before .before .before .run-grid .kept .1 .0 ∙ c .before .before .before .before .before .before .before .before .before .before .before .before .before .before .before .before .before .before .before .before .before .before .before .before .before .before .before .before .before .before .before .before .before .before .before .before .before .reduce .kept .1 .1 .1 .1 .0
+
+same-length-16 : tie.Need-same-length-16
+same-length-16 c = search needs
+
+same-length-17 : tie.Need-same-length-17
+same-length-17 c = search needs
+
+same-length-18 : tie.Need-same-length-18
+same-length-18 c = search needs
+
+same-length-19 : tie.Need-same-length-19
+same-length-19 c = search needs
+
+same-length-20 : tie.Need-same-length-20
+same-length-20 c = search needs
+
+same-length-21 : tie.Need-same-length-21
+same-length-21 c = search needs
+
+returns-3 : tie.Need-returns-3
+returns-3 c = let s = c .before .before .before .before .before .before .before .before .before .before .before .before .before .before .before .before .before .before .before .before .before .before .before .before .before .before .before .before .before .before .before .before .before .before .before .before .before .before .before .before .before .before .before .before .before .before .before .before .before .before in let a = s .args in by-loops (s .pre .1 .sides) (a .conf) (a .stop) (a .hmap .now) (whole-added _ _ (courseOn (a .work .w) (a .work .h) (a .conf) (a .stop)) (a .hmap .now) (s .pre .0) (c .before .before .before .before .before .before .before .before .before .before .before .before .before .before .before .before .before .before .before .before .before .before .before .before .before .before .before .before .before .before .before .before .before .before .before .before .before .reduce .ensures) (not-false _ (c .before .before .before .before .before .before .before .before .before .before .before .before .before .before .before .before .before .before .before .before .before .before .before .before .before .before .before .before .before .before .before .before .if1 .left)) _ _ (c .before .before .before .before .before .before .before .before .before .before .before .before .before .before .before .before .before .before .before .before .before .before .before .before .run-grid .ensures) _ (c .before .before .before .before .before .before .before .before .if2 .left) (c .before .before .before .before .add-back .ensures))
+
+pub erode-reduced-spec : {M : Type 1} → statement M
+erode-reduced-spec =
+    tie.close
+    (tie.spec
+    reduce-requires
+    fresh-requires
+    begun-requires
+    ended-requires
+    same-length
+    same-length-2
+    same-length-3
+    returns
+    run-grid-requires
+    same-length-4
+    same-length-5
+    same-length-6
+    same-length-7
+    same-length-8
+    same-length-9
+    same-length-10
+    same-length-11
+    same-length-12
+    returns-2
+    add-back-requires
+    same-length-13
+    same-length-14
+    same-length-15
+    same-length-16
+    same-length-17
+    same-length-18
+    same-length-19
+    same-length-20
+    same-length-21
+    returns-3)
