@@ -1,5 +1,4 @@
 -- Laws of the reader.
-pub mod MarkLaws
 pub mod RecordLaws
 pub mod CellLaws
 pub mod ReaderLaws

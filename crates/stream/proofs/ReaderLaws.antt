@@ -14,7 +14,7 @@ use Rattle.grid.specs.declared.Sides.{Sides}
 use Rattle.grid.proofs.SidesLaws.{good-sides}
 use Rattle.runs.specs.declared.FluvialSettings.{FluvialSettings}
 use Rattle.runs.specs.declared.ThermalSettings.{ThermalSettings}
-use Rattle.stream.specs.Bytes.{number4, gridMark, fluvialMark, thermalMark, same, markAt, marked}
+use Rattle.stream_bytes.specs.Bytes.{number4, gridMark, fluvialMark, thermalMark, same, markAt, marked}
 use Rattle.stream.specs.Stream.{Parsed, sidesAt, settingsLength, rowsAt, rowAt, rowsMarked, fluvialAt, thermalAt, fluvialHeader, thermalHeader, headerAt, heightsAt, parsedOf, badGrid, badRest, badSettings, valuesOf, readStream, Framed, Whole}
 use Rattle.stream.specs.declared.Settings.the-variants.{Fluvial, Thermal}
 use Rattle.stream.specs.declared.Header.{Header}

@@ -13,7 +13,7 @@ use lib.Dec.{eqb, ltb}
 use lib.ListN.{length}
 use Rattle.grid.specs.Sides.{InRange}
 use Rattle.drainage.proofs.TallyLaws.{same-or-not}
-use Rattle.stream.specs.Bytes.{gridMark, fluvialMark, thermalMark, rowMark, same, markAt, marked}
+use Rattle.stream_bytes.specs.Bytes.{gridMark, fluvialMark, thermalMark, rowMark, same, markAt, marked}
 use Rattle.stream.specs.Stream.{settingsLength, rowsAt, rowLength, rowAt, rowsMarked, badGrid, badRest, Framed}
 
 and-false : (b : Bool) → (b && false) ≡ false

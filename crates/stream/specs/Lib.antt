@@ -1,3 +1,2 @@
 -- Document 01, 'The stream': the bytes that come in.
-pub mod Bytes
 pub mod Stream

@@ -14,7 +14,7 @@ use Rattle.grid.specs.declared.Sides.{Sides}
 use Rattle.runs.specs.Refusals.{badFluvial, badThermal}
 use Rattle.runs.specs.declared.FluvialSettings.{FluvialSettings}
 use Rattle.runs.specs.declared.ThermalSettings.{ThermalSettings}
-use Rattle.stream.specs.Bytes.{number2, number4, float4, gridMark, fluvialMark, thermalMark, rowMark, same, markAt, marked}
+use Rattle.stream_bytes.specs.Bytes.{number2, number4, float4, gridMark, fluvialMark, thermalMark, rowMark, same, markAt, marked}
 use Rattle.stream.specs.declared.Settings.{Settings}
 use Rattle.stream.specs.declared.Settings.the-variants.{Fluvial, Thermal}
 use Rattle.stream.specs.declared.Header.{Header}

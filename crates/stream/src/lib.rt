@@ -1,6 +1,5 @@
 // The stream of document 01, read: bytes to the run that they ask for, or to a refusal (specs/Stream.antt).
 use answers::Refusal;
-use floats::from_bits;
 use floats::is_finite;
 use grid::Sides;
 use grid::bad_sides;
@@ -8,6 +7,14 @@ use plans::bad_fluvial;
 use plans::bad_thermal;
 use runs::FluvialSettings;
 use runs::ThermalSettings;
+use stream_bytes::FLUVIAL;
+use stream_bytes::GRID;
+use stream_bytes::ROW;
+use stream_bytes::THERMAL;
+use stream_bytes::has_mark;
+use stream_bytes::read_f32;
+use stream_bytes::read_u16;
+use stream_bytes::read_u32;
 ghost use mathlib.Core.Path.{_≡_};
 ghost use mathlib.Core.Bool.{true, false, not, _&&_};
 ghost use Prim.Native.Nat.{_+_, _*_, _≤_, _<_};
@@ -15,19 +22,8 @@ ghost use lib.Dec.{ltb};
 ghost use lib.ListN.{length};
 ghost use Rattle.grid.specs.Sides.{badSides, InRange};
 ghost use Rattle.grid.specs.Heights.{firstNotFinite};
-ghost use Rattle.stream.specs.Bytes.{number2, number4, float4, markAt, marked, rowMark};
+ghost use Rattle.stream_bytes.specs.Bytes.{markAt};
 ghost use Rattle.stream.specs.Stream.{sidesAt, settingsLength, rowsAt, fluvialHeader, thermalHeader, headerAt, rowLength, rowAt, rowsMarked, heightAt, heightsAt, parsedOf, badGrid, badRest, badSettings, Framed, Whole, fluvialAt, thermalAt, cellAt, valuesOf, readStream, readOf};
-
-// The mark of each record.
-pub const GRID: [u8; 2] = *b"GR";
-
-pub const FLUVIAL: [u8; 2] = *b"FL";
-
-pub const THERMAL: [u8; 2] = *b"TH";
-
-pub const ROW: [u8; 2] = *b"RW";
-
-pub const END: [u8; 2] = *b"EN";
 
 // The kind of run, with its settings.
 pub enum Settings {
@@ -47,53 +43,6 @@ pub struct Header {
 pub enum Read {
     Accepted(Header),
     Refused(Refusal),
-}
-
-fn wide(x: u8) -> u16
-    ensures { λ r. ⌜ (r ≡ x) × (r < 256) ⌝ }
-{
-    x as u16
-}
-
-// The number of two bytes, low byte first.
-pub fn read_u16(bytes: &[u8], at: usize) -> u16
-    requires { ⌜ at + 2 ≤ length (now bytes) ⌝ }
-    ensures { λ r. ⌜ r ≡ number2 (now (bytes .entry)) at ⌝ }
-{
-    wide(bytes[at]) + wide(bytes[at + 1]) * 256
-}
-
-// The number of four bytes, low byte first.
-pub fn read_u32(bytes: &[u8], at: usize) -> u32
-    requires { ⌜ at + 4 ≤ length (now bytes) ⌝ }
-    ensures { λ r. ⌜ r ≡ number4 (now (bytes .entry)) at ⌝ }
-{
-    read_u16(bytes, at) as u32 + read_u16(bytes, at + 2) as u32 * 65536
-}
-
-// The float whose bits are four bytes.
-pub fn read_f32(bytes: &[u8], at: usize) -> f32
-    requires { ⌜ at + 4 ≤ length (now bytes) ⌝ }
-    ensures { λ r. ⌜ r ≡ float4 (now (bytes .entry)) at ⌝ }
-{
-    from_bits(read_u32(bytes, at))
-}
-
-// Whether the record at a place begins with a mark.
-pub fn has_mark(bytes: &[u8], at: usize, mark: &[u8; 2]) -> bool
-    requires { ⌜ length (now mark) ≡ 2 ⌝ }
-    ensures { λ r. ⌜ r ≡ marked (now (bytes .entry)) at (now (mark .entry)) ⌝ }
-{
-    if bytes.len() < 2 {
-        return false;
-    }
-    if bytes.len() - 2 < at {
-        return false;
-    }
-    if bytes[at] != mark[0] {
-        return false;
-    }
-    bytes[at + 1] == mark[1]
 }
 
 // 8 of the grid record: another mark, or fewer than its 6 bytes.

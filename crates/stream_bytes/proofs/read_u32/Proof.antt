@@ -1,9 +1,9 @@
 use borrow.Author.Needs.{needs}
 use mathlib.Core.Path.{ap₂}
 use Prim.Native.Nat.{ℕ, _+_, _*_}
-use Rattle.stream.specs.Bytes.{number4}
-use Rattle.stream.proofs.read_u32.Statement.{statement}
-use Rattle.stream.proofs.read_u32.Tie as tie
+use Rattle.stream_bytes.specs.Bytes.{number4}
+use Rattle.stream_bytes.proofs.read_u32.Statement.{statement}
+use Rattle.stream_bytes.proofs.read_u32.Tie as tie
 
 read-u16-requires : tie.Need-read-u16-requires
 read-u16-requires c κs = search needs

@@ -1,8 +1,8 @@
 use borrow.Author.Needs.{needs}
 use native.Mathlib.Omega.{arith}
-use Rattle.stream.proofs.MarkLaws.{marked-short, marked-not, marked-by}
-use Rattle.stream.proofs.has_mark.Statement.{statement}
-use Rattle.stream.proofs.has_mark.Tie as tie
+use Rattle.stream_bytes.proofs.MarkLaws.{marked-short, marked-not, marked-by}
+use Rattle.stream_bytes.proofs.has_mark.Statement.{statement}
+use Rattle.stream_bytes.proofs.has_mark.Tie as tie
 
 returns : tie.Need-returns
 returns c = let a = c .before .args in marked-short (a .bytes .now) (a .at) (a .mark .now) (c .before .pre) (omega arith)

@@ -1,8 +1,8 @@
 use borrow.Author.Needs.{needs}
 use mathlib.Core.Path.{ap, _∙_}
 use lib.Ieee.{binary32, ofBits}
-use Rattle.stream.proofs.read_f32.Statement.{statement}
-use Rattle.stream.proofs.read_f32.Tie as tie
+use Rattle.stream_bytes.proofs.read_f32.Statement.{statement}
+use Rattle.stream_bytes.proofs.read_f32.Tie as tie
 
 read-u32-requires : tie.Need-read-u32-requires
 read-u32-requires c κs = search needs

@@ -9,7 +9,7 @@ use borrow.Author.Tests.{eq-eqb, ne-eqb}
 use lib.Dec.{eqb}
 use lib.ListN.{length, getD, take, drop, length-take, length-drop}
 use lib.Seq.{drop-cons}
-use Rattle.stream.specs.Bytes.{same, markAt, marked}
+use Rattle.stream_bytes.specs.Bytes.{same, markAt, marked}
 
 and-false : (b : Bool) → (b && false) ≡ false
 and-false true = refl

@@ -2,9 +2,9 @@ use borrow.Author.Needs.{needs}
 use mathlib.Core.Path.{ap₂}
 use Prim.Native.Nat.{ℕ, _+_, _*_}
 use native.Mathlib.Omega.{arith}
-use Rattle.stream.specs.Bytes.{number2}
-use Rattle.stream.proofs.read_u16.Statement.{statement}
-use Rattle.stream.proofs.read_u16.Tie as tie
+use Rattle.stream_bytes.specs.Bytes.{number2}
+use Rattle.stream_bytes.proofs.read_u16.Statement.{statement}
+use Rattle.stream_bytes.proofs.read_u16.Tie as tie
 
 shared-slice-read-wide : tie.Need-shared-slice-read-wide
 shared-slice-read-wide c = search needs

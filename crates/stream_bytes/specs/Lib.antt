@@ -1,0 +1,2 @@
+-- Numbers and marks as bytes.
+pub mod Bytes
