@@ -98,7 +98,7 @@ fn rows_marked(bytes: &[u8], rows: usize, w: usize, h: usize) -> bool
 }
 
 // The bytes of all rows of a grid.
-fn rows_length(size: Sides) -> usize
+pub fn rows_length(size: Sides) -> usize
     requires { ⌜ InRange (size .w) (size .h) ⌝ }
     ensures { λ r. ⌜ r ≡ size .h * rowLength (size .w) ⌝ }
 {

@@ -1,0 +1,143 @@
+-- The records of the output, written one behind the other.
+use Prim.Native.Nat.{ℕ, zero, suc, _+_, _*_, _≤_, _<_}
+use mathlib.Core.Path.{_≡_, refl, sym, ap, ap₂, _∙_}
+use mathlib.Core.Bool.{Bool, true, false, _&&_}
+use mathlib.Core.List.{List, [], _∷_, _++_}
+use native.Mathlib.Nat.{mul-le-mul, mul-comm, zero-mul}
+use native.Mathlib.Numerals.{add-one}
+use native.Mathlib.Omega.{arith}
+use borrow.Author.Tests.{lt-ltb, le-ltb}
+use mir.Syntax.{w16}
+use mir.Val.{Fits}
+use lib.Dec.{ltb}
+use lib.ListN.{length, getD, length-append}
+use lib.Seq.{sets, length-sets}
+use lib.Ieee.{Float, nan, binary32, toBits}
+use Rattle.answers.specs.Outcome.{numberOf}
+use Rattle.answers.specs.declared.Refusal.{Refusal}
+use Rattle.answers.specs.declared.Refusal.the-variants.{Side, ReducedSide, Length, Setting, Height, Receiver, List as LentList, Stream, Cells, Stopped, RunOff}
+use Rattle.stream_bytes.specs.Bytes.{bytes2, bytes4, gridMark, rowMark, endMark}
+use Rattle.stream_bytes.proofs.PutLaws.{sets-next}
+use Rattle.output.specs.Output.{gridRecord, heightBytes, rowRecord, rowRecords, endRecord, forInput, rowsLength}
+
+-- every number of document 01 is small
+number-small : (r : Refusal) → numberOf r < 65536
+number-small Side = omega arith
+number-small ReducedSide = omega arith
+number-small Length = omega arith
+number-small Setting = omega arith
+number-small (Height c) = omega arith
+number-small (Receiver c) = omega arith
+number-small (LentList p) = omega arith
+number-small Stream = omega arith
+number-small Cells = omega arith
+number-small Stopped = omega arith
+number-small RunOff = omega arith
+
+pub number-fits : (r : Refusal) (n : ℕ) → n ≡ numberOf r → Fits w16 n
+number-fits r n e = record { fits = omega (arith, e, number-small r) }
+
+pub input-none : (n : ℕ) → n ≡ 0 → false ≡ forInput n
+input-none n e = sym (rw (le-ltb 0 n (omega arith)))
+
+pub input-some : (n : ℕ) → (n ≡ 0 → ⊥) → ltb n 10 ≡ forInput n
+input-some zero d = absurd (d refl)
+input-some (suc n) d = sym (rw (lt-ltb 0 (suc n) (omega arith)))
+
+pub grid-put : (l : List ℕ) (w h : ℕ) {a b c : List ℕ} → a ≡ sets l 0 gridMark → b ≡ sets a 2 (bytes2 w) → c ≡ sets b 4 (bytes2 h) → c ≡ sets l 0 (gridRecord w h)
+grid-put l w h e f g = sets-next l 0 (gridMark ++ bytes2 w) (bytes2 h) 4 refl (sets-next l 0 gridMark (bytes2 w) 2 refl e f) g
+
+pub end-put : (l : List ℕ) (at n i p q : ℕ) {a b c d e : List ℕ} → a ≡ sets l at endMark → b ≡ sets a (at + 2) (bytes2 n) → c ≡ sets b (at + 4) (bytes4 i)
+    → d ≡ sets c (at + 8) (bytes4 p) → e ≡ sets d (at + 12) (bytes4 q) → e ≡ sets l at (endRecord n i p q)
+end-put l at n i p q ha hb hc hd he =
+    sets-next l at (endMark ++ (bytes2 n ++ (bytes4 i ++ bytes4 p))) (bytes4 q) (at + 12) refl
+    (sets-next l at (endMark ++ (bytes2 n ++ bytes4 i)) (bytes4 p) (at + 8) refl
+    (sets-next l at (endMark ++ bytes2 n) (bytes4 i) (at + 4) refl (sets-next l at endMark (bytes2 n) (at + 2) refl ha hb) hc) hd) he
+
+heights-length : (map : List Float) (cell n : ℕ) → length (heightBytes map cell n) ≡ 4 * n
+unfolding heightBytes
+heights-length map cell zero = refl
+heights-length map cell (suc n) =
+    length-append (heightBytes map cell n) (bytes4 (toBits binary32 (getD map (cell + n) nan))) ∙ omega (arith, heights-length map cell n)
+
+-- the heights before x
+module _ (old : List ℕ) (at : ℕ) (map : List Float) (cell w : ℕ) where
+  pub record HeightsPut (x : ℕ) (new : List ℕ) : Type 0 where
+    pub within : x ≤ w
+    pub held : new ≡ sets old at (heightBytes map cell x)
+
+  pub heights-none : HeightsPut 0 old
+  unfolding heightBytes
+  heights-none = record { within = omega arith; held = refl }
+
+  module _ {x : ℕ} {new : List ℕ} (r : HeightsPut x new) where
+    pub heights-kept : length new ≡ length old
+    heights-kept = ap length (r .held) ∙ length-sets old at (heightBytes map cell x)
+
+    pub heights-more : x < w → {v : ℕ} → v ≡ toBits binary32 (getD map (cell + x) nan) → {b : List ℕ} → b ≡ sets new (at + 4 * x) (bytes4 v)
+        → HeightsPut (x + 1) b
+    unfolding heightBytes
+    heights-more l {v} e {b} f =
+        record {
+          within = omega arith;
+          held =
+              sets-next old at (heightBytes map cell x) (bytes4 v) (at + 4 * x) (omega (arith, heights-length map cell x)) (r .held) f
+              ∙ ap (λ (v : ℕ). sets old at (heightBytes map cell x ++ bytes4 v)) e
+              ∙ ap (λ (k : ℕ). sets old at (heightBytes map cell k)) (sym (add-one x));
+        }
+
+    pub heights-done : w ≤ x → new ≡ sets old at (heightBytes map cell w)
+    heights-done l =
+        let e : x ≡ w = omega (arith, r .within) in
+        r .held ∙ ap (λ (k : ℕ). sets old at (heightBytes map cell k)) e
+
+pub row-put : (l : List ℕ) (at : ℕ) (map : List Float) (cell w : ℕ) {a b : List ℕ} → a ≡ sets l at rowMark → b ≡ sets a (at + 2) (heightBytes map cell w)
+    → b ≡ sets l at (rowRecord map cell w)
+row-put l at map cell w e f = sets-next l at rowMark (heightBytes map cell w) (at + 2) refl e f
+
+-- where a row is written, and which cells it takes
+module _ (w h y : ℕ) (l : y < h) where
+  pub row-room : (n : ℕ) → 6 + h * (2 + 4 * w) ≤ n → 6 + y * (2 + 4 * w) + (2 + 4 * w) ≤ n
+  row-room n k =
+      let m : suc y * (2 + 4 * w) ≤ h * (2 + 4 * w) = mul-le-mul l (omega arith) in
+      omega (arith, m)
+
+  pub row-cells : y * w + w ≤ w * h
+  row-cells =
+      let m : suc y * w ≤ h * w = mul-le-mul l (omega arith) in
+      omega (arith, m, mul-comm w h)
+
+-- the rows before y
+pub rows-length : (map : List Float) (w y : ℕ) → length (rowRecords map w y) ≡ y * (2 + 4 * w)
+unfolding rowRecords
+rows-length map w zero = sym (zero-mul (2 + 4 * w))
+rows-length map w (suc y) =
+    length-append (rowRecords map w y) (rowRecord map (y * w) w) ∙ omega (arith, rows-length map w y, heights-length map (y * w) w)
+
+module _ (old : List ℕ) (map : List Float) (w h : ℕ) where
+  pub record RowsPut (y : ℕ) (new : List ℕ) : Type 0 where
+    pub within : y ≤ h
+    pub held : new ≡ sets old 6 (rowRecords map w y)
+
+  pub rows-none : RowsPut 0 old
+  unfolding rowRecords
+  rows-none = record { within = omega arith; held = refl }
+
+  module _ {y : ℕ} {new : List ℕ} (r : RowsPut y new) where
+    pub rows-kept : length new ≡ length old
+    rows-kept = ap length (r .held) ∙ length-sets old 6 (rowRecords map w y)
+
+    pub rows-more : y < h → {b : List ℕ} → b ≡ sets new (6 + y * (2 + 4 * w)) (rowRecord map (y * w) w) → RowsPut (y + 1) b
+    unfolding rowRecords
+    rows-more l {b} f =
+        record {
+          within = omega arith;
+          held =
+              sets-next old 6 (rowRecords map w y) (rowRecord map (y * w) w) (6 + y * (2 + 4 * w)) (omega (arith, rows-length map w y)) (r .held) f
+              ∙ ap (λ (k : ℕ). sets old 6 (rowRecords map w k)) (sym (add-one y));
+        }
+
+    pub rows-done : h ≤ y → new ≡ sets old 6 (rowRecords map w h)
+    rows-done l =
+        let e : y ≡ h = omega (arith, r .within) in
+        r .held ∙ ap (λ (k : ℕ). sets old 6 (rowRecords map w k)) e

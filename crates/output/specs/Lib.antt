@@ -1,0 +1,2 @@
+-- The output of document 01.
+pub mod Output
