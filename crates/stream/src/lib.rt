@@ -7,10 +7,6 @@ use plans::bad_fluvial;
 use plans::bad_thermal;
 use runs::FluvialSettings;
 use runs::ThermalSettings;
-use stream_bytes::FLUVIAL;
-use stream_bytes::GRID;
-use stream_bytes::ROW;
-use stream_bytes::THERMAL;
 use stream_bytes::has_mark;
 use stream_bytes::read_f32;
 use stream_bytes::read_u16;
@@ -24,6 +20,17 @@ ghost use Rattle.grid.specs.Sides.{badSides, InRange};
 ghost use Rattle.grid.specs.Heights.{firstNotFinite};
 ghost use Rattle.stream_bytes.specs.Bytes.{markAt};
 ghost use Rattle.stream.specs.Stream.{sidesAt, settingsLength, rowsAt, fluvialHeader, thermalHeader, headerAt, rowLength, rowAt, rowsMarked, heightAt, heightsAt, parsedOf, badGrid, badRest, badSettings, Framed, Whole, fluvialAt, thermalAt, cellAt, valuesOf, readStream, readOf};
+
+// The mark of each record.
+pub const GRID: [u8; 2] = *b"GR";
+
+pub const FLUVIAL: [u8; 2] = *b"FL";
+
+pub const THERMAL: [u8; 2] = *b"TH";
+
+pub const ROW: [u8; 2] = *b"RW";
+
+pub const END: [u8; 2] = *b"EN";
 
 // The kind of run, with its settings.
 pub enum Settings {

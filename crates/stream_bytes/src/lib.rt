@@ -6,17 +6,6 @@ ghost use lib.ListN.{length};
 ghost use lib.Seq.{sets};
 ghost use Rattle.stream_bytes.specs.Bytes.{number2, number4, float4, marked, bytes2, bytes4};
 
-// The mark of each record.
-pub const GRID: [u8; 2] = *b"GR";
-
-pub const FLUVIAL: [u8; 2] = *b"FL";
-
-pub const THERMAL: [u8; 2] = *b"TH";
-
-pub const ROW: [u8; 2] = *b"RW";
-
-pub const END: [u8; 2] = *b"EN";
-
 fn wide(x: u8) -> u16
     ensures { λ r. ⌜ (r ≡ x) × (r < 256) ⌝ }
 {
