@@ -3,6 +3,7 @@ use Prim.Native.Nat.{ℕ, _*_, _≤_, min}
 use mathlib.Core.Path.{_≡_, refl, sym, ap, ap₂, _∙_, subst}
 use mathlib.Core.Bool.{Bool, true, false, _&&_, true≢false}
 use mathlib.Core.List.{List}
+use native.Mathlib.Nat.{le-trans}
 use native.Mathlib.Omega.{arith}
 use borrow.Author.Tests.{eqb-true}
 use lib.ListN.{length, take}
@@ -17,14 +18,14 @@ use Rattle.grid.specs.Heights.{allFinite}
 use Rattle.grid.specs.declared.Sides.{Sides}
 use Rattle.drainage.specs.Ground.{gridGround}
 use Rattle.flood.specs.Slices.{Accepted}
-use Rattle.flow.specs.Route.{lentOf, Enough}
+use Rattle.flow.specs.Route.{Enough}
 use Rattle.resample.specs.WorkSize.{Within, workSize}
 use Rattle.upsample.specs.Samples.{asSource}
 use Rattle.runs.specs.Plan.{Plan, fluvialPlan}
 use Rattle.runs.specs.Machine.{Course}
 use Rattle.runs.specs.Run.{Ran, ours, fluvialCourse, runOn, runBy}
 use Rattle.runs.specs.Refusals.{badFluvial}
-use Rattle.runs.specs.Nested.{nested, Bounded}
+use Rattle.runs.specs.Nested.{Bounded}
 use Rattle.runs.specs.declared.FluvialSettings.{FluvialSettings}
 use Rattle.runs.proofs.BoundLaws.{fluvial-bounded}
 use Rattle.runs.proofs.CourseLaws.{run-nested}
@@ -32,7 +33,7 @@ use Rattle.plans.specs.Accepted as Input
 use Rattle.plans.specs.Accepted.{refusalOn}
 use Rattle.plans.proofs.RefusalLaws.{accepted-by}
 use Rattle.plans.proofs.InputLaws.{within-range, within-cells, accepted-within, fluvial-iterations}
-use Rattle.erosion.specs.Reached.{Worked, seen, ranBy, Reduced}
+use Rattle.erosion.specs.Reached.{ranBy, Reduced}
 use Rattle.erosion.specs.Ending.{endedWith, accepted, refusedTo, Numbered, Answered}
 use Rattle.erosion.specs.declared.Reached.{Reached}
 use Rattle.erosion.specs.declared.RunAnswer.{RunAnswer}
@@ -40,7 +41,7 @@ use Rattle.erosion.proofs.EndingLaws.{ending-refused, ending-ran}
 use Rattle.erosion.proofs.WholeLaws.{wholeRun, whole-numbered}
 use Rattle.fluvial_loop.specs.Loops.{planOf, courseBy}
 use Rattle.fluvial_loop.specs.declared.FluvialPlan.{FluvialPlan}
-use Rattle.fluvial_run.specs.FluvialRun.{shortestOf, scratchOf, inputRefusal, FluvialRun, courseOn, Lengths, lengthsOf, Rooms, Reduces, Erodes}
+use Rattle.fluvial_run.specs.FluvialRun.{shortestOf, scratchOf, inputRefusal, FluvialRun, Erodes}
 use Rattle.fluvial_run.specs.declared.Scratch.{Scratch}
 
 -- a plan by its parts
@@ -49,90 +50,64 @@ plan-is q a b c d i = record { iterations = a i; passes = b i; cuts = c i; slide
 
 -- the course of a plan is that of the settings it was made from
 module _ (w h : ℕ) (conf : FluvialSettings) (stop : ℕ) {plan : FluvialPlan} (e : planOf plan ≡ fluvialPlan w h conf) where
-  pub course-is : courseBy w h plan stop ≡ courseOn w h conf stop
+  course-is : courseBy w h plan stop ≡ fluvialCourse (gridGround w h (conf .«water_level»)) w h (fluvialPlan w h conf) stop ours
   course-is = ap (λ (p : Plan). fluvialCourse (gridGround w h (p .cuts .«water_level»)) w h p stop ours) e
 
-  pub course-bounded : InRange w h → conf .iterations ≤ 4096 → Bounded (courseBy w h plan stop)
+  course-bounded : InRange w h → conf .iterations ≤ 4096 → Bounded (courseBy w h plan stop)
   course-bounded r l =
       subst Bounded (sym course-is) (fluvial-bounded w h r (gridGround w h (conf .«water_level»)) conf stop ours l)
-
-  pub ran-on : (hs : List Float) {x : Worked} → x ≡ seen (nested (courseBy w h plan stop) hs) → x ≡ seen (nested (courseOn w h conf stop) hs)
-  ran-on hs f = f ∙ ap (λ (c : Course). seen (nested c hs)) course-is
-
--- the first n places of the scratch slices of an iteration
-pub rooms-enough : {n : ℕ} (hs copy area : List Float) (order recv queue status : List ℕ) → Rooms n (lengthsOf copy area order recv queue status) → length hs ≡ n
-    → Enough n (lentOf hs (take n order) (take n recv) (take n copy) (take n area) queue status)
-rooms-enough {n} hs copy area order recv queue status r e =
-    record {
-      heights = e;
-      order = length-take-le n order (r .order);
-      receivers = length-take-le n recv (r .recv);
-      spill = length-take-le n copy (r .copy);
-      areas = length-take-le n area (r .area);
-      queue = r .queue;
-      status = r .status;
-    }
-
--- the run by its loops is the run
-module _ {w h dw dh : ℕ} (n : Within w h dw dh) (conf : FluvialSettings) (stop : ℕ) (map : List Float) where
-  nested-is : runOn asSource w h (courseOn dw dh conf stop) map ≡ wholeRun w h (courseOn dw dh conf stop) map
-  nested-is = run-nested asSource w h (courseOn dw dh conf stop) map (n .dh-low) (omega arith)
-
-  pub by-loops : {x : Ran} → x ≡ wholeRun w h (courseOn dw dh conf stop) map → x ≡ runOn asSource w h (courseOn dw dh conf stop) map
-  by-loops e = e ∙ sym nested-is
-
-  pub ran-numbered : {x : Ran} → x ≡ runOn asSource w h (courseOn dw dh conf stop) map → Numbered (x .number)
-  ran-numbered {x} e =
-      subst (λ (x : Ran). Numbered (x .number)) (sym (e ∙ nested-is)) (whole-numbered w h (courseOn dw dh conf stop) map)
-
--- the averages of a map may be routed if they are finite
-pub averages-accepted : {w h dw dh : ℕ} (n : Within w h dw dh) {map small : List Float} (eroded : List Float) {finite : Bool} → Reduced w h dw dh map finite small eroded → finite ≡ true
-    → length eroded ≡ dw * dh → Accepted dw dh eroded
-averages-accepted n eroded r t e =
-    record { sides = within-range n; cells = e; finites = ap allFinite (r .started) ∙ sym (r .finites) ∙ t }
 
 both : (a b : Bool) → (a && b) ≡ true → (a ≡ true) × (b ≡ true)
 both true b e = (refl, e)
 both false b e = absurd (true≢false (sym e))
 
-module _ {w h dw dh : ℕ} {conf : FluvialSettings} {map : List Float} {small eroded : ℕ} {l : Lengths} (e : Erodes w h dw dh conf map small eroded l) where
-  pub erodes-rooms : Rooms (dw * dh) l
-  erodes-rooms =
-      let c = within-cells (e .sides) in
-      let r = e .rooms in
-      record {
-        copy = omega (arith, c, r .copy);
-        area = omega (arith, c, r .area);
-        order = omega (arith, c, r .order);
-        recv = omega (arith, c, r .recv);
-        queue = omega (arith, c, r .queue);
-        status = omega (arith, c, r .status);
-      }
+module _ {w h dw dh : ℕ} {plan : FluvialPlan} {stop : ℕ} {map : List Float} {s : Scratch} (e : Erodes w h dw dh plan stop map s) where
+  -- the run by its loops is the run
+  nested-is : runOn asSource w h (courseBy dw dh plan stop) map ≡ wholeRun w h (courseBy dw dh plan stop) map
+  nested-is = run-nested asSource w h (courseBy dw dh plan stop) map (e .sides .dh-low) (e .bounded .some)
 
-  -- the first working cells of the averages and of their copy
-  pub small-room : dw * dh ≤ small
-  small-room = omega (arith, within-cells (e .sides), e .averages)
+  pub by-loops : {x : Ran} → x ≡ wholeRun w h (courseBy dw dh plan stop) map → x ≡ runOn asSource w h (courseBy dw dh plan stop) map
+  by-loops f = f ∙ sym nested-is
 
-  pub eroded-room : dw * dh ≤ eroded
-  eroded-room = omega (arith, within-cells (e .sides), e .changed)
+  pub ran-numbered : {x : Ran} → x ≡ runOn asSource w h (courseBy dw dh plan stop) map → Numbered (x .number)
+  ran-numbered {x} f =
+      subst (λ (x : Ran). Numbered (x .number)) (sym (f ∙ nested-is)) (whole-numbered w h (courseBy dw dh plan stop) map)
 
-  -- on the map
-  pub erodes-accepted : {t : Bool} → t ≡ (eqb dw w && eqb dh h) → t ≡ true → Accepted dw dh map
-  erodes-accepted f t =
-      let s = both (eqb dw w) (eqb dh h) (sym f ∙ t) in
+  -- the slices of the loops, where n is the length of the heights
+  pub erodes-enough : {n : ℕ} → n ≡ dw * dh
+      → Enough (dw * dh) (record { heights = n; order = s .order; receivers = s .recv; spill = s .copy; areas = s .area; queue = s .queue; status = s .status })
+  erodes-enough f =
+      record { heights = f; order = e .order; receivers = e .recv; spill = e .copy; areas = e .area; queue = e .queue; status = e .status }
+
+  -- the map may be routed where the working sides are its own
+  pub erodes-map : {t : Bool} → t ≡ (eqb dw w && eqb dh h) → t ≡ true → Accepted dw dh map
+  erodes-map f t =
+      let same = both (eqb dw w) (eqb dh h) (sym f ∙ t) in
       record {
         sides = within-range (e .sides);
-        cells = e .heights ∙ ap₂ (λ (a b : ℕ). a * b) (sym (eqb-true dw w (s .0))) (sym (eqb-true dh h (s .1)));
+        cells = e .heights ∙ ap₂ (λ (a b : ℕ). a * b) (sym (eqb-true dw w (same .0))) (sym (eqb-true dh h (same .1)));
         finites = e .finites;
       }
 
-  -- on the averages
-  pub erodes-reduces : {a b : ℕ} → a ≡ dw * dh → b ≡ dw * dh → Reduces w h dw dh conf (length map) a b l
-  erodes-reduces a b =
-      record { sides = e .sides; iterations = e .iterations; heights = e .heights; averages = a; changed = b; rooms = erodes-rooms }
+  -- and so may its averages, if they are finite
+  pub erodes-averages : {small : List Float} (eroded : List Float) {finite : Bool} → Reduced w h dw dh map finite small eroded → finite ≡ true → length eroded ≡ s .eroded
+      → Accepted dw dh eroded
+  erodes-averages eroded r t f =
+      record { sides = within-range (e .sides); cells = f ∙ e .eroded; finites = ap allFinite (r .started) ∙ sym (r .finites) ∙ t }
 
 at-most : {n a b : ℕ} → n ≤ min a b → (n ≤ a) × (n ≤ b)
 at-most l = (omega arith, omega arith)
+
+-- room for n cells in each scratch slice
+pub record Rooms (n : ℕ) (s : Scratch) : Type 0 where
+  pub small : n ≤ s .small
+  pub eroded : n ≤ s .eroded
+  pub copy : n ≤ s .copy
+  pub area : n ≤ s .area
+  pub order : n ≤ s .order
+  pub recv : n ≤ s .recv
+  pub queue : n ≤ s .queue
+  pub status : n ≤ s .status
 
 -- the whole call
 module _ (w h : ℕ) (conf : FluvialSettings) (stop : ℕ) (map small eroded copy area : List Float) (order recv queue status : List ℕ) where
@@ -174,45 +149,66 @@ module _ (w h : ℕ) (conf : FluvialSettings) (stop : ℕ) (map small eroded cop
       pub run-within : Within w h (work .w) (work .h)
       run-within = accepted-within run-accepted (conf .«work_res») g
 
-      pub run-erodes : Erodes w h (work .w) (work .h) conf map (length small) (length eroded) (lengthsOf copy area order recv queue status)
-      run-erodes =
-          let a = run-accepted in
-          let halves = at-most (a .room) in
+      -- the working cells of the scratch slices
+      pub run-rooms : Rooms (work .w * work .h) lengths
+      run-rooms =
+          let halves = at-most (le-trans (within-cells run-within) (run-accepted .room)) in
           let maps = at-most (halves .0) in
           let cells = at-most (halves .1) in
           record {
-            sides = run-within;
-            iterations = fluvial-iterations conf (a .settings);
-            heights = a .cells;
-            finites = a .finites;
-            averages = at-most (maps .0) .0;
-            changed = at-most (maps .0) .1;
-            rooms = record {
-              copy = at-most (maps .1) .0;
-              area = at-most (maps .1) .1;
-              order = at-most (cells .0) .0;
-              recv = at-most (cells .0) .1;
-              queue = at-most (cells .1) .0;
-              status = at-most (cells .1) .1;
-            };
+            small = at-most (maps .0) .0;
+            eroded = at-most (maps .0) .1;
+            copy = at-most (maps .1) .0;
+            area = at-most (maps .1) .1;
+            order = at-most (cells .0) .0;
+            recv = at-most (cells .0) .1;
+            queue = at-most (cells .1) .0;
+            status = at-most (cells .1) .1;
           }
 
-      whole-is : runOn asSource w h (courseOn (work .w) (work .h) conf stop) map ≡ runBy w h conf stop ours map
-      unfolding runBy
-      whole-is = ap (λ (work : Sides). runOn asSource w h (courseOn (work .w) (work .h) conf stop) map) g
+      module _ {plan : FluvialPlan} (p : planOf plan ≡ fluvialPlan (work .w) (work .h) conf) where
+        abbrev cells : ℕ
+        cells = work .w * work .h
 
-      pub run-done : {r : Reached} {a : RunAnswer} (map′ small′ eroded′ copy′ area′ : List Float) (order′ recv′ queue′ status′ : List ℕ) → Answered r a
-          → ranBy map′ r ≡ runOn asSource w h (courseOn (work .w) (work .h) conf stop) map
-          → FluvialRun w h conf stop map small eroded copy area order recv queue status a map′ small′ eroded′ copy′ area′ order′ recv′ queue′ status′
-      run-done {r} {a} map′ small′ eroded′ copy′ area′ order′ recv′ queue′ status′ s t =
-          record {
-            ended = ending-ran r a outcome map map′ (runBy w h conf stop ours map) s (t ∙ whole-is) accepts;
-            small-kept = λ z. absurd (not-refused z);
-            eroded-kept = λ z. absurd (not-refused z);
-            copy-kept = λ z. absurd (not-refused z);
-            area-kept = λ z. absurd (not-refused z);
-            order-kept = λ z. absurd (not-refused z);
-            recv-kept = λ z. absurd (not-refused z);
-            queue-kept = λ z. absurd (not-refused z);
-            status-kept = λ z. absurd (not-refused z);
-          }
+        pub run-erodes :
+            Erodes w h (work .w) (work .h) plan stop map
+            (scratchOf (take cells small) (take cells eroded) (take cells copy) (take cells area) (take cells order) (take cells recv) queue status)
+        run-erodes =
+            let a = run-accepted in
+            let r = run-rooms in
+            record {
+              sides = run-within;
+              bounded = course-bounded (work .w) (work .h) conf stop p (within-range run-within) (fluvial-iterations conf (a .settings));
+              heights = a .cells;
+              finites = a .finites;
+              small = length-take-le cells small (r .small);
+              eroded = length-take-le cells eroded (r .eroded);
+              copy = length-take-le cells copy (r .copy);
+              area = length-take-le cells area (r .area);
+              order = length-take-le cells order (r .order);
+              recv = length-take-le cells recv (r .recv);
+              queue = r .queue;
+              status = r .status;
+            }
+
+        whole-is : runOn asSource w h (courseBy (work .w) (work .h) plan stop) map ≡ runBy w h conf stop ours map
+        unfolding runBy
+        whole-is =
+            ap (λ (c : Course). runOn asSource w h c map) (course-is (work .w) (work .h) conf stop p)
+            ∙ ap (λ (work : Sides). runOn asSource w h (fluvialCourse (gridGround (work .w) (work .h) (conf .«water_level»)) (work .w) (work .h) (fluvialPlan (work .w) (work .h) conf) stop ours) map) g
+
+        pub run-done : {r : Reached} {a : RunAnswer} (map′ small′ eroded′ copy′ area′ : List Float) (order′ recv′ queue′ status′ : List ℕ) → Answered r a
+            → ranBy map′ r ≡ runOn asSource w h (courseBy (work .w) (work .h) plan stop) map
+            → FluvialRun w h conf stop map small eroded copy area order recv queue status a map′ small′ eroded′ copy′ area′ order′ recv′ queue′ status′
+        run-done {r} {a} map′ small′ eroded′ copy′ area′ order′ recv′ queue′ status′ s t =
+            record {
+              ended = ending-ran r a outcome map map′ (runBy w h conf stop ours map) s (t ∙ whole-is) accepts;
+              small-kept = λ z. absurd (not-refused z);
+              eroded-kept = λ z. absurd (not-refused z);
+              copy-kept = λ z. absurd (not-refused z);
+              area-kept = λ z. absurd (not-refused z);
+              order-kept = λ z. absurd (not-refused z);
+              recv-kept = λ z. absurd (not-refused z);
+              queue-kept = λ z. absurd (not-refused z);
+              status-kept = λ z. absurd (not-refused z);
+            }

@@ -7,16 +7,16 @@ use lib.ListN.{length}
 use lib.Ieee.{Float}
 use Rattle.answers.specs.Outcome.{Outcome}
 use Rattle.grid.specs.Heights.{allFinite}
-use Rattle.drainage.specs.Ground.{gridGround}
 use Rattle.resample.specs.WorkSize.{Within}
-use Rattle.runs.specs.Plan.{fluvialPlan}
-use Rattle.runs.specs.Machine.{Course}
-use Rattle.runs.specs.Run.{ours, fluvialCourse, runBy}
+use Rattle.runs.specs.Run.{ours, runBy}
+use Rattle.runs.specs.Nested.{Bounded}
 use Rattle.runs.specs.Refusals.{badFluvial}
 use Rattle.runs.specs.declared.FluvialSettings.{FluvialSettings}
 use Rattle.plans.specs.Accepted.{refusalOn}
 use Rattle.erosion.specs.Ending.{endingOf, endedWith, accepted}
 use Rattle.erosion.specs.declared.RunAnswer.{RunAnswer}
+use Rattle.fluvial_loop.specs.Loops.{courseBy}
+use Rattle.fluvial_loop.specs.declared.FluvialPlan.{FluvialPlan}
 use Rattle.fluvial_run.specs.declared.Scratch.{Scratch}
 
 abbrev pub scratchOf : List Float → List Float → List Float → List Float → List ℕ → List ℕ → List ℕ → List ℕ → Scratch
@@ -56,47 +56,17 @@ pub record FluvialRun (w h : ℕ) (conf : FluvialSettings) (stop : ℕ) (map sma
   pub queue-kept : accepted (inputRefusal w h conf map (scratchOf small eroded copy area order recv queue status)) ≡ false → queue′ ≡ queue
   pub status-kept : accepted (inputRefusal w h conf map (scratchOf small eroded copy area order recv queue status)) ≡ false → status′ ≡ status
 
--- our run by its settings on a w × h working grid
-abbrev pub courseOn : ℕ → ℕ → FluvialSettings → ℕ → Course
-courseOn w h conf stop = fluvialCourse (gridGround w h (conf .«water_level»)) w h (fluvialPlan w h conf) stop ours
-
--- the lengths of the scratch slices of an iteration
-pub record Lengths : Type 0 where
-  pub copy : ℕ
-  pub area : ℕ
-  pub order : ℕ
-  pub recv : ℕ
-  pub queue : ℕ
-  pub status : ℕ
-
-abbrev pub lengthsOf : List Float → List Float → List ℕ → List ℕ → List ℕ → List ℕ → Lengths
-lengthsOf copy area order recv queue status =
-    record { copy = length copy; area = length area; order = length order; recv = length recv; queue = length queue; status = length status }
-
--- room for n cells in each of them
-pub record Rooms (n : ℕ) (l : Lengths) : Type 0 where
-  pub copy : n ≤ l .copy
-  pub area : n ≤ l .area
-  pub order : n ≤ l .order
-  pub recv : n ≤ l .recv
-  pub queue : n ≤ l .queue
-  pub status : n ≤ l .status
-
--- what a run on the reduced dw × dh grid asks
-pub record Reduces (w h dw dh : ℕ) (conf : FluvialSettings) (map small eroded : ℕ) (l : Lengths) : Type 0 where
+-- what a run on its dw × dh working grid asks: averages and scratch of as many cells
+pub record Erodes (w h dw dh : ℕ) (plan : FluvialPlan) (stop : ℕ) (map : List Float) (s : Scratch) : Type 0 where
   pub sides : Within w h dw dh
-  pub iterations : conf .iterations ≤ 4096
-  pub heights : map ≡ w * h
-  pub averages : small ≡ dw * dh
-  pub changed : eroded ≡ dw * dh
-  pub rooms : Rooms (dw * dh) l
-
--- what a run on either grid asks
-pub record Erodes (w h dw dh : ℕ) (conf : FluvialSettings) (map : List Float) (small eroded : ℕ) (l : Lengths) : Type 0 where
-  pub sides : Within w h dw dh
-  pub iterations : conf .iterations ≤ 4096
+  pub bounded : Bounded (courseBy dw dh plan stop)
   pub heights : length map ≡ w * h
   pub finites : allFinite map ≡ true
-  pub averages : w * h ≤ small
-  pub changed : w * h ≤ eroded
-  pub rooms : Rooms (w * h) l
+  pub small : s .small ≡ dw * dh
+  pub eroded : s .eroded ≡ dw * dh
+  pub copy : s .copy ≡ dw * dh
+  pub area : s .area ≡ dw * dh
+  pub order : s .order ≡ dw * dh
+  pub recv : s .recv ≡ dw * dh
+  pub queue : dw * dh ≤ s .queue
+  pub status : dw * dh ≤ s .status

@@ -23,18 +23,13 @@ use plans::talus_plan;
 use resample::work_sides;
 use runs::FluvialSettings;
 ghost use mathlib.Core.Path.{_≡_};
-ghost use mathlib.Core.Bool.{false, _&&_};
-ghost use Prim.Native.Nat.{_*_, _≤_};
-ghost use lib.Dec.{eqb};
-ghost use lib.ListN.{length};
-ghost use Rattle.flood.specs.Slices.{Accepted};
+ghost use Prim.Native.Nat.{_≤_};
 ghost use Rattle.upsample.specs.Samples.{asSource};
 ghost use Rattle.runs.specs.Plan.{fluvialPlan};
 ghost use Rattle.runs.specs.Run.{runOn};
-ghost use Rattle.runs.specs.Nested.{nested};
-ghost use Rattle.erosion.specs.Reached.{Worked, seen, ranBy};
-ghost use Rattle.fluvial_loop.specs.Loops.{planOf};
-ghost use Rattle.fluvial_run.specs.FluvialRun.{shortestOf, scratchOf, courseOn, lengthsOf, Rooms, Reduces, Erodes, FluvialRun};
+ghost use Rattle.erosion.specs.Reached.{ranBy};
+ghost use Rattle.fluvial_loop.specs.Loops.{planOf, courseBy};
+ghost use Rattle.fluvial_run.specs.FluvialRun.{shortestOf, scratchOf, Erodes, FluvialRun};
 
 // The lengths of the scratch slices.
 pub struct Scratch {
@@ -73,86 +68,13 @@ fn plan_on(work: Sides, conf: FluvialSettings) -> FluvialPlan
     }
 }
 
-// A run on its working grid, with as much of the scratch slices as the grid has cells.
-fn run_grid(
-    work: Sides,
-    hmap: &mut [f32],
-    conf: FluvialSettings,
-    stop: u32,
-    copy: &mut [f32],
-    area: &mut [f32],
-    order: &mut [u32],
-    recv: &mut [u32],
-    queue: &mut [u32],
-    status: &mut [u8],
-) -> Reached
-    requires { ⌜ conf .iterations ≤ 4096 ⌝ }
-    requires { ⌜ Accepted (work .w) (work .h) (now hmap) ⌝ }
-    requires { ⌜ Rooms (work .w * work .h) (lengthsOf (now copy) (now area) (now order) (now recv) (now queue) (now status)) ⌝ }
-    ensures { λ r. ⌜ _≡_ {A = Worked} (record { heights = now (hmap .exit); reached = r }) (seen (nested (courseOn (work .w) (work .h) conf stop) (now (hmap .entry)))) ⌝ }
-{
-    let m = work.w * work.h;
-    run_iterations(
-        work,
-        hmap,
-        plan_on(work, conf),
-        stop,
-        &mut copy[..m],
-        &mut area[..m],
-        &mut order[..m],
-        &mut recv[..m],
-        queue,
-        status,
-    )
-}
-
-// Erodes a reduced copy, then adds the difference back onto the map; 21 and 22 leave the map as it came.
-fn erode_reduced(
-    size: Sides,
-    hmap: &mut [f32],
-    work: Sides,
-    conf: FluvialSettings,
-    stop: u32,
-    small: &mut [f32],
-    eroded: &mut [f32],
-    copy: &mut [f32],
-    area: &mut [f32],
-    order: &mut [u32],
-    recv: &mut [u32],
-    queue: &mut [u32],
-    status: &mut [u8],
-) -> Reached
-    requires { ⌜ (eqb (work .w) (size .w) && eqb (work .h) (size .h)) ≡ false ⌝ }
-    requires { ⌜ Reduces (size .w) (size .h) (work .w) (work .h) conf (length (now hmap)) (length (now small)) (length (now eroded)) (lengthsOf (now copy) (now area) (now order) (now recv) (now queue) (now status)) ⌝ }
-    ensures { λ r. ⌜ ranBy (now (hmap .exit)) r ≡ runOn asSource (size .w) (size .h) (courseOn (work .w) (work .h) conf stop) (now (hmap .entry)) ⌝ }
-{
-    if !reduce(size, hmap, work, small, eroded) {
-        return ended(22, fresh(), begun());
-    }
-    let r = run_grid(
-        work,
-        eroded,
-        conf,
-        stop,
-        copy,
-        area,
-        order,
-        recv,
-        queue,
-        status,
-    );
-    if r.number != 0 {
-        return r;
-    }
-    add_back(size, hmap, work, small, eroded, r)
-}
-
-// A run on its working grid: the map itself where the sides are the map's, else the reduced grid.
+// A run on its working grid: on the map itself where the sides are the map's; else on a reduced copy, whose difference is then added to the map. There
+// 21 and 22 leave the map as it came.
 fn erode(
     size: Sides,
     hmap: &mut [f32],
     work: Sides,
-    conf: FluvialSettings,
+    plan: FluvialPlan,
     stop: u32,
     small: &mut [f32],
     eroded: &mut [f32],
@@ -163,14 +85,14 @@ fn erode(
     queue: &mut [u32],
     status: &mut [u8],
 ) -> Reached
-    requires { ⌜ Erodes (size .w) (size .h) (work .w) (work .h) conf (now hmap) (length (now small)) (length (now eroded)) (lengthsOf (now copy) (now area) (now order) (now recv) (now queue) (now status)) ⌝ }
-    ensures { λ r. ⌜ ranBy (now (hmap .exit)) r ≡ runOn asSource (size .w) (size .h) (courseOn (work .w) (work .h) conf stop) (now (hmap .entry)) ⌝ }
+    requires { ⌜ Erodes (size .w) (size .h) (work .w) (work .h) plan stop (now hmap) (scratchOf (now small) (now eroded) (now copy) (now area) (now order) (now recv) (now queue) (now status)) ⌝ }
+    ensures { λ r. ⌜ ranBy (now (hmap .exit)) r ≡ runOn asSource (size .w) (size .h) (courseBy (work .w) (work .h) plan stop) (now (hmap .entry)) ⌝ }
 {
     if on_map(work, size) {
-        return run_grid(
+        return run_iterations(
             work,
             hmap,
-            conf,
+            plan,
             stop,
             copy,
             area,
@@ -180,25 +102,28 @@ fn erode(
             status,
         );
     }
-    let m = work.w * work.h;
-    erode_reduced(
-        size,
-        hmap,
+    if !reduce(size, hmap, work, small, eroded) {
+        return ended(22, fresh(), begun());
+    }
+    let done = run_iterations(
         work,
-        conf,
+        eroded,
+        plan,
         stop,
-        &mut small[..m],
-        &mut eroded[..m],
         copy,
         area,
         order,
         recv,
         queue,
         status,
-    )
+    );
+    if done.number != 0 {
+        return done;
+    }
+    add_back(size, hmap, work, small, eroded, done)
 }
 
-// A whole fluvial run of document 01. All slices after stop are scratch.
+// A whole fluvial run of document 01. All slices after stop are scratch: a run takes as much of them as its working grid has cells.
 pub fn gen_fluvial_erosion(
     size: Sides,
     hmap: &mut [f32],
@@ -230,19 +155,22 @@ pub fn gen_fluvial_erosion(
         return refused(why);
     }
     let work = work_sides(size, conf.work_res);
-    answered(erode(
+    let plan = plan_on(work, conf);
+    let m = work.w * work.h;
+    let done = erode(
         size,
         hmap,
         work,
-        conf,
+        plan,
         stop,
-        small,
-        eroded,
-        copy,
-        area,
-        order,
-        recv,
+        &mut small[..m],
+        &mut eroded[..m],
+        &mut copy[..m],
+        &mut area[..m],
+        &mut order[..m],
+        &mut recv[..m],
         queue,
         status,
-    ))
+    );
+    answered(done)
 }

@@ -1,10 +1,9 @@
-use mathlib.Core.Path.{sym, _∙_}
-use lib.Seq.{length-take-le}
-use Rattle.grid.proofs.SidesLaws.{cells-fit}
-use Rattle.plans.proofs.InputLaws.{within-range}
-use Rattle.erosion.proofs.WholeLaws.{whole-on-map}
-use Rattle.fluvial_run.specs.FluvialRun.{courseOn}
-use Rattle.fluvial_run.proofs.RunLaws.{by-loops, erodes-rooms, small-room, eroded-room, erodes-accepted, erodes-reduces}
+use mathlib.Core.Path.{refl, sym, _∙_}
+use borrow.Author.Tests.{not-true, not-false}
+use Rattle.erosion.proofs.WholeLaws.{whole-on-map, whole-averages, whole-ended, whole-added}
+use Rattle.thermal_run.proofs.RunLaws.{map-grid, work-grid, halted-fresh}
+use Rattle.fluvial_loop.specs.Loops.{courseBy}
+use Rattle.fluvial_run.proofs.RunLaws.{by-loops, erodes-enough, erodes-map, erodes-averages}
 use borrow.Author.Needs.{needs}
 use Rattle.fluvial_run.proofs.erode.Statement.{statement}
 use Rattle.fluvial_run.proofs.erode.Tie as tie
@@ -12,87 +11,132 @@ use Rattle.fluvial_run.proofs.erode.Tie as tie
 on-map-requires : tie.Need-on-map-requires
 on-map-requires c κs = search needs
 
-run-grid-requires : tie.Need-run-grid-requires
-run-grid-requires c κs = let p = c .before .before .before .before .before .before .before .before .before .before .before .before .before .before .before .before .before .before .pre in (p .iterations, (erodes-accepted p (c .before .before .before .before .before .before .before .before .on-map .ensures) (c .before .before .before .before .before .before .before .if1 .taken), erodes-rooms p))
+run-iterations-requires : tie.Need-run-iterations-requires
+run-iterations-requires c κs = let p = c .before .before .before .before .before .before .before .before .before .before .before .before .before .before .before .before .before .before .pre in let m = erodes-map p (c .before .before .before .before .before .before .before .before .on-map .ensures) (c .before .before .before .before .before .before .before .if1 .taken) in (p .bounded, (m, erodes-enough p (m .cells)))
 
 same-length : tie.Need-same-length
-same-length c = search needs
+same-length c = c .before .before .before .before .before .before .before .before .before .before .before .before .before .before .run-iterations .kept .1 .0
 
 same-length-2 : tie.Need-same-length-2
-same-length-2 c = search needs
+same-length-2 c = c .before .before .before .before .before .before .before .before .before .before .before .before .before .before .run-iterations .kept .1 .1 .1 .1 .0
 
 same-length-3 : tie.Need-same-length-3
-same-length-3 c = search needs
+same-length-3 c = c .before .before .before .before .before .before .before .before .before .before .before .before .before .before .run-iterations .kept .1 .1 .1 .1 .1 .0
 
 same-length-4 : tie.Need-same-length-4
-same-length-4 c = search needs
+same-length-4 c = c .before .before .before .before .before .before .before .before .before .before .before .before .before .before .run-iterations .kept .1 .1 .1 .1 .1 .1 .0
 
 same-length-5 : tie.Need-same-length-5
-same-length-5 c = search needs
+same-length-5 c = c .before .before .before .before .before .before .before .before .before .before .before .before .before .before .run-iterations .kept .1 .1 .1 .1 .1 .1 .1 .0
 
 same-length-6 : tie.Need-same-length-6
-same-length-6 c = search needs
+same-length-6 c = c .before .before .before .before .before .before .before .before .before .before .before .before .before .before .run-iterations .kept .1 .1 .1 .1 .1 .1 .1 .1 .0
 
 same-length-7 : tie.Need-same-length-7
-same-length-7 c = search needs
+same-length-7 c = c .before .before .before .before .before .before .before .before .before .before .before .before .before .before .run-iterations .kept .1 .1 .1 .1 .1 .1 .1 .1 .1 .0
 
 returns : tie.Need-returns
-returns c = let s = c .before .before .before .before .before .before .before .before .before .before .before .before .before .before .before .before .before .before .before .before .before .before .before .before .before .before .before .before .before .before .before .before .before in let a = s .args in by-loops (s .pre .sides) (a .conf) (a .stop) (a .hmap .now) (whole-on-map _ _ (courseOn (a .work .w) (a .work .h) (a .conf) (a .stop)) (a .hmap .now) _ _ (sym (c .before .before .before .before .before .before .before .before .before .before .before .before .before .before .before .before .before .before .before .before .before .before .before .on-map .ensures) ∙ c .before .before .before .before .before .before .before .before .before .before .before .before .before .before .before .before .before .before .before .before .before .before .if1 .taken) (c .before .before .before .before .before .before .before .before .before .before .before .before .before .before .run-grid .ensures))
+returns c = let s = c .before .before .before .before .before .before .before .before .before .before .before .before .before .before .before .before .before .before .before .before .before .before .before .before .before .before .before .before .before .before .before .before .before in let a = s .args in by-loops (s .pre) (whole-on-map _ _ (courseBy (a .work .w) (a .work .h) (a .plan) (a .stop)) (a .hmap .now) _ _ (sym (c .before .before .before .before .before .before .before .before .before .before .before .before .before .before .before .before .before .before .before .before .before .before .before .on-map .ensures) ∙ c .before .before .before .before .before .before .before .before .before .before .before .before .before .before .before .before .before .before .before .before .before .before .if1 .taken) (c .before .before .before .before .before .before .before .before .before .before .before .before .before .before .run-iterations .ensures))
 
-mul-m : tie.Need-mul-m
-mul-m c = let r = within-range (c .before .before .before .before .before .before .before .before .before .before .before .before .pre .sides) in cells-fit _ _ (r .wide) (r .high)
+reduce-requires : tie.Need-reduce-requires
+reduce-requires c κs = search needs
 
-slice-relend-prefix-erode-reduced : tie.Need-slice-relend-prefix-erode-reduced
-slice-relend-prefix-erode-reduced c = small-room (c .before .before .before .before .before .before .before .before .before .before .before .before .before .pre)
+fresh-requires : tie.Need-fresh-requires
+fresh-requires c κs = search needs
 
-slice-aggregate-erode-reduced : tie.Need-slice-aggregate-erode-reduced
-slice-aggregate-erode-reduced c = sym (length-take-le _ _ (small-room (c .before .before .before .before .before .before .before .before .before .before .before .before .before .before .pre)))
+begun-requires : tie.Need-begun-requires
+begun-requires c κs = search needs
 
-slice-relend-prefix-erode-reduced-2 : tie.Need-slice-relend-prefix-erode-reduced-2
-slice-relend-prefix-erode-reduced-2 c = eroded-room (c .before .before .before .before .before .before .before .before .before .before .before .before .before .before .pre)
-
-slice-aggregate-erode-reduced-2 : tie.Need-slice-aggregate-erode-reduced-2
-slice-aggregate-erode-reduced-2 c = sym (length-take-le _ _ (eroded-room (c .before .before .before .before .before .before .before .before .before .before .before .before .before .before .before .pre)))
-
-erode-reduced-requires : tie.Need-erode-reduced-requires
-erode-reduced-requires c κs = let p = c .before .before .before .before .before .before .before .before .before .before .before .before .before .before .before .before .before .before .before .before .before .pre in (sym (c .before .before .before .before .before .before .before .before .before .before .before .on-map .ensures) ∙ c .before .before .before .before .before .before .before .before .before .before .if1 .left, erodes-reduces p (length-take-le _ _ (small-room p)) (length-take-le _ _ (eroded-room p)))
+ended-requires : tie.Need-ended-requires
+ended-requires c κs = search needs
 
 same-length-8 : tie.Need-same-length-8
-same-length-8 c = search needs
+same-length-8 c = refl
 
 same-length-9 : tie.Need-same-length-9
-same-length-9 c = search needs
+same-length-9 c = c .before .before .before .before .before .before .before .before .reduce .kept .1 .1 .1 .0
 
 same-length-10 : tie.Need-same-length-10
-same-length-10 c = search needs
-
-same-length-11 : tie.Need-same-length-11
-same-length-11 c = search needs
-
-same-length-12 : tie.Need-same-length-12
-same-length-12 c = search needs
-
-same-length-13 : tie.Need-same-length-13
-same-length-13 c = search needs
-
-same-length-14 : tie.Need-same-length-14
-same-length-14 c = search needs
-
-same-length-15 : tie.Need-same-length-15
-same-length-15 c = search needs
-
-same-length-16 : tie.Need-same-length-16
-same-length-16 c = search needs
+same-length-10 c = c .before .before .before .before .before .before .before .before .reduce .kept .1 .1 .1 .1 .0
 
 returns-2 : tie.Need-returns-2
-returns-2 c = search needs
+returns-2 c = let s = c .before .before .before .before .before .before .before .before .before .before .before .before .before .before .before .before .before .before .before .before .before .before .before in let a = s .args in by-loops (s .pre) (whole-averages _ _ (courseBy (a .work .w) (a .work .h) (a .plan) (a .stop)) (a .hmap .now) (sym (c .before .before .before .before .before .before .before .before .before .before .before .before .before .on-map .ensures) ∙ c .before .before .before .before .before .before .before .before .before .before .before .before .if1 .left) (c .before .before .before .before .before .before .before .before .reduce .ensures) _ (not-true _ (c .before .before .before .if2 .taken)) (halted-fresh (c .ended .ensures) (c .before .before .fresh .ensures) (c .before .begun .ensures)))
+
+run-iterations-requires-2 : tie.Need-run-iterations-requires-2
+run-iterations-requires-2 c κs = let p = c .before .before .before .before .before .before .before .before .before .before .before .before .before .before .before .before .before .before .before .before .before .before .before .before .before .before .before .pre in let m = erodes-averages p _ (c .before .before .before .before .before .before .before .before .before .before .before .before .reduce .ensures) (not-false _ (c .before .before .before .before .before .before .before .if2 .left)) (c .before .before .before .before .before .before .before .before .before .before .before .before .reduce .kept .1 .1 .1 .1 .0) in (p .bounded, (m, erodes-enough p (m .cells)))
+
+same-length-11 : tie.Need-same-length-11
+same-length-11 c = refl
+
+same-length-12 : tie.Need-same-length-12
+same-length-12 c = c .before .before .before .before .before .before .before .before .before .before .before .before .before .before .before .before .before .before .before .before .before .before .before .before .before .before .before .before .before .reduce .kept .1 .1 .1 .0
+
+same-length-13 : tie.Need-same-length-13
+same-length-13 c = c .before .before .before .before .before .before .before .before .before .before .before .before .before .before .before .before .run-iterations2 .kept .1 .0 ∙ c .before .before .before .before .before .before .before .before .before .before .before .before .before .before .before .before .before .before .before .before .before .before .before .before .before .before .before .before .before .reduce .kept .1 .1 .1 .1 .0
+
+same-length-14 : tie.Need-same-length-14
+same-length-14 c = c .before .before .before .before .before .before .before .before .before .before .before .before .before .before .before .before .run-iterations2 .kept .1 .1 .1 .1 .0
+
+same-length-15 : tie.Need-same-length-15
+same-length-15 c = c .before .before .before .before .before .before .before .before .before .before .before .before .before .before .before .before .run-iterations2 .kept .1 .1 .1 .1 .1 .0
+
+same-length-16 : tie.Need-same-length-16
+same-length-16 c = c .before .before .before .before .before .before .before .before .before .before .before .before .before .before .before .before .run-iterations2 .kept .1 .1 .1 .1 .1 .1 .0
+
+same-length-17 : tie.Need-same-length-17
+same-length-17 c = c .before .before .before .before .before .before .before .before .before .before .before .before .before .before .before .before .run-iterations2 .kept .1 .1 .1 .1 .1 .1 .1 .0
+
+same-length-18 : tie.Need-same-length-18
+same-length-18 c = c .before .before .before .before .before .before .before .before .before .before .before .before .before .before .before .before .run-iterations2 .kept .1 .1 .1 .1 .1 .1 .1 .1 .0
+
+same-length-19 : tie.Need-same-length-19
+same-length-19 c = c .before .before .before .before .before .before .before .before .before .before .before .before .before .before .before .before .run-iterations2 .kept .1 .1 .1 .1 .1 .1 .1 .1 .1 .0
+
+returns-3 : tie.Need-returns-3
+returns-3 c = let s = c .before .before .before .before .before .before .before .before .before .before .before .before .before .before .before .before .before .before .before .before .before .before .before .before .before .before .before .before .before .before .before .before .before .before .before .before .before .before .before .before .before .before .before .before in let a = s .args in by-loops (s .pre) (whole-ended _ _ (courseBy (a .work .w) (a .work .h) (a .plan) (a .stop)) (a .hmap .now) (sym (c .before .before .before .before .before .before .before .before .before .before .before .before .before .before .before .before .before .before .before .before .before .before .before .before .before .before .before .before .before .before .before .before .before .before .on-map .ensures) ∙ c .before .before .before .before .before .before .before .before .before .before .before .before .before .before .before .before .before .before .before .before .before .before .before .before .before .before .before .before .before .before .before .before .before .if1 .left) (c .before .before .before .before .before .before .before .before .before .before .before .before .before .before .before .before .before .before .before .before .before .before .before .before .before .before .before .before .before .reduce .ensures) (not-false _ (c .before .before .before .before .before .before .before .before .before .before .before .before .before .before .before .before .before .before .before .before .before .before .before .before .if2 .left)) _ _ (c .before .before .before .before .before .before .before .before .before .before .before .before .before .before .before .before .run-iterations2 .ensures) (c .if3 .taken))
+
+add-back-requires : tie.Need-add-back-requires
+add-back-requires c κs = let p = c .before .before .before .before .before .before .before .before .before .before .before .before .before .before .before .before .before .before .before .before .before .before .before .before .before .before .before .before .before .before .before .before .before .before .before .before .before .before .before .before .before .before .before .before .before .before .before .pre in
+    let k = c .before .before .before .before .before .before .before .before .before .before .before .before .before .before .before .before .before .before .before .before .before .before .before .before .before .before .before .before .before .before .before .before .reduce .kept .1 .1 .1 in
+    let n = k .0 ∙ p .small in
+    (map-grid (p .sides) (p .heights), (work-grid (p .sides) n, (c .before .before .before .before .before .before .before .before .before .before .before .before .before .before .before .before .before .before .before .run-iterations2 .kept .1 .0 ∙ k .1 .0 ∙ p .eroded ∙ sym n, c .before .before .before .if3 .left)))
+
+same-length-20 : tie.Need-same-length-20
+same-length-20 c = c .before .before .before .before .add-back .kept .1 .0
+
+same-length-21 : tie.Need-same-length-21
+same-length-21 c = c .before .before .before .before .before .before .before .before .before .before .before .before .before .before .before .before .before .before .before .before .before .before .before .before .before .before .before .before .before .before .before .before .before .before .before .before .before .reduce .kept .1 .1 .1 .0
+
+same-length-22 : tie.Need-same-length-22
+same-length-22 c = c .before .before .before .before .add-back .kept .1 .1 .1 .1 .0 ∙ c .before .before .before .before .before .before .before .before .before .before .before .before .before .before .before .before .before .before .before .before .before .before .before .before .run-iterations2 .kept .1 .0 ∙ c .before .before .before .before .before .before .before .before .before .before .before .before .before .before .before .before .before .before .before .before .before .before .before .before .before .before .before .before .before .before .before .before .before .before .before .before .before .reduce .kept .1 .1 .1 .1 .0
+
+same-length-23 : tie.Need-same-length-23
+same-length-23 c = c .before .before .before .before .before .before .before .before .before .before .before .before .before .before .before .before .before .before .before .before .before .before .before .before .run-iterations2 .kept .1 .1 .1 .1 .0
+
+same-length-24 : tie.Need-same-length-24
+same-length-24 c = c .before .before .before .before .before .before .before .before .before .before .before .before .before .before .before .before .before .before .before .before .before .before .before .before .run-iterations2 .kept .1 .1 .1 .1 .1 .0
+
+same-length-25 : tie.Need-same-length-25
+same-length-25 c = c .before .before .before .before .before .before .before .before .before .before .before .before .before .before .before .before .before .before .before .before .before .before .before .before .run-iterations2 .kept .1 .1 .1 .1 .1 .1 .0
+
+same-length-26 : tie.Need-same-length-26
+same-length-26 c = c .before .before .before .before .before .before .before .before .before .before .before .before .before .before .before .before .before .before .before .before .before .before .before .before .run-iterations2 .kept .1 .1 .1 .1 .1 .1 .1 .0
+
+same-length-27 : tie.Need-same-length-27
+same-length-27 c = c .before .before .before .before .before .before .before .before .before .before .before .before .before .before .before .before .before .before .before .before .before .before .before .before .run-iterations2 .kept .1 .1 .1 .1 .1 .1 .1 .1 .0
+
+same-length-28 : tie.Need-same-length-28
+same-length-28 c = c .before .before .before .before .before .before .before .before .before .before .before .before .before .before .before .before .before .before .before .before .before .before .before .before .run-iterations2 .kept .1 .1 .1 .1 .1 .1 .1 .1 .1 .0
+
+returns-4 : tie.Need-returns-4
+returns-4 c = let s = c .before .before .before .before .before .before .before .before .before .before .before .before .before .before .before .before .before .before .before .before .before .before .before .before .before .before .before .before .before .before .before .before .before .before .before .before .before .before .before .before .before .before .before .before .before .before .before .before .before .before .before .before in let a = s .args in by-loops (s .pre) (whole-added _ _ (courseBy (a .work .w) (a .work .h) (a .plan) (a .stop)) (a .hmap .now) (sym (c .before .before .before .before .before .before .before .before .before .before .before .before .before .before .before .before .before .before .before .before .before .before .before .before .before .before .before .before .before .before .before .before .before .before .before .before .before .before .before .before .before .before .on-map .ensures) ∙ c .before .before .before .before .before .before .before .before .before .before .before .before .before .before .before .before .before .before .before .before .before .before .before .before .before .before .before .before .before .before .before .before .before .before .before .before .before .before .before .before .before .if1 .left) (c .before .before .before .before .before .before .before .before .before .before .before .before .before .before .before .before .before .before .before .before .before .before .before .before .before .before .before .before .before .before .before .before .before .before .before .before .before .reduce .ensures) (not-false _ (c .before .before .before .before .before .before .before .before .before .before .before .before .before .before .before .before .before .before .before .before .before .before .before .before .before .before .before .before .before .before .before .before .if2 .left)) _ _ (c .before .before .before .before .before .before .before .before .before .before .before .before .before .before .before .before .before .before .before .before .before .before .before .before .run-iterations2 .ensures) _ (c .before .before .before .before .before .before .before .before .if3 .left) (c .before .before .before .before .add-back .ensures))
 
 pub erode-spec : {M : Type 1} → statement M
 erode-spec =
     tie.close
     (tie.spec
     on-map-requires
-    run-grid-requires
+    run-iterations-requires
     same-length
     same-length-2
     same-length-3
@@ -101,19 +145,33 @@ erode-spec =
     same-length-6
     same-length-7
     returns
-    mul-m
-    slice-relend-prefix-erode-reduced
-    slice-aggregate-erode-reduced
-    slice-relend-prefix-erode-reduced-2
-    slice-aggregate-erode-reduced-2
-    erode-reduced-requires
+    reduce-requires
+    fresh-requires
+    begun-requires
+    ended-requires
     same-length-8
     same-length-9
     same-length-10
+    returns-2
+    run-iterations-requires-2
     same-length-11
     same-length-12
     same-length-13
     same-length-14
     same-length-15
     same-length-16
-    returns-2)
+    same-length-17
+    same-length-18
+    same-length-19
+    returns-3
+    add-back-requires
+    same-length-20
+    same-length-21
+    same-length-22
+    same-length-23
+    same-length-24
+    same-length-25
+    same-length-26
+    same-length-27
+    same-length-28
+    returns-4)

@@ -1,7 +1,12 @@
+use Prim.Native.Nat.{_*_}
+use mathlib.Core.Path.{_≡_, sym}
+use lib.Seq.{length-take-le}
 use Rattle.answers.specs.Outcome.{answerOf}
-use mathlib.Core.Path.{_≡_}
+use Rattle.grid.proofs.SidesLaws.{cells-fit}
+use Rattle.resample.specs.WorkSize.{Within}
+use Rattle.plans.proofs.InputLaws.{within-range}
 use Rattle.fluvial_run.specs.FluvialRun.{inputRefusal, scratchOf}
-use Rattle.fluvial_run.proofs.RunLaws.{decided, run-refused, run-accepted, run-within, run-erodes, run-done, ran-numbered}
+use Rattle.fluvial_run.proofs.RunLaws.{Rooms, decided, run-refused, run-accepted, run-within, run-rooms, run-erodes, run-done, ran-numbered}
 use borrow.Author.Needs.{needs}
 use Rattle.fluvial_run.proofs.gen_fluvial_erosion.Statement.{statement}
 use Rattle.fluvial_run.proofs.gen_fluvial_erosion.Tie as tie
@@ -9,6 +14,13 @@ use Rattle.fluvial_run.proofs.gen_fluvial_erosion.Tie as tie
 -- what was decided of an input that is accepted
 told : (c : tie.After-enum-told) → let a = c .before .before .before .before .before .before .before .before .before .before .before .before .before .before .before .args in answerOf (c .before .before .refusal .result) ≡ inputRefusal (a .size .w) (a .size .h) (a .conf) (a .hmap .now) (scratchOf (a .small .now) (a .eroded .now) (a .copy .now) (a .area .now) (a .order .now) (a .recv .now) (a .queue .now) (a .status .now))
 told c = let a = c .before .before .before .before .before .before .before .before .before .before .before .before .before .before .before .args in decided (a .size .w) (a .size .h) (a .conf) (a .stop) (a .hmap .now) (a .small .now) (a .eroded .now) (a .copy .now) (a .area .now) (a .order .now) (a .recv .now) (a .queue .now) (a .status .now) (c .before .before .refusal .ensures) (c .before .before .before .before .bad-fluvial .ensures) (c .before .before .before .shortest .ensures)
+
+-- the working cells of the scratch slices
+within : (c : tie.After-work-sides) → let a = c .before .before .before .before .before .before .before .before .before .before .before .before .before .before .before .before .args in Within (a .size .w) (a .size .h) (c .work-sides .result .w) (c .work-sides .result .h)
+within c = let a = c .before .before .before .before .before .before .before .before .before .before .before .before .before .before .before .before .args in run-within (a .size .w) (a .size .h) (a .conf) (a .stop) (a .hmap .now) (a .small .now) (a .eroded .now) (a .copy .now) (a .area .now) (a .order .now) (a .recv .now) (a .queue .now) (a .status .now) (told (c .before)) (c .before .enum-told .given .1) (c .work-sides .ensures)
+
+rooms : (c : tie.After-work-sides) → let a = c .before .before .before .before .before .before .before .before .before .before .before .before .before .before .before .before .args in Rooms (c .work-sides .result .w * c .work-sides .result .h) (scratchOf (a .small .now) (a .eroded .now) (a .copy .now) (a .area .now) (a .order .now) (a .recv .now) (a .queue .now) (a .status .now))
+rooms c = let a = c .before .before .before .before .before .before .before .before .before .before .before .before .before .before .before .before .args in run-rooms (a .size .w) (a .size .h) (a .conf) (a .stop) (a .hmap .now) (a .small .now) (a .eroded .now) (a .copy .now) (a .area .now) (a .order .now) (a .recv .now) (a .queue .now) (a .status .now) (told (c .before)) (c .before .enum-told .given .1) (c .work-sides .ensures)
 
 bad-fluvial-requires : tie.Need-bad-fluvial-requires
 bad-fluvial-requires c κs = search needs
@@ -37,11 +49,53 @@ enum-told c = search needs
 work-sides-requires : tie.Need-work-sides-requires
 work-sides-requires c κs = let a = c .before .before .before .before .before .before .before .before .before .before .before .before .before .before .before .args in let s = run-accepted (a .size .w) (a .size .h) (a .conf) (a .stop) (a .hmap .now) (a .small .now) (a .eroded .now) (a .copy .now) (a .area .now) (a .order .now) (a .recv .now) (a .queue .now) (a .status .now) (told c) (c .enum-told .given .1) .sides in (s .wide, s .high)
 
+plan-on-requires : tie.Need-plan-on-requires
+plan-on-requires c κs = let r = within-range (within c) in (r .wide, r .high)
+
+mul-m : tie.Need-mul-m
+mul-m c = let r = within-range (within (c .before .before)) in cells-fit _ _ (r .wide) (r .high)
+
+slice-relend-prefix-erode : tie.Need-slice-relend-prefix-erode
+slice-relend-prefix-erode c = rooms (c .before .before .before) .small
+
+slice-aggregate-erode : tie.Need-slice-aggregate-erode
+slice-aggregate-erode c = sym (length-take-le _ _ (rooms (c .before .before .before .before) .small))
+
+slice-relend-prefix-erode-2 : tie.Need-slice-relend-prefix-erode-2
+slice-relend-prefix-erode-2 c = rooms (c .before .before .before .before) .eroded
+
+slice-aggregate-erode-2 : tie.Need-slice-aggregate-erode-2
+slice-aggregate-erode-2 c = sym (length-take-le _ _ (rooms (c .before .before .before .before .before) .eroded))
+
+slice-relend-prefix-erode-3 : tie.Need-slice-relend-prefix-erode-3
+slice-relend-prefix-erode-3 c = rooms (c .before .before .before .before .before) .copy
+
+slice-aggregate-erode-3 : tie.Need-slice-aggregate-erode-3
+slice-aggregate-erode-3 c = sym (length-take-le _ _ (rooms (c .before .before .before .before .before .before) .copy))
+
+slice-relend-prefix-erode-4 : tie.Need-slice-relend-prefix-erode-4
+slice-relend-prefix-erode-4 c = rooms (c .before .before .before .before .before .before) .area
+
+slice-aggregate-erode-4 : tie.Need-slice-aggregate-erode-4
+slice-aggregate-erode-4 c = sym (length-take-le _ _ (rooms (c .before .before .before .before .before .before .before) .area))
+
+slice-relend-prefix-erode-5 : tie.Need-slice-relend-prefix-erode-5
+slice-relend-prefix-erode-5 c = rooms (c .before .before .before .before .before .before .before) .order
+
+slice-aggregate-erode-5 : tie.Need-slice-aggregate-erode-5
+slice-aggregate-erode-5 c = sym (length-take-le _ _ (rooms (c .before .before .before .before .before .before .before .before) .order))
+
+slice-relend-prefix-erode-6 : tie.Need-slice-relend-prefix-erode-6
+slice-relend-prefix-erode-6 c = rooms (c .before .before .before .before .before .before .before .before) .recv
+
+slice-aggregate-erode-6 : tie.Need-slice-aggregate-erode-6
+slice-aggregate-erode-6 c = sym (length-take-le _ _ (rooms (c .before .before .before .before .before .before .before .before .before) .recv))
+
 erode-requires : tie.Need-erode-requires
-erode-requires c κs = let a = c .before .before .before .before .before .before .before .before .before .before .before .before .before .before .before .before .before .before .before .before .before .before .before .before .before .args in run-erodes (a .size .w) (a .size .h) (a .conf) (a .stop) (a .hmap .now) (a .small .now) (a .eroded .now) (a .copy .now) (a .area .now) (a .order .now) (a .recv .now) (a .queue .now) (a .status .now) (told (c .before .before .before .before .before .before .before .before .before .before)) (c .before .before .before .before .before .before .before .before .before .before .enum-told .given .1) (c .before .before .before .before .before .before .before .before .before .work-sides .ensures)
+erode-requires c κs = let a = c .before .before .before .before .before .before .before .before .before .before .before .before .before .before .before .before .before .before .before .before .before .before .before .before .before .before .before .args in run-erodes (a .size .w) (a .size .h) (a .conf) (a .stop) (a .hmap .now) (a .small .now) (a .eroded .now) (a .copy .now) (a .area .now) (a .order .now) (a .recv .now) (a .queue .now) (a .status .now) (told (c .before .before .before .before .before .before .before .before .before .before .before .before)) (c .before .before .before .before .before .before .before .before .before .before .before .before .enum-told .given .1) (c .before .before .before .before .before .before .before .before .before .before .before .work-sides .ensures) (c .before .before .before .before .before .before .before .before .before .before .plan-on .ensures)
 
 answered-requires : tie.Need-answered-requires
-answered-requires c κs = let a = c .before .before .before .before .before .before .before .before .before .before .before .before .before .before .before .before .before .before .before .before .before .before .before .before .before .before .before .before .before .before .before .before .before .before .before .before .before .before .before .before .before .before .before .before .args in ran-numbered (run-within (a .size .w) (a .size .h) (a .conf) (a .stop) (a .hmap .now) (a .small .now) (a .eroded .now) (a .copy .now) (a .area .now) (a .order .now) (a .recv .now) (a .queue .now) (a .status .now) (told (c .before .before .before .before .before .before .before .before .before .before .before .before .before .before .before .before .before .before .before .before .before .before .before .before .before .before .before .before .before)) (c .before .before .before .before .before .before .before .before .before .before .before .before .before .before .before .before .before .before .before .before .before .before .before .before .before .before .before .before .before .enum-told .given .1) (c .before .before .before .before .before .before .before .before .before .before .before .before .before .before .before .before .before .before .before .before .before .before .before .before .before .before .before .before .work-sides .ensures)) (a .conf) (a .stop) (a .hmap .now) (c .before .before .before .before .before .before .before .before .before .before .before .before .before .before .before .before .before .before .erode .ensures)
+answered-requires c κs = let a = c .before .before .before .before .before .before .before .before .before .before .before .before .before .before .before .before .before .before .before .before .before .before .before .before .before .before .before .before .before .before .before .before .before .before .before .before .before .before .before .before .before .before .before .before .before .before .args in ran-numbered (run-erodes (a .size .w) (a .size .h) (a .conf) (a .stop) (a .hmap .now) (a .small .now) (a .eroded .now) (a .copy .now) (a .area .now) (a .order .now) (a .recv .now) (a .queue .now) (a .status .now) (told (c .before .before .before .before .before .before .before .before .before .before .before .before .before .before .before .before .before .before .before .before .before .before .before .before .before .before .before .before .before .before .before)) (c .before .before .before .before .before .before .before .before .before .before .before .before .before .before .before .before .before .before .before .before .before .before .before .before .before .before .before .before .before .before .before .enum-told .given .1) (c .before .before .before .before .before .before .before .before .before .before .before .before .before .before .before .before .before .before .before .before .before .before .before .before .before .before .before .before .before .before .work-sides .ensures) (c .before .before .before .before .before .before .before .before .before .before .before .before .before .before .before .before .before .before .before .before .before .before .before .before .before .before .before .before .before .plan-on .ensures)) (c .before .before .before .before .before .before .before .before .before .before .before .before .before .before .before .before .before .before .erode .ensures)
 
 same-length-2 : tie.Need-same-length-2
 same-length-2 c = search needs
@@ -71,7 +125,7 @@ same-length-10 : tie.Need-same-length-10
 same-length-10 c = search needs
 
 returns-2 : tie.Need-returns-2
-returns-2 c = let a = c .before .before .before .before .before .before .before .before .before .before .before .before .before .before .before .before .before .before .before .before .before .before .before .before .before .before .before .before .before .before .before .before .before .before .before .before .before .before .before .before .before .before .before .before .before .args in run-done (a .size .w) (a .size .h) (a .conf) (a .stop) (a .hmap .now) (a .small .now) (a .eroded .now) (a .copy .now) (a .area .now) (a .order .now) (a .recv .now) (a .queue .now) (a .status .now) (told (c .before .before .before .before .before .before .before .before .before .before .before .before .before .before .before .before .before .before .before .before .before .before .before .before .before .before .before .before .before .before)) (c .before .before .before .before .before .before .before .before .before .before .before .before .before .before .before .before .before .before .before .before .before .before .before .before .before .before .before .before .before .before .enum-told .given .1) (c .before .before .before .before .before .before .before .before .before .before .before .before .before .before .before .before .before .before .before .before .before .before .before .before .before .before .before .before .before .work-sides .ensures) _ _ _ _ _ _ _ _ _ (c .answered .ensures) (c .before .before .before .before .before .before .before .before .before .before .before .before .before .before .before .before .before .before .before .erode .ensures)
+returns-2 c = let a = c .before .before .before .before .before .before .before .before .before .before .before .before .before .before .before .before .before .before .before .before .before .before .before .before .before .before .before .before .before .before .before .before .before .before .before .before .before .before .before .before .before .before .before .before .before .before .before .args in run-done (a .size .w) (a .size .h) (a .conf) (a .stop) (a .hmap .now) (a .small .now) (a .eroded .now) (a .copy .now) (a .area .now) (a .order .now) (a .recv .now) (a .queue .now) (a .status .now) (told (c .before .before .before .before .before .before .before .before .before .before .before .before .before .before .before .before .before .before .before .before .before .before .before .before .before .before .before .before .before .before .before .before)) (c .before .before .before .before .before .before .before .before .before .before .before .before .before .before .before .before .before .before .before .before .before .before .before .before .before .before .before .before .before .before .before .before .enum-told .given .1) (c .before .before .before .before .before .before .before .before .before .before .before .before .before .before .before .before .before .before .before .before .before .before .before .before .before .before .before .before .before .before .before .work-sides .ensures) (c .before .before .before .before .before .before .before .before .before .before .before .before .before .before .before .before .before .before .before .before .before .before .before .before .before .before .before .before .before .before .plan-on .ensures) _ _ _ _ _ _ _ _ _ (c .answered .ensures) (c .before .before .before .before .before .before .before .before .before .before .before .before .before .before .before .before .before .before .before .erode .ensures)
 
 pub gen-fluvial-erosion-spec : {M : Type 1} → statement M
 gen-fluvial-erosion-spec =
@@ -86,6 +140,20 @@ gen-fluvial-erosion-spec =
     returns
     enum-told
     work-sides-requires
+    plan-on-requires
+    mul-m
+    slice-relend-prefix-erode
+    slice-aggregate-erode
+    slice-relend-prefix-erode-2
+    slice-aggregate-erode-2
+    slice-relend-prefix-erode-3
+    slice-aggregate-erode-3
+    slice-relend-prefix-erode-4
+    slice-aggregate-erode-4
+    slice-relend-prefix-erode-5
+    slice-aggregate-erode-5
+    slice-relend-prefix-erode-6
+    slice-aggregate-erode-6
     erode-requires
     answered-requires
     same-length-2
