@@ -1,48 +1,42 @@
 -- The run on its working grid, and the whole call: what its parts ask follows from what they are given, and its ends are the run's.
 use Prim.Native.Nat.{ℕ, _*_, _≤_, min}
 use mathlib.Core.Path.{_≡_, refl, sym, ap, ap₂, _∙_, subst}
-use mathlib.Core.Bool.{Bool, true, false, _&&_, true≢false}
+use mathlib.Core.Bool.{Bool, false, true≢false}
 use mathlib.Core.List.{List}
 use native.Mathlib.Nat.{le-trans}
 use native.Mathlib.Omega.{arith}
-use borrow.Author.Tests.{eqb-true}
 use lib.ListN.{length, take}
 use lib.Seq.{length-take-le}
-use lib.Dec.{eqb}
 use lib.Ieee.{Float}
 use Rattle.answers.specs.Outcome.{Outcome, gives, answerOf}
 use Rattle.answers.specs.declared.Answer.{Answer}
 use Rattle.answers.specs.declared.Refusal.{Refusal}
 use Rattle.grid.specs.Sides.{InRange}
-use Rattle.grid.specs.Heights.{allFinite}
 use Rattle.grid.specs.declared.Sides.{Sides}
 use Rattle.drainage.specs.Ground.{gridGround}
-use Rattle.flood.specs.Slices.{Accepted}
-use Rattle.flow.specs.Route.{Enough}
 use Rattle.resample.specs.WorkSize.{Within, workSize}
 use Rattle.upsample.specs.Samples.{asSource}
 use Rattle.runs.specs.Plan.{Plan, fluvialPlan}
 use Rattle.runs.specs.Machine.{Course}
-use Rattle.runs.specs.Run.{Ran, ours, fluvialCourse, runOn, runBy}
+use Rattle.runs.specs.Run.{ours, fluvialCourse, runOn, runBy}
 use Rattle.runs.specs.Refusals.{badFluvial}
 use Rattle.runs.specs.Nested.{Bounded}
 use Rattle.runs.specs.declared.FluvialSettings.{FluvialSettings}
 use Rattle.runs.proofs.BoundLaws.{fluvial-bounded}
-use Rattle.runs.proofs.CourseLaws.{run-nested}
 use Rattle.plans.specs.Accepted as Input
 use Rattle.plans.specs.Accepted.{refusalOn}
 use Rattle.plans.proofs.RefusalLaws.{accepted-by}
 use Rattle.plans.proofs.InputLaws.{within-range, within-cells, accepted-within, fluvial-iterations}
-use Rattle.erosion.specs.Reached.{ranBy, Reduced}
-use Rattle.erosion.specs.Ending.{endedWith, accepted, refusedTo, Numbered, Answered}
+use Rattle.erosion.specs.Reached.{ranBy}
+use Rattle.erosion.specs.Ending.{endedWith, accepted, refusedTo, Answered}
 use Rattle.erosion.specs.declared.Reached.{Reached}
 use Rattle.erosion.specs.declared.RunAnswer.{RunAnswer}
 use Rattle.erosion.proofs.EndingLaws.{ending-refused, ending-ran}
-use Rattle.erosion.proofs.WholeLaws.{wholeRun, whole-numbered}
 use Rattle.fluvial_loop.specs.Loops.{planOf, courseBy}
 use Rattle.fluvial_loop.specs.declared.FluvialPlan.{FluvialPlan}
-use Rattle.fluvial_run.specs.FluvialRun.{shortestOf, scratchOf, inputRefusal, FluvialRun, Erodes}
-use Rattle.fluvial_run.specs.declared.Scratch.{Scratch}
+use Rattle.fluvial_grid.specs.Grids.{scratchOf, Erodes}
+use Rattle.fluvial_grid.specs.declared.Scratch.{Scratch}
+use Rattle.fluvial_run.specs.FluvialRun.{shortestOf, inputRefusal, FluvialRun}
 
 -- a plan by its parts
 pub plan-is : {p : FluvialPlan} (q : Plan) → p .iterations ≡ q .iterations → p .passes ≡ q .passes → p .cuts ≡ q .cuts → p .slides ≡ q .slides → planOf p ≡ q
@@ -56,44 +50,6 @@ module _ (w h : ℕ) (conf : FluvialSettings) (stop : ℕ) {plan : FluvialPlan} 
   course-bounded : InRange w h → conf .iterations ≤ 4096 → Bounded (courseBy w h plan stop)
   course-bounded r l =
       subst Bounded (sym course-is) (fluvial-bounded w h r (gridGround w h (conf .«water_level»)) conf stop ours l)
-
-both : (a b : Bool) → (a && b) ≡ true → (a ≡ true) × (b ≡ true)
-both true b e = (refl, e)
-both false b e = absurd (true≢false (sym e))
-
-module _ {w h dw dh : ℕ} {plan : FluvialPlan} {stop : ℕ} {map : List Float} {s : Scratch} (e : Erodes w h dw dh plan stop map s) where
-  -- the run by its loops is the run
-  nested-is : runOn asSource w h (courseBy dw dh plan stop) map ≡ wholeRun w h (courseBy dw dh plan stop) map
-  nested-is = run-nested asSource w h (courseBy dw dh plan stop) map (e .sides .dh-low) (e .bounded .some)
-
-  pub by-loops : {x : Ran} → x ≡ wholeRun w h (courseBy dw dh plan stop) map → x ≡ runOn asSource w h (courseBy dw dh plan stop) map
-  by-loops f = f ∙ sym nested-is
-
-  pub ran-numbered : {x : Ran} → x ≡ runOn asSource w h (courseBy dw dh plan stop) map → Numbered (x .number)
-  ran-numbered {x} f =
-      subst (λ (x : Ran). Numbered (x .number)) (sym (f ∙ nested-is)) (whole-numbered w h (courseBy dw dh plan stop) map)
-
-  -- the slices of the loops, where n is the length of the heights
-  pub erodes-enough : {n : ℕ} → n ≡ dw * dh
-      → Enough (dw * dh) (record { heights = n; order = s .order; receivers = s .recv; spill = s .copy; areas = s .area; queue = s .queue; status = s .status })
-  erodes-enough f =
-      record { heights = f; order = e .order; receivers = e .recv; spill = e .copy; areas = e .area; queue = e .queue; status = e .status }
-
-  -- the map may be routed where the working sides are its own
-  pub erodes-map : {t : Bool} → t ≡ (eqb dw w && eqb dh h) → t ≡ true → Accepted dw dh map
-  erodes-map f t =
-      let same = both (eqb dw w) (eqb dh h) (sym f ∙ t) in
-      record {
-        sides = within-range (e .sides);
-        cells = e .heights ∙ ap₂ (λ (a b : ℕ). a * b) (sym (eqb-true dw w (same .0))) (sym (eqb-true dh h (same .1)));
-        finites = e .finites;
-      }
-
-  -- and so may its averages, if they are finite
-  pub erodes-averages : {small : List Float} (eroded : List Float) {finite : Bool} → Reduced w h dw dh map finite small eroded → finite ≡ true → length eroded ≡ s .eroded
-      → Accepted dw dh eroded
-  erodes-averages eroded r t f =
-      record { sides = within-range (e .sides); cells = f ∙ e .eroded; finites = ap allFinite (r .started) ∙ sym (r .finites) ∙ t }
 
 at-most : {n a b : ℕ} → n ≤ min a b → (n ≤ a) × (n ≤ b)
 at-most l = (omega arith, omega arith)

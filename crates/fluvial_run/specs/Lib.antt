@@ -1,2 +1,2 @@
--- Document 01, 'Whole runs': what gen_fluvial_erosion promises, and what its parts ask.
+-- Document 01, 'Whole runs': what gen_fluvial_erosion promises.
 pub mod FluvialRun

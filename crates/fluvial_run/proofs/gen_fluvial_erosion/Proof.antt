@@ -5,8 +5,10 @@ use Rattle.answers.specs.Outcome.{answerOf}
 use Rattle.grid.proofs.SidesLaws.{cells-fit}
 use Rattle.resample.specs.WorkSize.{Within}
 use Rattle.plans.proofs.InputLaws.{within-range}
-use Rattle.fluvial_run.specs.FluvialRun.{inputRefusal, scratchOf}
-use Rattle.fluvial_run.proofs.RunLaws.{Rooms, decided, run-refused, run-accepted, run-within, run-rooms, run-erodes, run-done, ran-numbered}
+use Rattle.fluvial_grid.specs.Grids.{scratchOf}
+use Rattle.fluvial_grid.proofs.GridLaws.{ran-numbered}
+use Rattle.fluvial_run.specs.FluvialRun.{inputRefusal}
+use Rattle.fluvial_run.proofs.RunLaws.{Rooms, decided, run-refused, run-accepted, run-within, run-rooms, run-erodes, run-done}
 use borrow.Author.Needs.{needs}
 use Rattle.fluvial_run.proofs.gen_fluvial_erosion.Statement.{statement}
 use Rattle.fluvial_run.proofs.gen_fluvial_erosion.Tie as tie

@@ -3,10 +3,10 @@ use borrow.Author.Tests.{not-true, not-false}
 use Rattle.erosion.proofs.WholeLaws.{whole-on-map, whole-averages, whole-ended, whole-added}
 use Rattle.thermal_run.proofs.RunLaws.{map-grid, work-grid, halted-fresh}
 use Rattle.fluvial_loop.specs.Loops.{courseBy}
-use Rattle.fluvial_run.proofs.RunLaws.{by-loops, erodes-enough, erodes-map, erodes-averages}
+use Rattle.fluvial_grid.proofs.GridLaws.{by-loops, erodes-enough, erodes-map, erodes-averages}
 use borrow.Author.Needs.{needs}
-use Rattle.fluvial_run.proofs.erode.Statement.{statement}
-use Rattle.fluvial_run.proofs.erode.Tie as tie
+use Rattle.fluvial_grid.proofs.erode.Statement.{statement}
+use Rattle.fluvial_grid.proofs.erode.Tie as tie
 
 on-map-requires : tie.Need-on-map-requires
 on-map-requires c κs = search needs

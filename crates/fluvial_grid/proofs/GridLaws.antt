@@ -1,0 +1,61 @@
+-- What the parts of a run on its working grid ask follows from what it is given, and the run by its loops is the run.
+use Prim.Native.Nat.{ℕ, _*_}
+use mathlib.Core.Path.{_≡_, refl, sym, ap, ap₂, _∙_, subst}
+use mathlib.Core.Bool.{Bool, true, false, _&&_, true≢false}
+use mathlib.Core.List.{List}
+use borrow.Author.Tests.{eqb-true}
+use lib.ListN.{length}
+use lib.Dec.{eqb}
+use lib.Ieee.{Float}
+use Rattle.grid.specs.Heights.{allFinite}
+use Rattle.flood.specs.Slices.{Accepted}
+use Rattle.flow.specs.Route.{Enough}
+use Rattle.upsample.specs.Samples.{asSource}
+use Rattle.runs.specs.Run.{Ran, runOn}
+use Rattle.runs.proofs.CourseLaws.{run-nested}
+use Rattle.plans.proofs.InputLaws.{within-range}
+use Rattle.erosion.specs.Reached.{Reduced}
+use Rattle.erosion.specs.Ending.{Numbered}
+use Rattle.erosion.proofs.WholeLaws.{wholeRun, whole-numbered}
+use Rattle.fluvial_loop.specs.Loops.{courseBy}
+use Rattle.fluvial_loop.specs.declared.FluvialPlan.{FluvialPlan}
+use Rattle.fluvial_grid.specs.Grids.{Erodes}
+use Rattle.fluvial_grid.specs.declared.Scratch.{Scratch}
+
+both : (a b : Bool) → (a && b) ≡ true → (a ≡ true) × (b ≡ true)
+both true b e = (refl, e)
+both false b e = absurd (true≢false (sym e))
+
+module _ {w h dw dh : ℕ} {plan : FluvialPlan} {stop : ℕ} {map : List Float} {s : Scratch} (e : Erodes w h dw dh plan stop map s) where
+  -- the run by its loops is the run
+  nested-is : runOn asSource w h (courseBy dw dh plan stop) map ≡ wholeRun w h (courseBy dw dh plan stop) map
+  nested-is = run-nested asSource w h (courseBy dw dh plan stop) map (e .sides .dh-low) (e .bounded .some)
+
+  pub by-loops : {x : Ran} → x ≡ wholeRun w h (courseBy dw dh plan stop) map → x ≡ runOn asSource w h (courseBy dw dh plan stop) map
+  by-loops f = f ∙ sym nested-is
+
+  pub ran-numbered : {x : Ran} → x ≡ runOn asSource w h (courseBy dw dh plan stop) map → Numbered (x .number)
+  ran-numbered {x} f =
+      subst (λ (x : Ran). Numbered (x .number)) (sym (f ∙ nested-is)) (whole-numbered w h (courseBy dw dh plan stop) map)
+
+  -- the slices of the loops, where n is the length of the heights
+  pub erodes-enough : {n : ℕ} → n ≡ dw * dh
+      → Enough (dw * dh) (record { heights = n; order = s .order; receivers = s .recv; spill = s .copy; areas = s .area; queue = s .queue; status = s .status })
+  erodes-enough f =
+      record { heights = f; order = e .order; receivers = e .recv; spill = e .copy; areas = e .area; queue = e .queue; status = e .status }
+
+  -- the map may be routed where the working sides are its own
+  pub erodes-map : {t : Bool} → t ≡ (eqb dw w && eqb dh h) → t ≡ true → Accepted dw dh map
+  erodes-map f t =
+      let same = both (eqb dw w) (eqb dh h) (sym f ∙ t) in
+      record {
+        sides = within-range (e .sides);
+        cells = e .heights ∙ ap₂ (λ (a b : ℕ). a * b) (sym (eqb-true dw w (same .0))) (sym (eqb-true dh h (same .1)));
+        finites = e .finites;
+      }
+
+  -- and so may its averages, if they are finite
+  pub erodes-averages : {small : List Float} (eroded : List Float) {finite : Bool} → Reduced w h dw dh map finite small eroded → finite ≡ true → length eroded ≡ s .eroded
+      → Accepted dw dh eroded
+  erodes-averages eroded r t f =
+      record { sides = within-range (e .sides); cells = f ∙ e .eroded; finites = ap allFinite (r .started) ∙ sym (r .finites) ∙ t }

@@ -1,0 +1,2 @@
+-- Laws of a fluvial run on its working grid.
+pub mod GridLaws

@@ -1,0 +1,2 @@
+-- What a fluvial run on its working grid asks.
+pub mod Grids

@@ -1,0 +1,84 @@
+// A fluvial run on the grid it works on: the map, or a reduced grid whose change is added back.
+use erosion::Reached;
+use erosion::add_back;
+use erosion::begun;
+use erosion::ended;
+use erosion::on_map;
+use erosion::reduce;
+use fluvial_loop::FluvialPlan;
+use fluvial_loop::run_iterations;
+use generators::fresh;
+use grid::Sides;
+ghost use mathlib.Core.Path.{_≡_};
+ghost use Rattle.upsample.specs.Samples.{asSource};
+ghost use Rattle.runs.specs.Run.{runOn};
+ghost use Rattle.erosion.specs.Reached.{ranBy};
+ghost use Rattle.fluvial_loop.specs.Loops.{courseBy};
+ghost use Rattle.fluvial_grid.specs.Grids.{scratchOf, Erodes};
+
+// The lengths of the scratch slices.
+pub struct Scratch {
+    pub small: usize,
+    pub eroded: usize,
+    pub copy: usize,
+    pub area: usize,
+    pub order: usize,
+    pub recv: usize,
+    pub queue: usize,
+    pub status: usize,
+}
+
+// A run on its working grid: on the map itself where the sides are the map's; else on a reduced copy, whose difference is then added to the map. There
+// 21 and 22 leave the map as it came.
+pub fn erode(
+    size: Sides,
+    hmap: &mut [f32],
+    work: Sides,
+    plan: FluvialPlan,
+    stop: u32,
+    small: &mut [f32],
+    eroded: &mut [f32],
+    copy: &mut [f32],
+    area: &mut [f32],
+    order: &mut [u32],
+    recv: &mut [u32],
+    queue: &mut [u32],
+    status: &mut [u8],
+) -> Reached
+    requires { ⌜ Erodes (size .w) (size .h) (work .w) (work .h) plan stop (now hmap) (scratchOf (now small) (now eroded) (now copy) (now area) (now order) (now recv) (now queue) (now status)) ⌝ }
+    ensures { λ r. ⌜ ranBy (now (hmap .exit)) r ≡ runOn asSource (size .w) (size .h) (courseBy (work .w) (work .h) plan stop) (now (hmap .entry)) ⌝ }
+{
+    if on_map(work, size) {
+        return run_iterations(
+            work,
+            hmap,
+            plan,
+            stop,
+            copy,
+            area,
+            order,
+            recv,
+            queue,
+            status,
+        );
+    }
+    if !reduce(size, hmap, work, small, eroded) {
+        return ended(22, fresh(), begun());
+    }
+    let done = run_iterations(
+        work,
+        eroded,
+        plan,
+        stop,
+        copy,
+        area,
+        order,
+        recv,
+        queue,
+        status,
+    );
+    if done.number != 0 {
+        return done;
+    }
+    add_back(size, hmap, work, small, eroded, done)
+}
