@@ -1,0 +1,2 @@
+-- The plates of document 01.
+pub mod PlateLaws

@@ -1,0 +1,25 @@
+-- The plates of specs/Plates.antt, by computation.
+use mathlib.Core.Path.{refl}
+use lib.Ieee.{ofBits, toBits, ofInt, round, add, sub, mul, div, lt, le, toUnsigned}
+use Rattle.lists.specs.Loops.{turns, tabulate}
+use Rattle.floats.specs.Stand.{truncOf, roundOf}
+use Rattle.grid.specs.Directions.{neighbourOf}
+use Rattle.grid.specs.Heights.{firstNotFinite, allFinite}
+use Rattle.square_root.specs.Root.{rootOf, nearestRoot, wholeRoot, digits}
+use Rattle.generators.specs.Marks.{reportOf}
+use Rattle.drainage.specs.Flood.{start, step, leastWaiting, pushAll, floodAfter}
+use Rattle.drainage.specs.Receivers.{receivers, receiverOf, steepestOf, directionTo}
+use Rattle.drainage.specs.Ways.{areasAlong, times}
+use Rattle.lent.specs.Lent.{firstFailing, goodReceiver, goodEntry}
+use Rattle.fluvial_erosion.specs.Incision.{incisedBy, inciseAlong}
+use Rattle.talus.specs.Talus.{shedStep, shedOf, gainStep, gainsOf, slideCell, slideRow}
+use Rattle.thermal_erosion.specs.SlidePass.{rowsOf}
+use Rattle.resample.specs.WorkSize.{workSize, scaledSide}
+use Rattle.resample.specs.Blocks.{rowSum, blockSum, averageOf, downsampled}
+use Rattle.bilinear.specs.Samples.{bilinearOf}
+use Rattle.upsample.specs.Samples.{addedOf}
+use Rattle.plates.specs.Plates.{OnTheWall}
+
+pub on-the-wall : OnTheWall
+unfolding ofBits toBits ofInt round add sub mul div lt le toUnsigned turns tabulate truncOf roundOf neighbourOf firstNotFinite allFinite rootOf nearestRoot wholeRoot digits reportOf start step leastWaiting pushAll floodAfter receivers receiverOf steepestOf directionTo areasAlong times firstFailing goodReceiver goodEntry incisedBy inciseAlong shedStep shedOf gainStep gainsOf slideCell slideRow rowsOf workSize scaledSide rowSum blockSum averageOf downsampled bilinearOf addedOf
+on-the-wall = (refl, (refl, (refl, (refl, (refl, (refl, (refl, (refl, (refl, (refl, (refl, (refl, (refl, tt)))))))))))))

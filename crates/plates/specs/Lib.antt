@@ -1,0 +1,2 @@
+-- Document 01, 'Plates on the wall'.
+pub mod Plates
