@@ -74,7 +74,7 @@ module _ {s : List ℕ} {w h : ℕ} (whole : Whole s w h) where
   whole-framed : Framed s (rowsAt s) w h
   whole-framed = record { begins = omega (arith, settings-few s (settingsLength (markAt s 6)) refl); sides = whole .sides; whole = filled-up }
 
-header-size : (s : List ℕ) → headerAt s .size ≡ sidesAt s
+pub header-size : (s : List ℕ) → headerAt s .size ≡ sidesAt s
 unfolding headerAt
 header-size s = go (marked s 6 fluvialMark)
   where

@@ -1,0 +1,2 @@
+-- A stream run, and its output.
+pub mod StreamRun

@@ -1,0 +1,167 @@
+// Runs a stream of document 01: bytes to the eroded map with its answer, and bytes to the output bytes of `relief`.
+use answers::Refusal;
+use erosion::RunAnswer;
+use erosion::refused;
+use fluvial_run::gen_fluvial_erosion;
+use grid::Sides;
+use output::Written;
+use output::write_output;
+use runs::FluvialSettings;
+use runs::ThermalSettings;
+use stream::Header;
+use stream::Read;
+use stream::Settings;
+use stream::load;
+use stream::read_stream;
+use thermal_run::gen_thermal_erosion;
+ghost use mathlib.Core.Path.{_≡_};
+ghost use mathlib.Core.Bool.{true};
+ghost use Prim.Native.Nat.{_*_};
+ghost use lib.ListN.{length};
+ghost use Rattle.runs.specs.Run.{ours, runBy, thermalRun};
+ghost use Rattle.runs.specs.Refusals.{badFluvial, badThermal};
+ghost use Rattle.plans.specs.Accepted.{Accepted};
+ghost use Rattle.answers.specs.Outcome.{gives, refusalOf};
+ghost use Rattle.erosion.specs.Ending.{endedWith, ranTo};
+ghost use Rattle.stream.specs.Stream.{Parsed, heightsAt, parsedOf, badSettings, readStream};
+ghost use Rattle.stream_run.specs.StreamRun.{askedRun, AcceptedStream, refusedEnd, endOf, lentTo, shown, Relief};
+
+// What running a stream answers: the sides of its grid, 0 × 0 where it is refused, and the answer of its run.
+pub struct StreamAnswer {
+    pub size: Sides,
+    pub run: RunAnswer,
+}
+
+// Scratch for the 4,096 cells that the program takes.
+fn heights() -> [f32; 4096]
+    ensures { λ r. ⌜ 4096 ≡ length r ⌝ }
+{
+    [0.0; 4096]
+}
+
+fn cells() -> [u32; 4096]
+    ensures { λ r. ⌜ 4096 ≡ length r ⌝ }
+{
+    [0; 4096]
+}
+
+fn statuses() -> [u8; 4096]
+    ensures { λ r. ⌜ 4096 ≡ length r ⌝ }
+{
+    [0; 4096]
+}
+
+// A fluvial run that is not refused, of at most 4,096 cells.
+fn run_fluvial(size: Sides, map: &mut [f32], conf: FluvialSettings, stop: u32) -> RunAnswer
+    requires { ⌜ Accepted (size .w) (size .h) (badFluvial conf) (now map) 4096 ⌝ }
+    ensures { λ r. ⌜ endedWith r (now (map .exit)) ≡ ranTo (runBy (size .w) (size .h) conf stop ours (now (map .entry))) ⌝ }
+{
+    let mut small = heights();
+    let mut eroded = heights();
+    let mut copy = heights();
+    let mut area = heights();
+    let mut order = cells();
+    let mut recv = cells();
+    let mut queue = cells();
+    let mut status = statuses();
+    gen_fluvial_erosion(
+        size,
+        map,
+        conf,
+        stop,
+        &mut small,
+        &mut eroded,
+        &mut copy,
+        &mut area,
+        &mut order,
+        &mut recv,
+        &mut queue,
+        &mut status,
+    )
+}
+
+// A thermal run that is not refused, of at most 4,096 cells.
+fn run_thermal(size: Sides, map: &mut [f32], conf: ThermalSettings, stop: u32) -> RunAnswer
+    requires { ⌜ Accepted (size .w) (size .h) (badThermal conf) (now map) 4096 ⌝ }
+    ensures { λ r. ⌜ endedWith r (now (map .exit)) ≡ ranTo (thermalRun (size .w) (size .h) conf stop (now (map .entry))) ⌝ }
+{
+    let mut small = heights();
+    let mut eroded = heights();
+    let mut copy = heights();
+    gen_thermal_erosion(size, map, conf, stop, &mut small, &mut eroded, &mut copy)
+}
+
+// The run that a stream asks for, on a map that is not refused.
+fn run_asked(head: Header, map: &mut [f32]) -> RunAnswer
+    requires { ⌜ Accepted (head .size .w) (head .size .h) (badSettings (head .settings)) (now map) 4096 ⌝ }
+    ensures { λ r. ⌜ endedWith r (now (map .exit)) ≡ ranTo (askedRun head (now (map .entry))) ⌝ }
+{
+    let size = head.size;
+    let stop = head.stop;
+    let settings = head.settings;
+    match settings {
+        Settings::Fluvial(s) => run_fluvial(size, map, s, stop),
+        Settings::Thermal(s) => run_thermal(size, map, s, stop),
+    }
+}
+
+// Loads the map of an accepted stream, and runs it.
+fn run_loaded(bytes: &[u8], head: Header, map: &mut [f32]) -> RunAnswer
+    requires { ⌜ AcceptedStream (now bytes) head ⌝ }
+    requires { ⌜ length (now map) ≡ head .size .w * head .size .h ⌝ }
+    ensures { λ r. ⌜ endedWith r (now (map .exit)) ≡ ranTo (askedRun head (heightsAt (now (bytes .entry)) (head .rows) (head .size .w) (head .size .h))) ⌝ }
+{
+    let size = head.size;
+    let rows = head.rows;
+    load(bytes, rows, size, map);
+    run_asked(head, map)
+}
+
+// A stream that is refused.
+fn refused_stream(why: Refusal, map: &[f32]) -> StreamAnswer
+    ensures { λ r. ⌜ shown r (now (map .entry)) ≡ refusedEnd (refusalOf why) (now (map .entry)) ⌝ }
+{
+    StreamAnswer {
+        size: Sides { w: 0, h: 0 },
+        run: refused(why),
+    }
+}
+
+// Runs an accepted stream on the front of the map, if the map has room for its grid.
+fn run_header(bytes: &[u8], head: Header, map: &mut [f32]) -> StreamAnswer
+    requires { ⌜ AcceptedStream (now bytes) head ⌝ }
+    ensures { λ r. ⌜ shown r (now (map .exit)) ≡ endOf (lentTo (length (now (map .entry))) (gives (parsedOf (now (bytes .entry)) head))) (now (map .entry)) ⌝ }
+{
+    let size = head.size;
+    let n = size.w * size.h;
+    if map.len() < n {
+        return refused_stream(Refusal::Length, map);
+    }
+    let run = run_loaded(bytes, head, &mut map[..n]);
+    StreamAnswer {
+        size: size,
+        run: run,
+    }
+}
+
+// Runs a stream: its heights go into the front of the map and are eroded there. On 1 to 9 nothing is written.
+pub fn run_stream(bytes: &[u8], map: &mut [f32]) -> StreamAnswer
+    ensures { λ r. ⌜ shown r (now (map .exit)) ≡ endOf (lentTo (length (now (map .entry))) (readStream true (now (bytes .entry)))) (now (map .entry)) ⌝ }
+{
+    let read = read_stream(true, bytes);
+    match read {
+        Read::Accepted(head) => run_header(bytes, head, map),
+        Read::Refused(why) => refused_stream(why, map),
+    }
+}
+
+// Input bytes to output bytes: what the program `relief` does.
+pub fn relief(bytes: &[u8], out: &mut [u8]) -> Written
+    ensures { λ a. ⌜ Relief (now (bytes .entry)) (now (out .entry)) a (now (out .exit)) ⌝ }
+{
+    let mut map = heights();
+    let end = run_stream(bytes, &mut map);
+    let size = end.size;
+    let run = end.run;
+    write_output(size, &map[..size.w * size.h], run, out)
+}
