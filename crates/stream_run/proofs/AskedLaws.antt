@@ -16,7 +16,7 @@ use Rattle.runs.specs.declared.ThermalSettings.{ThermalSettings}
 use Rattle.plans.specs.Accepted.{refusalOn, Accepted}
 use Rattle.erosion.specs.Ending.{Ending, ranTo, endingOf}
 use Rattle.fluvial_run.specs.FluvialRun.{shortestOf}
-use Rattle.fluvial_run.specs.declared.Scratch.{Scratch}
+use Rattle.fluvial_grid.specs.declared.Scratch.{Scratch}
 
 abbrev room : Scratch
 room = record { small = 4096; eroded = 4096; copy = 4096; area = 4096; order = 4096; recv = 4096; queue = 4096; status = 4096 }
