@@ -12,8 +12,8 @@ use crate::terrain::{
 const FLUVIAL: u32 = 1;
 const THERMAL: u32 = 2;
 
-/// how many scratch slices a run is lent
-const FLUVIAL_ROOM: usize = 8;
+/// how many scratch slices of floats a run is lent
+const FLUVIAL_ROOM: usize = 4;
 const THERMAL_ROOM: usize = 3;
 
 struct Task {
@@ -22,7 +22,7 @@ struct Task {
     map: Vec<f32>,
     s: Settings,
     stop: u32,
-    /// the lengths of the scratch slices
+    /// the lengths of the scratch slices of floats
     room: Vec<usize>,
 }
 
