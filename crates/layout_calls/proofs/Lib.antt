@@ -1,0 +1,3 @@
+-- From the calls' answers to their words, and what a host may read from them.
+pub mod WordLaws
+pub mod HostLaws
