@@ -4,7 +4,7 @@ use mathlib.Core.Path.{_≡_, refl, sym, ap, ap₂, subst, _∙_}
 use mathlib.Core.Bool.{Bool, true, false, not, _||_, cond}
 use mathlib.Core.List.{List, _++_}
 use native.Mathlib.Omega.{arith}
-use borrow.Author.Tests.{eqb-true, eq-eqb}
+use borrow.Author.Tests.{ltb-false, eqb-true, eq-eqb}
 use lib.Dec.{eqb, ltb}
 use lib.ListN.{length, take, drop, length-append, length-drop}
 use lib.Seq.{take-at}
@@ -24,6 +24,11 @@ use Rattle.stream_run.specs.StreamRun.{askedRun, StreamEnd, refusedEnd, 
 use Rattle.stream_run.specs.declared.StreamAnswer.{StreamAnswer}
 use Rattle.stream_run.proofs.ReadLaws.{read-accepted, refused-number, refused-number-at}
 use Rattle.stream_run.proofs.EndLaws.{lent-enough}
+
+abbrev bytesIn : Outcome ℕ → ℕ
+bytesIn (gives n) = n
+bytesIn (refused n) = 0
+bytesIn (refusedAt n p) = 0
 
 number-in : (n : ℕ) → numberIn (outcomeOf n) ≡ n
 number-in n = go (eqb n 0) refl
@@ -160,3 +165,13 @@ module _ (s : List ℕ) (old : List Float) (full : length old ≡ 4096) (r : Str
         answers = m .answers ∙ written-as .answer (length out);
         leaves = m .leaves ∙ ap₂ (λ (o : Outcome ℕ) (b : List ℕ). leftOf o out b) (written-as .answer (length out)) (written-as .bytes);
       }
+
+-- what was written lies inside the slice
+pub relief-inside : (s old : List ℕ) (n : ℕ) {answer : Written} {new : List ℕ} → Relief s old answer new → answer ≡ Written.Bytes n → n ≤ length old
+relief-inside s old n {answer} m e = go (ltb (length old) (length (reliefOf s))) refl (ap writtenBy (sym e) ∙ m .answers)
+  where
+    go : (b : Bool) → ltb (length old) (length (reliefOf s)) ≡ b → gives n ≡ cond b (refused 3) (gives (length (reliefOf s))) → n ≤ length old
+    go true f g = let z : _≡_ {A = ℕ} 0 1 = cc in let x : ⊥ = omega arith in absurd x
+    go false f g =
+        let same : n ≡ length (reliefOf s) = ap bytesIn g in
+        omega (arith, same, ltb-false (length old) (length (reliefOf s)) f)

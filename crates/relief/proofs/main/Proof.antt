@@ -1,0 +1,76 @@
+use Rattle.stream_run.proofs.ReliefLaws.{relief-inside}
+use lib.Seq.{length-take-le}
+use mathlib.Core.Path.{sym}
+use native.Mathlib.Omega.{arith}
+use borrow.Author.Needs.{needs}
+use Rattle.relief.proofs.main.Statement.{statement}
+use Rattle.relief.proofs.main.Tie as tie
+
+input-room-requires : tie.Need-input-room-requires
+input-room-requires c κs = search needs
+
+slice-aggregate-read-full : tie.Need-slice-aggregate-read-full
+slice-aggregate-read-full c = search needs
+
+read-full-requires : tie.Need-read-full-requires
+read-full-requires c κs = search needs
+
+drain-requires : tie.Need-drain-requires
+drain-requires c κs = search needs
+
+output-room-requires : tie.Need-output-room-requires
+output-room-requires c κs = search needs
+
+array-share-prefix-input : tie.Need-array-share-prefix-input
+array-share-prefix-input c = search needs
+
+slice-aggregate-relief : tie.Need-slice-aggregate-relief
+slice-aggregate-relief c = search needs
+
+slice-aggregate-relief-2 : tie.Need-slice-aggregate-relief-2
+slice-aggregate-relief-2 c = search needs
+
+relief-requires : tie.Need-relief-requires
+relief-requires c κs = search needs
+
+enum-known-written : tie.Need-enum-known-written
+enum-known-written c = search needs
+
+array-share-prefix-out : tie.Need-array-share-prefix-out
+array-share-prefix-out c = omega (arith, relief-inside _ (c .before .before .before .before .before .before .before .output-room .result) (c .before .written .given .0 .0) (c .before .before .before .before .relief .ensures) (c .before .written .given .1), c .before .before .before .before .relief .kept .1 .0)
+
+slice-aggregate-write-all : tie.Need-slice-aggregate-write-all
+slice-aggregate-write-all c = sym (length-take-le _ (c .before .before .before .before .before .relief .last .1 .0) (omega (arith, relief-inside _ (c .before .before .before .before .before .before .before .before .output-room .result) (c .before .before .written .given .0 .0) (c .before .before .before .before .before .relief .ensures) (c .before .before .written .given .1), c .before .before .before .before .before .relief .kept .1 .0)))
+
+write-all-requires : tie.Need-write-all-requires
+write-all-requires c κs = search needs
+
+enum-told : tie.Need-enum-told
+enum-told c = search needs
+
+returns : tie.Need-returns
+returns c = search needs
+
+returns-2 : tie.Need-returns-2
+returns-2 c = search needs
+
+pub main-spec : {M : Type 1} → statement M
+main-spec =
+    tie.close
+    (tie.spec
+    input-room-requires
+    slice-aggregate-read-full
+    read-full-requires
+    drain-requires
+    output-room-requires
+    array-share-prefix-input
+    slice-aggregate-relief
+    slice-aggregate-relief-2
+    relief-requires
+    enum-known-written
+    array-share-prefix-out
+    slice-aggregate-write-all
+    write-all-requires
+    enum-told
+    returns
+    returns-2)
