@@ -36,13 +36,29 @@ impl List {
         }
     }
 
-    /// The two words that every answer begins with: the refusal's number (0 if none) and what it carries.
+    /// Bytes behind their length.
+    pub fn ask_bytes(&mut self, bytes: &[u8]) {
+        self.ask(&[bytes.len() as u32]);
+        self.asked.extend_from_slice(bytes);
+    }
+
+    pub fn give_bytes(&mut self, bytes: &[u8]) {
+        self.give(&[bytes.len() as u32]);
+        self.given.extend_from_slice(bytes);
+    }
+
+    /// The two words that an answer begins with: the refusal's number (0 if none) and what it carries.
     pub fn answer<T>(&mut self, call: &'static str, a: &Answer<T>) {
         let (number, place) = match a {
             Ok(_) => (0, 0),
             Err(r) => (r.number, r.place),
         };
         self.give(&[number, place]);
+        self.count(call, number);
+    }
+
+    /// Counts an answer of a call for the summary.
+    pub fn count(&mut self, call: &'static str, number: u32) {
         *self.counts.entry((call, number)).or_insert(0) += 1;
     }
 

@@ -15,6 +15,7 @@ mod runs;
 mod slides;
 mod source;
 mod standins;
+mod streams;
 mod terrain;
 
 use std::path::Path;
@@ -26,7 +27,8 @@ const SEED: u64 = 7_616_167;
 fn main() -> ExitCode {
     let args: Vec<String> = std::env::args().skip(1).collect();
     let words: Vec<&str> = args.iter().map(String::as_str).collect();
-    let lists = || [numbers::list(SEED), maps::list(SEED), routes::list(SEED), passes::list(SEED), runs::list(SEED)];
+    let makers = [numbers::list, maps::list, routes::list, passes::list, runs::list, streams::list];
+    let lists = || makers.map(|list| list(SEED));
     match words.as_slice() {
         ["lists", crates] => {
             for l in lists() {

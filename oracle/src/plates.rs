@@ -1,8 +1,10 @@
 //! Document 01's worked examples, tried on the source with its stand-ins.
 use crate::random::Random;
 use crate::rules;
+use crate::rules::streams::{relief, Asked, Kind};
 use crate::source::erosion::*;
 use crate::source::Record;
+use crate::streams::{stream, EXAMPLE};
 
 #[test]
 fn routing() {
@@ -51,8 +53,8 @@ fn resampling() {
 
 /// The stream's example: one cell, with S none, 1 and 2.
 #[test]
-fn stream() {
-    let s = Settings { water_level: 0.0, strength: 1.0, talus: 0.0, uplift: 0.0, iterations: 1, work_res: 512 };
+fn one_cell() {
+    let s = EXAMPLE;
     for (stop, bits, asked, stopped) in
         [(0, 0x3f7c_0fc1, 2, false), (1, 0x3f80_0000, 1, true), (2, 0x3f7c_0fc1, 2, true)]
     {
@@ -60,6 +62,31 @@ fn stream() {
         let r = gen_fluvial_erosion((1, 1), &mut map, &s, stop);
         assert_eq!((map[0].to_bits(), r.asked, r.stopped), (bits, asked, stopped));
     }
+}
+
+/// The bytes that the stream's example prints, with S none, 1 and 2.
+#[test]
+fn printed() {
+    let end = |number: u8, counts: [u8; 3]| {
+        let mut end = vec![0x45, 0x4e, number, 0];
+        for n in counts {
+            end.extend([n, 0, 0, 0]);
+        }
+        end
+    };
+    let head = [0x47, 0x52, 1, 0, 1, 0, 0x52, 0x57];
+    let (incised, as_it_came) = ([0xc1, 0x0f, 0x7c, 0x3f], [0, 0, 0x80, 0x3f]);
+    for (stop, height, end) in
+        [(0, incised, end(0, [1, 1, 2])), (1, as_it_came, end(21, [0, 0, 1])), (2, incised, end(21, [1, 0, 2]))]
+    {
+        let a = Asked { kind: Kind::Fluvial, size: (1, 1), s: EXAMPLE, stop, map: vec![1.0] };
+        assert_eq!(relief(&stream(&a)).bytes, [&head[..], &height, &end].concat());
+    }
+    assert_eq!(relief(&[]).bytes, end(8, [0; 3]));
+    assert_eq!(relief(&[0x47, 0x52, 0, 0, 1, 0]).bytes, end(1, [0; 3]));
+    assert_eq!(relief(&[0x47, 0x52, 1, 16, 1, 16]).bytes, end(1, [0; 3]));
+    assert_eq!(relief(&[0x47, 0x52, 65, 0, 64, 0]).bytes, end(9, [0; 3]));
+    assert_eq!(relief(&[0x47, 0x52, 64, 0, 64, 0]).bytes, end(8, [0; 3]));
 }
 
 /// Whether the whole numbers say that r is x's root, nearest, ties to even: with x = X × 4^k and r = R × 2^k the square of

@@ -4,6 +4,7 @@ use crate::source::{self, resample, Marks, Record};
 
 pub mod passes;
 pub mod runs;
+pub mod streams;
 
 /// A refusal's number, with the cell or position that it carries (0 where it carries none).
 #[derive(Clone, Copy, Debug, PartialEq)]

@@ -9,19 +9,19 @@ use crate::terrain::{
     RELIEFS, TINY,
 };
 
-const FLUVIAL: u32 = 1;
-const THERMAL: u32 = 2;
+pub const FLUVIAL: u32 = 1;
+pub const THERMAL: u32 = 2;
 
 /// how many scratch slices of floats a run is lent
 const FLUVIAL_ROOM: usize = 4;
 const THERMAL_ROOM: usize = 3;
 
-struct Task {
-    call: u32,
-    size: Sides,
-    map: Vec<f32>,
-    s: Settings,
-    stop: u32,
+pub struct Task {
+    pub call: u32,
+    pub size: Sides,
+    pub map: Vec<f32>,
+    pub s: Settings,
+    pub stop: u32,
     /// the lengths of the scratch slices of floats
     room: Vec<usize>,
 }
@@ -113,7 +113,7 @@ fn settings(r: &mut Random, size: Sides, map: &[f32], most: usize) -> Settings {
     }
 }
 
-fn task(r: &mut Random, call: u32, size: Sides, kind: usize, most: usize) -> Task {
+pub fn task(r: &mut Random, call: u32, size: Sides, kind: usize, most: usize) -> Task {
     let map = relief(r, size, kind);
     let s = settings(r, size, &map, most);
     let mut t = Task::new(call, size, map, s);
@@ -187,10 +187,10 @@ fn run_offs(l: &mut List, r: &mut Random) {
     }
 }
 
-type Maker = fn(&mut Random, u32) -> Task;
+pub type Maker = fn(&mut Random, u32) -> Task;
 
 /// The end of a task that is in no list.
-fn ask(t: &Task) -> Run {
+pub fn ask(t: &Task) -> Run {
     let mut map = t.map.clone();
     if t.call == FLUVIAL {
         gen_fluvial_erosion(t.size, &mut map, &t.s, 0, &t.room)
@@ -200,7 +200,7 @@ fn ask(t: &Task) -> Run {
 }
 
 /// A small grid with heights near the largest float.
-fn steep(r: &mut Random, call: u32) -> Task {
+pub fn steep(r: &mut Random, call: u32) -> Task {
     let size = (r.within(1, 6), r.within(1, 6));
     let map = (0..size.0 * size.1).map(|_| (r.unit() * 2.0 - 1.0) * r.pick(&[f32::MAX, 2e38, 1e38])).collect();
     let mut t = Task::new(call, size, map, settings(r, size, &[0.0], 3));
@@ -210,7 +210,7 @@ fn steep(r: &mut Random, call: u32) -> Task {
 
 /// Cells on a working grid of one cell, cut down to the lowest float: more than the difference, or the sum, can hold. (A talus pass whose
 /// excess is above 2^65 or so runs off itself, so thermal runs come to no such place.)
-fn deep(r: &mut Random, call: u32) -> Task {
+pub fn deep(r: &mut Random, call: u32) -> Task {
     let size = r.pick(&[(2, 1), (1, 2), (3, 1)]);
     let map = (0..size.0 * size.1).map(|_| r.pick(&[1.7e38, 1.1e38, -3e38, 3.4e38])).collect();
     let mut t = Task::new(call, size, map, settings(r, size, &[0.0], 200));
