@@ -1,0 +1,2 @@
+-- What the exported whole runs promise.
+pub mod Exported

@@ -1,0 +1,106 @@
+// Whole runs by the C convention, for the oracle's bench: a slice passes as pointer and length. No part of the public calls.
+use answers::Answer;
+use erosion::RunAnswer;
+use grid::Sides;
+use runs::FluvialSettings;
+use runs::ThermalSettings;
+ghost use mathlib.Core.Path.{_≡_};
+ghost use Rattle.answers.specs.Outcome.{numberIn, answerOf};
+ghost use Rattle.thermal_run.specs.ThermalRun.{ThermalRun};
+ghost use Rattle.fluvial_run.specs.FluvialRun.{FluvialRun};
+ghost use Rattle.harness_runs.specs.Exported.{Exported};
+
+// Document 01's number of an answer, 0 if it is no refusal.
+fn number(a: Answer) -> u32
+    ensures { λ r. ⌜ r ≡ numberIn (answerOf a) ⌝ }
+{
+    match a {
+        Answer::Done => 0,
+        Answer::Refused(r) => answers::number(r),
+    }
+}
+
+fn ended(r: RunAnswer) -> u32
+    ensures { λ n. ⌜ n ≡ numberIn (answerOf (r .answer)) ⌝ }
+{
+    let answer = r.answer;
+    number(answer)
+}
+
+// A whole thermal run.
+#[no_mangle]
+pub extern "C" fn harness_thermal_run(
+    w: usize,
+    h: usize,
+    hmap: &mut [f32],
+    water_level: f32,
+    talus: f32,
+    strength: f32,
+    iterations: u32,
+    work_res: u32,
+    stop: u32,
+    small: &mut [f32],
+    eroded: &mut [f32],
+    copy: &mut [f32],
+) -> u32
+    ensures { λ r. ⌜ Exported (λ a. ThermalRun w h (record { «water_level» = «water_level»; talus = talus; strength = strength; iterations = iterations; «work_res» = «work_res» }) stop (now (hmap .entry)) (now (small .entry)) (now (eroded .entry)) (now (copy .entry)) a (now (hmap .exit)) (now (small .exit)) (now (eroded .exit)) (now (copy .exit))) r ⌝ }
+{
+    let size = Sides { w, h };
+    let conf = ThermalSettings {
+        water_level,
+        talus,
+        strength,
+        iterations,
+        work_res,
+    };
+    ended(thermal_run::gen_thermal_erosion(size, hmap, conf, stop, small, eroded, copy))
+}
+
+// A whole fluvial run.
+#[no_mangle]
+pub extern "C" fn harness_fluvial_run(
+    w: usize,
+    h: usize,
+    hmap: &mut [f32],
+    water_level: f32,
+    strength: f32,
+    talus: f32,
+    uplift: f32,
+    iterations: u32,
+    work_res: u32,
+    stop: u32,
+    small: &mut [f32],
+    eroded: &mut [f32],
+    copy: &mut [f32],
+    area: &mut [f32],
+    order: &mut [u32],
+    recv: &mut [u32],
+    queue: &mut [u32],
+    status: &mut [u8],
+) -> u32
+    ensures { λ r. ⌜ Exported (λ a. FluvialRun w h (record { «water_level» = «water_level»; strength = strength; talus = talus; uplift = uplift; iterations = iterations; «work_res» = «work_res» }) stop (now (hmap .entry)) (now (small .entry)) (now (eroded .entry)) (now (copy .entry)) (now (area .entry)) (now (order .entry)) (now (recv .entry)) (now (queue .entry)) (now (status .entry)) a (now (hmap .exit)) (now (small .exit)) (now (eroded .exit)) (now (copy .exit)) (now (area .exit)) (now (order .exit)) (now (recv .exit)) (now (queue .exit)) (now (status .exit))) r ⌝ }
+{
+    let size = Sides { w, h };
+    let conf = FluvialSettings {
+        water_level,
+        strength,
+        talus,
+        uplift,
+        iterations,
+        work_res,
+    };
+    ended(fluvial_run::gen_fluvial_erosion(
+        size,
+        hmap,
+        conf,
+        stop,
+        small,
+        eroded,
+        copy,
+        area,
+        order,
+        recv,
+        queue,
+        status,
+    ))
+}
