@@ -104,15 +104,17 @@ fn main() {
     }
 }
 
-/// The archive that `rt staticlib harness` writes, for the bench alone.
+/// The archives that `rt staticlib` writes of the crates that export calls, for the bench alone.
 fn link_harness() {
-    let archive = Path::new(&env::var("CARGO_MANIFEST_DIR").expect("CARGO_MANIFEST_DIR"))
-        .join("../target/staticlib/libharness.a");
-    println!("cargo:rerun-if-changed={}", archive.display());
-    if !archive.is_file() {
-        panic!("{} is not there: run `rt staticlib harness`", archive.display());
+    for name in ["harness", "harness_runs"] {
+        let archive = Path::new(&env::var("CARGO_MANIFEST_DIR").expect("CARGO_MANIFEST_DIR"))
+            .join(format!("../target/staticlib/lib{name}.a"));
+        println!("cargo:rerun-if-changed={}", archive.display());
+        if !archive.is_file() {
+            panic!("{} is not there: run `rt staticlib {name}`", archive.display());
+        }
+        println!("cargo:rustc-link-arg-bin=bench={}", archive.display());
     }
-    println!("cargo:rustc-link-arg-bin=bench={}", archive.display());
 }
 
 /// The folder of the published source: WGEN_SRC, else shared/docs/src beside the repository.

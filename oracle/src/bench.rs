@@ -4,12 +4,14 @@
 mod calls;
 #[allow(dead_code)]
 mod random;
+#[path = "bench/runs.rs"]
+mod runs;
 mod source;
 #[allow(dead_code)]
 mod standins;
 
 use random::Random;
-use source::erosion::{Incision, Talus};
+use source::erosion::{gen_fluvial_erosion, gen_thermal_erosion, Incision, Settings, Talus};
 use source::flow::{accumulate, spill, FlowNet};
 use source::fluvial_erosion::{self as fluvial, incision_params};
 use source::Record;
@@ -164,16 +166,49 @@ fn slide(side: usize) {
     }
 }
 
+/// The source's default settings; the working side is 512, so a run on a larger grid is reduced.
+const FLUVIAL: Settings =
+    Settings { water_level: WATER, strength: 0.6, talus: 0.2, uplift: 0.0, iterations: 50, work_res: 512 };
+const THERMAL: Settings =
+    Settings { water_level: WATER, strength: 0.5, talus: 0.5, uplift: 0.0, iterations: 50, work_res: 512 };
+
+/// Whole runs with the default settings, each on a copy of the heights.
+fn whole_runs(side: usize) {
+    let size = (side, side);
+    for (kind, h) in terrains(side) {
+        let (mut ours, mut theirs, mut scratch) = (h.clone(), h.clone(), runs::Scratch::new(h.len()));
+        let mut lib = || {
+            ours.copy_from_slice(&h);
+            assert!(scratch.thermal(size, &mut ours, &THERMAL) == 0);
+        };
+        row("gen_thermal_erosion", side, kind, &mut lib, &mut || {
+            theirs.copy_from_slice(&h);
+            gen_thermal_erosion(size, &mut theirs, &THERMAL, 0);
+        });
+        same_floats("heights", &ours, &theirs);
+        let mut lib = || {
+            ours.copy_from_slice(&h);
+            assert!(scratch.fluvial(size, &mut ours, &FLUVIAL) == 0);
+        };
+        row("gen_fluvial_erosion", side, kind, &mut lib, &mut || {
+            theirs.copy_from_slice(&h);
+            gen_fluvial_erosion(size, &mut theirs, &FLUVIAL, 0);
+        });
+        same_floats("heights", &ours, &theirs);
+    }
+}
+
 fn main() {
     let args: Vec<String> = std::env::args().skip(1).collect();
     let asked: Vec<usize> = args.iter().filter_map(|a| a.parse().ok()).collect();
     let named: Vec<&String> = args.iter().filter(|a| a.parse::<usize>().is_err()).collect();
     println!("| call | grid | terrain | source, ms | library, ms | source / library |");
     println!("|---|---|---|---|---|---|");
-    let tables: [(&str, fn(usize), &[usize]); 3] = [
+    let tables: [(&str, fn(usize), &[usize]); 4] = [
         ("route", route, &[256, 512, 1024, 4096]),
         ("incise", incise, &[256, 512, 1024]),
         ("slide", slide, &[256, 512, 1024]),
+        ("runs", whole_runs, &[512, 1024]),
     ];
     for (name, measure, sides) in tables {
         if named.is_empty() || named.iter().any(|a| *a == name) {

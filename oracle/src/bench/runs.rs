@@ -1,0 +1,143 @@
+//! Whole runs as crates/harness_runs exports them, with the scratch slices that they are lent.
+use crate::source::erosion::Settings;
+use crate::Sides;
+
+mod exported {
+    extern "C" {
+        pub fn harness_thermal_run(
+            w: usize,
+            h: usize,
+            hmap: *mut f32,
+            hmap_len: usize,
+            water_level: f32,
+            talus: f32,
+            strength: f32,
+            iterations: u32,
+            work_res: u32,
+            stop: u32,
+            small: *mut f32,
+            small_len: usize,
+            eroded: *mut f32,
+            eroded_len: usize,
+            copy: *mut f32,
+            copy_len: usize,
+        ) -> u32;
+
+        pub fn harness_fluvial_run(
+            w: usize,
+            h: usize,
+            hmap: *mut f32,
+            hmap_len: usize,
+            water_level: f32,
+            strength: f32,
+            talus: f32,
+            uplift: f32,
+            iterations: u32,
+            work_res: u32,
+            stop: u32,
+            small: *mut f32,
+            small_len: usize,
+            eroded: *mut f32,
+            eroded_len: usize,
+            copy: *mut f32,
+            copy_len: usize,
+            area: *mut f32,
+            area_len: usize,
+            order: *mut u32,
+            order_len: usize,
+            recv: *mut u32,
+            recv_len: usize,
+            queue: *mut u32,
+            queue_len: usize,
+            status: *mut u8,
+            status_len: usize,
+        ) -> u32;
+    }
+}
+
+/// The slices that a run is lent; a thermal run takes the first three.
+pub struct Scratch {
+    small: Vec<f32>,
+    eroded: Vec<f32>,
+    copy: Vec<f32>,
+    area: Vec<f32>,
+    order: Vec<u32>,
+    recv: Vec<u32>,
+    queue: Vec<u32>,
+    status: Vec<u8>,
+}
+
+impl Scratch {
+    pub fn new(n: usize) -> Scratch {
+        Scratch {
+            small: vec![0.0; n],
+            eroded: vec![0.0; n],
+            copy: vec![0.0; n],
+            area: vec![0.0; n],
+            order: vec![0; n],
+            recv: vec![0; n],
+            queue: vec![0; n],
+            status: vec![0; n],
+        }
+    }
+
+    /// The number of a thermal run that is never stopped.
+    pub fn thermal(&mut self, size: Sides, map: &mut [f32], s: &Settings) -> u32 {
+        // each slice is the one that its pointer and length name, and is lent to this call alone; so below
+        unsafe {
+            exported::harness_thermal_run(
+                size.0,
+                size.1,
+                map.as_mut_ptr(),
+                map.len(),
+                s.water_level,
+                s.talus,
+                s.strength,
+                s.iterations,
+                s.work_res,
+                0,
+                self.small.as_mut_ptr(),
+                self.small.len(),
+                self.eroded.as_mut_ptr(),
+                self.eroded.len(),
+                self.copy.as_mut_ptr(),
+                self.copy.len(),
+            )
+        }
+    }
+
+    /// The number of a fluvial run that is never stopped.
+    pub fn fluvial(&mut self, size: Sides, map: &mut [f32], s: &Settings) -> u32 {
+        unsafe {
+            exported::harness_fluvial_run(
+                size.0,
+                size.1,
+                map.as_mut_ptr(),
+                map.len(),
+                s.water_level,
+                s.strength,
+                s.talus,
+                s.uplift,
+                s.iterations,
+                s.work_res,
+                0,
+                self.small.as_mut_ptr(),
+                self.small.len(),
+                self.eroded.as_mut_ptr(),
+                self.eroded.len(),
+                self.copy.as_mut_ptr(),
+                self.copy.len(),
+                self.area.as_mut_ptr(),
+                self.area.len(),
+                self.order.as_mut_ptr(),
+                self.order.len(),
+                self.recv.as_mut_ptr(),
+                self.recv.len(),
+                self.queue.as_mut_ptr(),
+                self.queue.len(),
+                self.status.as_mut_ptr(),
+                self.status.len(),
+            )
+        }
+    }
+}
