@@ -1,4 +1,5 @@
 -- Laws of talus on cells and rows.
+pub mod CountedLaws
 pub mod StepLaws
 pub mod CellLaws
 pub mod RowLaws

@@ -4,8 +4,10 @@ use floats::max;
 use grid::Sides;
 use grid::neighbour;
 ghost use mathlib.Core.Path.{_≡_};
+ghost use mathlib.Core.Bool.{cond};
 ghost use Prim.Native.Nat.{_+_, _*_, _<_};
 ghost use lib.ListN.{length};
+ghost use lib.Ieee.{binary32, ofBits, lt};
 ghost use Rattle.talus.specs.Talus.{thresholdsOf, shedTo, shedStep, shedOf, gainTo, gainStep, gainsOf, slideCell, slideCells};
 ghost use Rattle.talus.specs.Places.{CellAt, InRow};
 
@@ -25,6 +27,13 @@ pub fn thresholds(t: f32) -> [f32; 9]
     [t, d, t, d, t, t, d, t, d]
 }
 
+// The first value where the excess e is counted, that is above 0, else the second. Both are worked out before, so that no branch has to be foreseen.
+fn where_counted(e: f32, counted: f32, not: f32) -> f32
+    ensures { λ r. ⌜ r ≡ cond (lt (ofBits binary32 0) e) counted not ⌝ }
+{
+    if e > 0.0 { counted } else { not }
+}
+
 // The excess of cell c toward cell m in direction d is counted if it is above 0.
 pub fn shed_at(ts: &[f32; 9], hmap: &[f32], c: usize, m: usize, d: usize, s: Shed) -> Shed
     requires { ⌜ c < length (now hmap) ⌝ }
@@ -33,13 +42,10 @@ pub fn shed_at(ts: &[f32; 9], hmap: &[f32], c: usize, m: usize, d: usize, s: She
     ensures { λ r. ⌜ r ≡ shedTo (now (ts .entry)) (now (hmap .entry)) c m d s ⌝ }
 {
     let e = (hmap[c] - hmap[m]) - ts[d];
-    if e > 0.0 {
-        return Shed {
-            total: s.total + e,
-            greatest: max(s.greatest, e),
-        };
+    Shed {
+        total: where_counted(e, s.total + e, s.total),
+        greatest: where_counted(e, max(s.greatest, e), s.greatest),
     }
-    s
 }
 
 // Cell m's gain, if the excess of cell c toward it is counted.
@@ -60,9 +66,8 @@ pub fn gain_at(
     ensures { λ _. ⌜ now (out .exit) ≡ gainTo (now (ts .entry)) (now (hmap .entry)) c m moved total d (now (out .entry)) ⌝ }
 {
     let e = (hmap[c] - hmap[m]) - ts[d];
-    if e > 0.0 {
-        out[m] = out[m] + moved * e / total;
-    }
+    let old = out[m];
+    out[m] = where_counted(e, old + moved * e / total, old);
 }
 
 // Direction d, on any cell: outside the grid there is no neighbour.

@@ -1,6 +1,6 @@
 -- Inner cells: their neighbours are all in the grid, at the same eight offsets.
 use Prim.Native.Nat.{ℕ, zero, suc, _+_, _-_, _*_, _^_, _≤_, _<_}
-use mathlib.Core.Path.{_≡_, refl, sym, ap, ap₂, _∙_}
+use mathlib.Core.Path.{_≡_, refl, sym, ap, ap₂, _∙_, subst}
 use mathlib.Core.Bool.{Bool, true, false, cond, _||_}
 use mathlib.Core.List.{List}
 use native.Mathlib.Nat.{mul-le-mul}
@@ -126,7 +126,7 @@ module _ (w h y n : ℕ) (e : n ≡ innerOf w h y) where
       go false e true = omega arith
       go false e false = omega (arith, ltb-false w 3 e)
 
-  pub inner-row : {cells : ℕ} → 1 ≤ w → InRow w h cells y 0 w → InnerRow w h cells y n
+  pub inner-row : {cells : ℕ} → 1 ≤ w → InRow w h cells y 0 w → InnerRow w h cells y 1 n
   unfolding innerOf
   inner-row some r =
       record {
@@ -151,3 +151,11 @@ module _ (w h y n : ℕ) (e : n ≡ innerOf w h y) where
 pub offsets-done : (w : ℕ) (old new : List ℕ) (d : ℕ) → new ≡ filled (offsetOf w) d old → length old ≡ 9 → d ≡ 9 → new ≡ offsetsOf w
 unfolding offsetsOf
 offsets-done w old new d h n e = h ∙ ap (λ (k : ℕ). filled (offsetOf w) k old) e ∙ filled-done (offsetOf w) 9 old n
+
+-- some of them
+pub inner-part : {w h cells y n : ℕ} (i b : ℕ) → InnerRow w h cells y 1 n → i + b ≤ n → InnerRow w h cells y (1 + i) b
+inner-part {w} {h} {cells} {y} {n} i b a l =
+    record {
+      inner = λ j k. let e : 1 + (i + j) + y * w ≡ 1 + i + j + y * w = omega arith in subst (Inner w h) e (a .inner (i + j) (omega arith));
+      row = record { columns = omega (arith, a .row .columns); row = a .row .row; wide = a .row .wide; high = a .row .high; size = a .row .size };
+    }

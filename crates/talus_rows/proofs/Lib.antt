@@ -1,3 +1,4 @@
 -- Laws of talus rows.
 pub mod InnerLaws
 pub mod RowLaws
+pub mod BlockLaws

@@ -25,6 +25,17 @@ module _ (w h : ℕ) (ts hs : List Float) (strength water : Float) (y : ℕ) (ou
       let f : x + a + b + y * w ≡ x + (a + b) + y * w = omega arith in
       ap₂ (slideCell w h ts hs strength water) f (cells-join x a b) ∙ ap (λ (n : ℕ). slideCells w h ts hs strength water y x n out) e
 
+  -- all of them
+  pub cells-end : (x i n : ℕ) (s : List Float) → s ≡ slideCells w h ts hs strength water y x i out → i ≤ n → n ≤ i → s ≡ slideCells w h ts hs strength water y x n out
+  cells-end x i n s e a b = let same : i ≡ n = omega arith in e ∙ ap (λ (k : ℕ). slideCells w h ts hs strength water y x k out) same
+
+  -- one block more
+  pub cells-block : (x i b : ℕ) (s r : List Float)
+      → s ≡ slideCells w h ts hs strength water y x i out
+      → r ≡ slideCells w h ts hs strength water y (x + i) b s
+      → r ≡ slideCells w h ts hs strength water y x (i + b) out
+  cells-block x i b s r e f = f ∙ ap (slideCells w h ts hs strength water y (x + i) b) e ∙ cells-join x i b
+
   -- the first cell, the n after it, and the rest
   pub row-parts : (n : ℕ) (first middle last : List Float)
       → 1 + n ≤ w

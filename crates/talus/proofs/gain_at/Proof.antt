@@ -1,48 +1,62 @@
-use Rattle.talus.specs.Talus.{gainTo}
+use Rattle.talus.proofs.CountedLaws.{gain-counted}
 use borrow.Author.Needs.{needs}
 use Rattle.talus.proofs.gain_at.Statement.{statement}
 use Rattle.talus.proofs.gain_at.Tie as tie
+use Rattle.talus.proofs.gain_at.Reads as reads
+use Rattle.talus.proofs.gain_at.Lts as lts
+use Rattle.talus.proofs.where_counted.Reads as where-counted-reads
 
+-- src/lib.rt:68:14
 mul-e : tie.Need-mul-e
 mul-e c = search needs
 
+-- src/lib.rt:68:14
 shared-slice-read-e : tie.Need-shared-slice-read-e
 shared-slice-read-e c = search needs
 
+-- src/lib.rt:68:24
 mul-e-2 : tie.Need-mul-e-2
 mul-e-2 c = search needs
 
+-- src/lib.rt:68:24
 shared-slice-read-e-2 : tie.Need-shared-slice-read-e-2
 shared-slice-read-e-2 c = search needs
 
+-- src/lib.rt:68:35
 mul-e-3 : tie.Need-mul-e-3
 mul-e-3 c = search needs
 
+-- src/lib.rt:68:35
 element-copy-out-e : tie.Need-element-copy-out-e
 element-copy-out-e c = search needs
 
+-- src/lib.rt:69:15
+mul-old : tie.Need-mul-old
+mul-old c = search needs
+
+-- src/lib.rt:69:15
+slice-read-old : tie.Need-slice-read-old
+slice-read-old c = search needs
+
+-- src/lib.rt:70:14
+where-counted-requires : tie.Need-where-counted-requires
+where-counted-requires c κs = search needs
+
+-- src/lib.rt:70:5
 mul-out : tie.Need-mul-out
 mul-out c = search needs
 
-slice-read-out : tie.Need-slice-read-out
-slice-read-out c = search needs
-
-mul-out-2 : tie.Need-mul-out-2
-mul-out-2 c = search needs
-
+-- src/lib.rt:70:5
 slice-write-out : tie.Need-slice-write-out
 slice-write-out c = search needs
 
+-- src/lib.rt:52:1
 same-length : tie.Need-same-length
 same-length c = search needs
 
+-- src/lib.rt:52:1
 returns : tie.Need-returns
-unfolding gainTo
-returns c = rw (c .before .if1 .taken)
-
-returns-2 : tie.Need-returns-2
-unfolding gainTo
-returns-2 c = rw (c .if1 .left)
+returns c = gain-counted _ _ _ _ _ _ _ _ (c .where-counted .ensures)
 
 pub gain-at-spec : {M : Type 1} → statement M
 gain-at-spec =
@@ -54,10 +68,10 @@ gain-at-spec =
     shared-slice-read-e-2
     mul-e-3
     element-copy-out-e
+    mul-old
+    slice-read-old
+    where-counted-requires
     mul-out
-    slice-read-out
-    mul-out-2
     slice-write-out
     same-length
-    returns
-    returns-2)
+    returns)

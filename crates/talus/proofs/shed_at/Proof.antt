@@ -1,36 +1,51 @@
-use Rattle.talus.specs.Talus.{shedTo}
+use Rattle.talus.proofs.CountedLaws.{shed-counted}
 use borrow.Author.Needs.{needs}
 use Rattle.talus.proofs.shed_at.Statement.{statement}
 use Rattle.talus.proofs.shed_at.Tie as tie
+use Rattle.talus.proofs.shed_at.Reads as reads
+use Rattle.talus.proofs.shed_at.Lts as lts
+use Rattle.floats.proofs.max.Reads as max-reads
+use Rattle.talus.proofs.where_counted.Reads as where-counted-reads
 
+-- src/lib.rt:44:14
 mul-e : tie.Need-mul-e
 mul-e c = search needs
 
+-- src/lib.rt:44:14
 shared-slice-read-e : tie.Need-shared-slice-read-e
 shared-slice-read-e c = search needs
 
+-- src/lib.rt:44:24
 mul-e-2 : tie.Need-mul-e-2
 mul-e-2 c = search needs
 
+-- src/lib.rt:44:24
 shared-slice-read-e-2 : tie.Need-shared-slice-read-e-2
 shared-slice-read-e-2 c = search needs
 
+-- src/lib.rt:44:35
 mul-e-3 : tie.Need-mul-e-3
 mul-e-3 c = search needs
 
+-- src/lib.rt:44:35
 element-copy-out-e : tie.Need-element-copy-out-e
 element-copy-out-e c = search needs
 
+-- src/lib.rt:46:16
+where-counted-requires : tie.Need-where-counted-requires
+where-counted-requires c κs = search needs
+
+-- src/lib.rt:47:36
 max-requires : tie.Need-max-requires
 max-requires c κs = search needs
 
-returns : tie.Need-returns
-unfolding shedTo
-returns c = rw (c .before .before .if1 .taken, c .max .ensures)
+-- src/lib.rt:47:19
+where-counted-requires-2 : tie.Need-where-counted-requires-2
+where-counted-requires-2 c κs = search needs
 
-returns-2 : tie.Need-returns-2
-unfolding shedTo
-returns-2 c = rw (c .if1 .left)
+-- src/lib.rt:38:1
+returns : tie.Need-returns
+returns c = shed-counted _ _ _ _ _ _ (c .before .before .where-counted .ensures) (c .before .max .ensures) (c .where-counted2 .ensures)
 
 pub shed-at-spec : {M : Type 1} → statement M
 shed-at-spec =
@@ -42,6 +57,7 @@ shed-at-spec =
     shared-slice-read-e-2
     mul-e-3
     element-copy-out-e
+    where-counted-requires
     max-requires
-    returns
-    returns-2)
+    where-counted-requires-2
+    returns)

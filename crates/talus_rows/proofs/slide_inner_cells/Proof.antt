@@ -1,47 +1,64 @@
 use Prim.Native.Nat.{_-_, _≤_}
 use mathlib.Core.Path.{_≡_, refl, _∙_}
 use native.Mathlib.Omega.{arith}
+use borrow.Author.Needs.{needs}
 use lib.ListN.{length}
 use Rattle.talus.specs.Talus.{slideCells}
-use Rattle.talus.proofs.RowLaws.{row-cell-below, cells-none, cells-more}
+use Rattle.talus.proofs.RowLaws.{cells-none}
+use Rattle.talus_rows.proofs.InnerLaws.{inner-part}
+use Rattle.talus_rows.proofs.RowLaws.{cells-end, cells-block}
 use Rattle.talus_rows.proofs.slide_inner_cells.Statement.{statement}
 use Rattle.talus_rows.proofs.slide_inner_cells.Tie as tie
+use Rattle.talus_rows.proofs.slide_inner_cells.Reads as reads
+use Rattle.talus_rows.proofs.slide_inner_cells.Lts as lts
+use Rattle.talus_rows.proofs.block_of.Reads as block-of-reads
+use Rattle.talus_rows.proofs.slide_block.Reads as slide-block-reads
 
 abbrev Inv-loop : tie.InvT-loop
-Inv-loop size os ts hmap out₀ strength water y n w i₀ out i = (out ≡ slideCells (size .w) (size .h) ts hmap strength water y 1 i out₀) × ((i ≤ n) × (length out ≡ length out₀))
+Inv-loop size os ts hmap out₀ strength water y n i₀ out i = (out ≡ slideCells (size .w) (size .h) ts hmap strength water y 1 i out₀) × ((i ≤ n) × (length out ≡ length out₀))
 
 abbrev μ-loop : tie.MeasureT-loop
-μ-loop size os ts hmap out₀ strength water y n w i₀ out i = n - i
+μ-loop size os ts hmap out₀ strength water y n i₀ out i = n - i
 
+-- src/lib.rt:220:5
 loop-holds : tie.Need-loop-holds Inv-loop μ-loop
 loop-holds c = (cells-none _ _ _ _ _ _ _ _ _, (omega arith, refl))
 
-add-slide-inside : tie.Need-add-slide-inside Inv-loop μ-loop
-add-slide-inside c = omega (arith, row-cell-below (c .before .before .loop .i) (c .before .before .before .before .before .pre .0 .row) (c .before .loop-test .taken))
+-- src/lib.rt:221:29
+sub-block-of : tie.Need-sub-block-of Inv-loop μ-loop
+sub-block-of c = omega (arith, c .loop-test .taken)
 
-mul-slide-inside : tie.Need-mul-slide-inside Inv-loop μ-loop
-mul-slide-inside c = omega (arith, row-cell-below (c .before .before .loop .i) (c .before .before .before .before .before .pre .0 .row) (c .before .loop-test .taken))
+-- src/lib.rt:221:13
+block-of-requires : tie.Need-block-of-requires Inv-loop μ-loop
+block-of-requires c κs = search needs
 
-add-slide-inside-2 : tie.Need-add-slide-inside-2 Inv-loop μ-loop
-add-slide-inside-2 c = omega (arith, row-cell-below (c .before .before .loop .i) (c .before .before .before .before .before .pre .0 .row) (c .before .loop-test .taken))
+-- src/lib.rt:231:13
+add-slide-block : tie.Need-add-slide-block Inv-loop μ-loop
+add-slide-block c = omega (arith, c .before .before .loop-test .taken, c .before .before .before .before .before .before .pre .0 .row)
 
-slide-inside-requires : tie.Need-slide-inside-requires Inv-loop μ-loop
-slide-inside-requires c κs = (c .before .before .before .before .before .pre .0 .inner (c .before .before .loop .i) (c .before .loop-test .taken), (c .before .before .before .before .before .pre .1 .0, (row-cell-below (c .before .before .loop .i) (c .before .before .before .before .before .pre .0 .row) (c .before .loop-test .taken), (c .before .before .before .before .before .pre .0 .row .size, c .before .before .loop .inv .1 .1 ∙ c .before .before .before .before .before .pre .1 .1))))
+-- src/lib.rt:222:9
+slide-block-requires : tie.Need-slide-block-requires Inv-loop μ-loop
+slide-block-requires c κs = (inner-part (c .before .before .before .loop .i) (c .before .block-of .result) (c .before .before .before .before .before .before .pre .0) (omega (arith, c .before .block-of .ensures, c .before .before .loop-test .taken)), (c .before .before .before .before .before .before .pre .1 .0, (c .before .before .before .loop .inv .1 .1 ∙ c .before .before .before .before .before .before .pre .1 .1, omega (arith, c .before .block-of .ensures))))
 
+-- src/lib.rt:234:9
 add-i : tie.Need-add-i Inv-loop μ-loop
-add-i c = omega (arith, c .before .before .before .before .before .before .before .before .pre .0 .row)
+add-i c = omega (arith, c .before .before .before .before .before .loop-test .taken, c .before .before .before .before .block-of .ensures, c .before .before .before .before .before .before .before .before .before .pre .0 .row)
 
+-- src/lib.rt:220:5
 loop-less : tie.Need-loop-less Inv-loop μ-loop
-loop-less c = omega arith
+loop-less c = omega (arith, c .before .before .before .before .before .loop-test .taken, c .before .before .before .before .block-of .ensures)
 
+-- src/lib.rt:220:5
 loop-again : tie.Need-loop-again Inv-loop μ-loop
-loop-again c = (cells-more _ _ _ _ _ _ _ _ _ (c .before .before .before .before .before .loop .i) _ _ (c .before .before .before .before .before .loop .inv .0) (c .before .before .slide-inside .ensures), (omega arith, c .before .before .slide-inside .kept .1 .1 .1 .1 .0 ∙ c .before .before .before .before .before .loop .inv .1 .1))
+loop-again c = (cells-block _ _ _ _ _ _ _ _ 1 (c .before .before .before .before .before .before .loop .i) (c .before .before .before .before .block-of .result) _ _ (c .before .before .before .before .before .before .loop .inv .0) (c .before .before .slide-block .ensures), (omega (arith, c .before .before .before .before .before .loop-test .taken, c .before .before .before .before .block-of .ensures), c .before .before .slide-block .kept .1 .1 .1 .1 .0 ∙ c .before .before .before .before .before .before .loop .inv .1 .1))
 
+-- src/lib.rt:203:1
 same-length : tie.Need-same-length Inv-loop μ-loop
 same-length c = c .before .loop .inv .1 .1
 
+-- src/lib.rt:203:1
 returns : tie.Need-returns Inv-loop μ-loop
-returns c = let e : c .before .loop .i ≡ c .before .before .before .before .args .n = omega arith in cc
+returns c = cells-end _ _ _ _ _ _ _ _ _ _ _ _ (c .before .loop .inv .0) (c .before .loop .inv .1 .0) (c .loop-test .left)
 
 pub slide-inner-cells-spec : {M : Type 1} → statement M
 slide-inner-cells-spec =
@@ -50,10 +67,10 @@ slide-inner-cells-spec =
     Inv-loop
     μ-loop
     loop-holds
-    add-slide-inside
-    mul-slide-inside
-    add-slide-inside-2
-    slide-inside-requires
+    sub-block-of
+    block-of-requires
+    add-slide-block
+    slide-block-requires
     add-i
     loop-less
     loop-again

@@ -1,0 +1,34 @@
+-- One direction as the code works it out: each value on its own, chosen by whether the excess is counted.
+use Prim.Native.Nat.{ℕ}
+use mathlib.Core.Path.{_≡_, refl, ap, _∙_}
+use mathlib.Core.Bool.{Bool, true, false, cond}
+use mathlib.Core.List.{List}
+use lib.ListN.{getD, set}
+use lib.Seq.{set-getD}
+use lib.Ieee.{Float, nan, binary32, ofBits, add, mul, div, lt}
+use Rattle.floats.specs.Stand.{maxOf}
+use Rattle.talus.specs.Talus.{excessTo, shedTo, gainTo}
+use Rattle.talus.specs.declared.Shed.{Shed}
+
+shed-parts : (b : Bool) (t u g v : Float) → _≡_ {A = Shed} (record { total = cond b t u; greatest = cond b g v }) (cond b (record { total = t; greatest = g }) (record { total = u; greatest = v }))
+shed-parts true t u g v = refl
+shed-parts false t u g v = refl
+
+set-part : (b : Bool) (out : List Float) (m : ℕ) (v : Float) → set out m (cond b v (getD out m nan)) ≡ cond b (set out m v) out
+set-part true out m v = refl
+set-part false out m v = set-getD out m nan
+
+module _ (ts hs : List Float) (c m d : ℕ) where
+  pub shed-counted : (s : Shed) {total most greatest : Float}
+      → total ≡ cond (lt (ofBits binary32 0) (excessTo ts hs c m d)) (add binary32 (s .total) (excessTo ts hs c m d)) (s .total)
+      → most ≡ maxOf (s .greatest) (excessTo ts hs c m d)
+      → greatest ≡ cond (lt (ofBits binary32 0) (excessTo ts hs c m d)) most (s .greatest)
+      → _≡_ {A = Shed} (record { total = total; greatest = greatest }) (shedTo ts hs c m d s)
+  unfolding shedTo
+  shed-counted s e f g = rw (g, f, e) (shed-parts (lt (ofBits binary32 0) (excessTo ts hs c m d)) _ _ _ _)
+
+  pub gain-counted : (moved total : Float) (out : List Float) {v : Float}
+      → v ≡ cond (lt (ofBits binary32 0) (excessTo ts hs c m d)) (add binary32 (getD out m nan) (div binary32 (mul binary32 moved (excessTo ts hs c m d)) total)) (getD out m nan)
+      → set out m v ≡ gainTo ts hs c m moved total d out
+  unfolding gainTo
+  gain-counted moved total out e = ap (set out m) e ∙ set-part (lt (ofBits binary32 0) (excessTo ts hs c m d)) out m _
