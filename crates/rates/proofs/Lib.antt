@@ -1,0 +1,2 @@
+-- Laws of the table of rates.
+pub mod TableLaws

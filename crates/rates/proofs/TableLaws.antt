@@ -1,0 +1,52 @@
+-- The table of rates: how it is filled, and what is read from it.
+use Prim.Native.Nat.{ℕ, _+_, _^_, _≤_, _<_}
+use mathlib.Core.Path.{_≡_, sym, ap, _∙_}
+use mathlib.Core.List.{List}
+use native.Mathlib.Omega.{arith}
+use lib.ListN.{getD, set, drop, replicate, length-replicate, List·getD-append}
+use lib.Dec.{T, le→leb}
+use lib.IntN.{pos}
+use lib.Ieee.{Float, nan, binary32, ofBits, mul, div, inFloat, toBits, fits}
+use Rattle.lists.specs.Loops.{tabulate}
+use Rattle.lists.proofs.TableLaws.{length-tabulate, getD-tabulate, filled, filled-more}
+use Rattle.floats.specs.Stand.{maxOf}
+use Rattle.square_root.specs.Root.{rootOf}
+use Rattle.float_order.specs.Whole.{whole}
+use Rattle.float_order.proofs.ValueLaws.{bits-unique}
+use Rattle.float_order.proofs.WholeLaws.{whole-fits}
+use Rattle.rates.specs.Rate.{rateOf, ratesOf}
+
+-- a number of the table is a float
+pub place-float : (i : ℕ) → i < 1024 → T (inFloat binary32 (pos i))
+unfolding inFloat
+place-float i l = let bound : i ≤ 2 ^ 24 = omega arith in le→leb _ _ bound
+
+-- the rate as the code works it out
+pub rate-is : (area n k : Float) {most r : Float} → most ≡ maxOf area (mul binary32 (ofBits binary32 0x38d1_b717) n) → r ≡ rootOf (div binary32 most n) → mul binary32 k r ≡ rateOf area n k
+rate-is area n k e f = ap (mul binary32 k) (f ∙ ap (λ (x : Float). rootOf (div binary32 x n)) e)
+
+-- one rate more
+pub table-more : (n k : Float) (i : ℕ) (rates : List Float) {r : Float} → rates ≡ filled (λ j. rateOf (whole j) n k) i (replicate 1024 (ofBits binary32 0)) → i < 1024
+    → r ≡ rateOf (whole i) n k → set rates i r ≡ filled (λ j. rateOf (whole j) n k) (i + 1) (replicate 1024 (ofBits binary32 0))
+table-more n k i rates {r} e l f =
+    ap (set rates i) f ∙ ap (λ (t : List Float). set t i (rateOf (whole i) n k)) e
+    ∙ filled-more (λ j. rateOf (whole j) n k) i (replicate 1024 (ofBits binary32 0)) (omega (arith, length-replicate {A = Float} 1024 (ofBits binary32 0)))
+
+-- all of them
+pub table-done : (n k : Float) (m i : ℕ) (rates : List Float) → rates ≡ filled (λ j. rateOf (whole j) n k) i (replicate 1024 (ofBits binary32 0)) → i ≤ m → m ≤ i → rates ≡ ratesOf m n k
+unfolding ratesOf
+table-done n k m i rates e a b = let same : i ≡ m = omega arith in e ∙ ap (λ (j : ℕ). filled (λ j. rateOf (whole j) n k) j (replicate 1024 (ofBits binary32 0))) same
+
+module _ (n k : Float) (m : ℕ) where
+  pub rates-at : (i : ℕ) → i < m → getD (ratesOf m n k) i nan ≡ rateOf (whole i) n k
+  unfolding ratesOf
+  rates-at i l =
+      List·getD-append (tabulate m (λ j. rateOf (whole j) n k)) (drop m (replicate 1024 (ofBits binary32 0))) nan i (omega (arith, length-tabulate (λ j. rateOf (whole j) n k) m))
+      ∙ getD-tabulate (λ j. rateOf (whole j) n k) m i nan l
+
+  -- the rate of an area with the bits of a number of the table
+  pub rates-read : (rates : List Float) (i : ℕ) (area : Float) {a b : ℕ} → rates ≡ ratesOf m n k → i < m → T (fits binary32 area)
+      → a ≡ toBits binary32 (whole i) → b ≡ toBits binary32 area → a ≡ b → getD rates i nan ≡ rateOf area n k
+  rates-read rates i area e l f p q s =
+      let same : whole i ≡ area = bits-unique (whole i) area (whole-fits i) f (sym p ∙ s ∙ q) in
+      ap (λ (t : List Float). getD t i nan) e ∙ rates-at i l ∙ ap (λ (x : Float). rateOf x n k) same

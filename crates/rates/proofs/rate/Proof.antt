@@ -1,0 +1,23 @@
+use Rattle.rates.proofs.TableLaws.{rate-is}
+use borrow.Author.Needs.{needs}
+use Rattle.rates.proofs.rate.Statement.{statement}
+use Rattle.rates.proofs.rate.Tie as tie
+use Rattle.rates.proofs.rate.Reads as reads
+use Rattle.rates.proofs.rate.Lts as lts
+use Rattle.floats.proofs.max.Reads as max-reads
+use Rattle.square_root.proofs.root_of.Reads as root-of-reads
+
+-- src/lib.rt:14:17
+max-requires : tie.Need-max-requires
+max-requires c κs = search needs
+
+-- src/lib.rt:14:9
+root-of-requires : tie.Need-root-of-requires
+root-of-requires c κs = search needs
+
+-- src/lib.rt:11:1
+returns : tie.Need-returns
+returns c = rate-is _ _ _ (c .before .max .ensures) (c .root-of .ensures)
+
+pub rate-spec : {M : Type 1} → statement M
+rate-spec = tie.close (tie.spec max-requires root-of-requires returns)

@@ -1,0 +1,73 @@
+use Prim.Native.Nat.{_-_, _≤_}
+use mathlib.Core.Path.{_≡_}
+use native.Mathlib.Omega.{arith}
+use borrow.Author.Needs.{needs}
+use lib.ListN.{replicate}
+use lib.Ieee.{binary32, ofBits}
+use Rattle.lists.proofs.TableLaws.{filled, filled-none}
+use Rattle.float_order.specs.Whole.{whole}
+use Rattle.rates.specs.Rate.{rateOf}
+use Rattle.rates.proofs.TableLaws.{place-float, table-more, table-done}
+use Rattle.rates.proofs.table.Statement.{statement}
+use Rattle.rates.proofs.table.Tie as tie
+use Rattle.rates.proofs.table.Reads as reads
+use Rattle.rates.proofs.table.Lts as lts
+use Rattle.rates.proofs.rate.Reads as rate-reads
+
+abbrev Inv-loop : tie.InvT-loop
+Inv-loop m n-cells k rates₀ i₀ rates i = (rates ≡ filled (λ j. rateOf (whole j) n-cells k) i (replicate 1024 (ofBits binary32 0))) × (i ≤ m)
+
+abbrev μ-loop : tie.MeasureT-loop
+μ-loop m n-cells k rates₀ i₀ rates i = m - i
+
+-- src/lib.rt:31:5
+loop-holds : tie.Need-loop-holds Inv-loop μ-loop
+loop-holds c = (filled-none _ _, omega arith)
+
+-- src/lib.rt:32:25
+int-to-float-rate : tie.Need-int-to-float-rate Inv-loop μ-loop
+int-to-float-rate c = place-float _ (omega (arith, c .before .loop-test .taken, c .before .before .before .pre))
+
+-- src/lib.rt:32:20
+rate-requires : tie.Need-rate-requires Inv-loop μ-loop
+rate-requires c κs = search needs
+
+-- src/lib.rt:32:9
+mul-rates : tie.Need-mul-rates Inv-loop μ-loop
+mul-rates c = omega (arith, c .before .before .loop-test .taken, c .before .before .before .before .pre)
+
+-- src/lib.rt:32:9
+array-write-rates : tie.Need-array-write-rates Inv-loop μ-loop
+array-write-rates c = omega (arith, c .before .before .loop-test .taken, c .before .before .before .before .pre)
+
+-- src/lib.rt:33:9
+add-i : tie.Need-add-i Inv-loop μ-loop
+add-i c = omega (arith, c .before .before .loop-test .taken, c .before .before .before .before .pre)
+
+-- src/lib.rt:31:5
+loop-less : tie.Need-loop-less Inv-loop μ-loop
+loop-less c = omega (arith, c .before .before .loop-test .taken)
+
+-- src/lib.rt:31:5
+loop-again : tie.Need-loop-again Inv-loop μ-loop
+loop-again c = (table-more _ _ (c .before .before .before .loop .i) _ (c .before .before .before .loop .inv .0) (omega (arith, c .before .before .loop-test .taken, c .before .before .before .before .pre)) (c .rate .ensures), omega (arith, c .before .before .loop-test .taken))
+
+-- src/lib.rt:25:1
+returns : tie.Need-returns Inv-loop μ-loop
+returns c = table-done _ _ _ (c .before .loop .i) _ (c .before .loop .inv .0) (c .before .loop .inv .1) (c .loop-test .left)
+
+pub table-spec : {M : Type 1} → statement M
+table-spec =
+    tie.close
+    (tie.spec
+    Inv-loop
+    μ-loop
+    loop-holds
+    int-to-float-rate
+    rate-requires
+    mul-rates
+    array-write-rates
+    add-i
+    loop-less
+    loop-again
+    returns)

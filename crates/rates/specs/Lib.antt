@@ -1,0 +1,2 @@
+-- The rate of an incision.
+pub mod Rate

@@ -1,0 +1,52 @@
+// The rate of an incision: its coefficient before the division by the distance. Areas are whole numbers and most of them are small, so the rates of
+// the small ones are worked out once for each incision and read from a table.
+use floats::max;
+use floats::to_bits;
+use square_root::root_of;
+ghost use mathlib.Core.Path.{_≡_};
+ghost use Prim.Native.Nat.{min, _≤_};
+ghost use Rattle.rates.specs.Rate.{rateOf, ratesOf};
+
+// The rate of a cell draining `area` cells out of `n_cells`; areas below 1e-4 of the map share that floor's rate.
+pub fn rate(area: f32, n_cells: f32, k: f32) -> f32
+    ensures { λ r. ⌜ r ≡ rateOf area «n_cells» k ⌝ }
+{
+    k * root_of(max(area, 0.0001 * n_cells) / n_cells)
+}
+
+// How many whole areas, from 0 on, the table of a grid of n cells has.
+pub fn table_size(n: usize) -> usize
+    ensures { λ r. ⌜ r ≡ min n 1024 ⌝ }
+{
+    if n < 1024 { n } else { 1024 }
+}
+
+// The rates of the whole areas below m.
+pub fn table(m: usize, n_cells: f32, k: f32) -> [f32; 1024]
+    requires { ⌜ m ≤ 1024 ⌝ }
+    ensures { λ r. ⌜ r ≡ ratesOf m «n_cells» k ⌝ }
+{
+    let mut rates: [f32; 1024] = [0.0; 1024];
+    let mut i: usize = 0;
+    while i < m {
+        rates[i] = rate(i as f32, n_cells, k);
+        i += 1;
+    }
+    rates
+}
+
+// The rate of an area, read from the table where it is a whole number below m. The sum has that number in its last digits; any other area differs
+// from the number found there.
+pub fn rate_at(rates: &[f32; 1024], m: usize, area: f32, n_cells: f32, k: f32) -> f32
+    requires { ⌜ m ≤ 1024 ⌝ }
+    requires { ⌜ now rates ≡ ratesOf m «n_cells» k ⌝ }
+    ensures { λ r. ⌜ r ≡ rateOf area «n_cells» k ⌝ }
+{
+    let i = (to_bits(area + 8388608.0) % 1024) as usize;
+    if i < m {
+        if to_bits(i as f32) == to_bits(area) {
+            return rates[i];
+        }
+    }
+    rate(area, n_cells, k)
+}
