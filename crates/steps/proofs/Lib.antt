@@ -1,0 +1,2 @@
+-- Laws of a step's place.
+pub mod PlaceLaws

@@ -1,0 +1,168 @@
+-- The distance that stands at a step's place is that of the step.
+use Prim.Native.Nat.{ℕ, zero, suc, _+_, _-_, _*_, _≤_, _<_}
+use native.Mathlib.Omega.{arith}
+use native.Mathlib.Nat.{suc-mul}
+use native.Mathlib.Decide.{decLt, ℕ-discrete}
+use mathlib.Core.Path.{_≡_, refl, sym, ap, _∙_, subst}
+use mathlib.Core.Logic.{_≢_, _⊎_, inl, inr}
+use mathlib.Core.Bool.{Bool, true, false, cond}
+use lib.IntN.{ℤ, pos, negsuc, natAbs}
+use lib.ListN.{getD}
+use lib.Dec.{eqb, ltb, lit≤}
+use lib.Ieee.{Float, nan, binary32, ofBits}
+use borrow.Author.Tests.{lt-ltb, le-ltb, eq-eqb, ne-eqb, ltb-true}
+use Rattle.grid.specs.Sides.{cellOf, columnOf, rowOf}
+use Rattle.grid.specs.Directions.{shiftedOf, Adjacent}
+use Rattle.grid.proofs.SidesLaws.{cell-back, column-lt}
+use Rattle.grid.proofs.NeighbourLaws.{stepX, stepY, each-direction, inside-beside}
+use Rattle.ways.specs.Apart.{apart}
+use Rattle.steps.specs.Step.{distanceTable, gap, narrowPlace, placeOf, Near}
+
+-- the numbers of two cells of neighbouring columns and rows, on three columns or more
+record Wide (w x y nx ny g : ℕ) : Type 0 where
+  level : ny ≡ y → g < 2
+  other : ny ≢ y → 2 ≤ g
+  bound : g ≤ w + 1
+  straight : ny ≢ y → nx ≡ x → g + 3 - w ≡ 3
+  aslant : ny ≢ y → nx ≢ x → (g + 3 - w ≡ 2) ⊎ (g + 3 - w ≡ 4)
+
+wide-gap : (w x y nx ny : ℕ) → 3 ≤ w → x ≤ nx + 1 → nx ≤ x + 1 → y ≤ ny + 1 → ny ≤ y + 1 → Wide w x y nx ny (gap (x + y * w) (nx + ny * w))
+wide-gap w x y nx ny wide west east north south = go (ℕ-discrete ny y) (ℕ-discrete ny (suc y)) (ℕ-discrete nx x) (ℕ-discrete nx (suc x))
+  where
+    go : Dec (ny ≡ y) → Dec (ny ≡ suc y) → Dec (nx ≡ x) → Dec (nx ≡ suc x) → Wide w x y nx ny (gap (x + y * w) (nx + ny * w))
+    go (yes e) b c d =
+        let m : ny * w ≡ y * w = ap (λ (k : ℕ). k * w) e in
+        record { level = λ q. omega (arith, m); other = λ q. absurd (q e); bound = omega (arith, m); straight = λ q. absurd (q e); aslant = λ q. absurd (q e) }
+    go (no e) (yes b) c d =
+        let m : ny * w ≡ y * w + w = ap (λ (k : ℕ). k * w) b ∙ suc-mul y w in
+        record { level = λ q. absurd (e q); other = λ q. omega (arith, m); bound = omega (arith, m); straight = λ q s. omega (arith, m); aslant = λ q s. side c d s m }
+      where
+        side : Dec (nx ≡ x) → Dec (nx ≡ suc x) → nx ≢ x → ny * w ≡ y * w + w → (gap (x + y * w) (nx + ny * w) + 3 - w ≡ 2) ⊎ (gap (x + y * w) (nx + ny * w) + 3 - w ≡ 4)
+        side (yes c) d s m = absurd (s c)
+        side (no c) (yes d) s m = inr (omega (arith, m))
+        side (no c) (no d) s m = inl (omega (arith, m))
+    go (no e) (no b) c d =
+        let up : y ≡ suc ny = omega arith in
+        let m : y * w ≡ ny * w + w = ap (λ (k : ℕ). k * w) up ∙ suc-mul ny w in
+        record { level = λ q. absurd (e q); other = λ q. omega (arith, m); bound = omega (arith, m); straight = λ q s. omega (arith, m); aslant = λ q s. side c d s m }
+      where
+        side : Dec (nx ≡ x) → Dec (nx ≡ suc x) → nx ≢ x → y * w ≡ ny * w + w → (gap (x + y * w) (nx + ny * w) + 3 - w ≡ 2) ⊎ (gap (x + y * w) (nx + ny * w) + 3 - w ≡ 4)
+        side (yes c) d s m = absurd (s c)
+        side (no c) (yes d) s m = inl (omega (arith, m))
+        side (no c) (no d) s m = inr (omega (arith, m))
+
+abbrev one : Float
+one = ofBits binary32 0x3f80_0000
+
+abbrev diagonal : Float
+diagonal = ofBits binary32 0x3fb5_04f3
+
+-- a place of the table, and the distance there
+abbrev Holds : ℕ → Float → Type 0
+Holds p d = (p < 5) × (getD distanceTable p nan ≡ d)
+
+holds-at : {p : ℕ} (q : ℕ) {d : Float} → p ≡ q → Holds q d → Holds p d
+holds-at q e h = rw e h
+
+module _ {w i r : ℕ} (near : Near w i r) where
+  narrow : Holds (narrowPlace w i r) (apart w i r)
+  narrow = go (eqb (columnOf w i) (columnOf w r)) (eqb (rowOf w i) (rowOf w r))
+    where
+      go : (a b : Bool) → Holds (cond a 0 (cond b 0 2)) (cond a one (cond b one diagonal))
+      go true b = (omega arith, refl)
+      go false true = (omega arith, refl)
+      go false false = (omega arith, refl)
+
+  gap-wide : 3 ≤ w → Wide w (columnOf w i) (rowOf w i) (columnOf w r) (rowOf w r) (gap i r)
+  gap-wide l =
+      subst (λ (k : ℕ). Wide w (columnOf w i) (rowOf w i) (columnOf w r) (rowOf w r) (gap k r)) (cell-back w i)
+      (subst (λ (k : ℕ). Wide w (columnOf w i) (rowOf w i) (columnOf w r) (rowOf w r) (gap (cellOf w (columnOf w i) (rowOf w i)) k)) (cell-back w r)
+      (wide-gap w (columnOf w i) (rowOf w i) (columnOf w r) (rowOf w r) l (near .west) (near .east) (near .north) (near .south)))
+
+  -- the code's sum and difference
+  pub gap-bound : 3 ≤ w → gap i r ≤ w + 1
+  gap-bound l = gap-wide l .bound
+
+  pub gap-enough : 3 ≤ w → 2 ≤ gap i r → w ≤ gap i r + 3
+  gap-enough l k = go (ℕ-discrete (rowOf w r) (rowOf w i)) (ℕ-discrete (columnOf w r) (columnOf w i)) (gap-wide l)
+    where
+      more : (gap i r + 3 - w ≡ 2) ⊎ (gap i r + 3 - w ≡ 4) → w ≤ gap i r + 3
+      more (inl q) = omega arith
+      more (inr q) = omega arith
+
+      go : Dec (rowOf w r ≡ rowOf w i) → Dec (columnOf w r ≡ columnOf w i) → Wide w (columnOf w i) (rowOf w i) (columnOf w r) (rowOf w r) (gap i r) → w ≤ gap i r + 3
+      go (yes e) c s = absurd (omega (arith, s .level e))
+      go (no e) (yes c) s = omega (arith, s .straight e c)
+      go (no e) (no c) s = more (s .aslant e c)
+
+  wide : 3 ≤ w → Wide w (columnOf w i) (rowOf w i) (columnOf w r) (rowOf w r) (gap i r) → Holds (cond (ltb (gap i r) 2) (gap i r) (gap i r + 3 - w)) (apart w i r)
+  wide l s = go (ℕ-discrete (rowOf w r) (rowOf w i)) (ℕ-discrete (columnOf w r) (columnOf w i))
+    where
+      same-row : (g : ℕ) → g < 2 → Holds g one
+      same-row zero k = (omega arith, refl)
+      same-row (suc zero) k = (omega arith, refl)
+      same-row (suc (suc g)) k = absurd (omega arith)
+
+      level : (b : Bool) → Holds (gap i r) one → Holds (gap i r) (cond b one one)
+      level true h = h
+      level false h = h
+
+      go : Dec (rowOf w r ≡ rowOf w i) → Dec (columnOf w r ≡ columnOf w i) → Holds (cond (ltb (gap i r) 2) (gap i r) (gap i r + 3 - w)) (apart w i r)
+      go (yes e) c = rw (lt-ltb (gap i r) 2 (s .level e), eq-eqb (rowOf w i) (rowOf w r) (sym e)) (level (eqb (columnOf w i) (columnOf w r)) (same-row (gap i r) (s .level e)))
+      go (no e) (yes c) = rw (le-ltb (gap i r) 2 (s .other e), eq-eqb (columnOf w i) (columnOf w r) (sym c)) (holds-at 3 (s .straight e c) (omega arith, refl))
+      go (no e) (no c) =
+          rw (le-ltb (gap i r) 2 (s .other e), ne-eqb (columnOf w i) (columnOf w r) (λ q. c (sym q)), ne-eqb (rowOf w i) (rowOf w r) (λ q. e (sym q))) (aslant (s .aslant e c))
+        where
+          aslant : (gap i r + 3 - w ≡ 2) ⊎ (gap i r + 3 - w ≡ 4) → Holds (gap i r + 3 - w) diagonal
+          aslant (inl q) = holds-at 2 q (omega arith, refl)
+          aslant (inr q) = holds-at 4 q (omega arith, refl)
+
+  pub place-holds : Holds (placeOf w i r) (apart w i r)
+  unfolding placeOf
+  place-holds = go (decLt w 3)
+    where
+      go : Dec (w < 3) → Holds (cond (ltb w 3) (narrowPlace w i r) (cond (ltb (gap i r) 2) (gap i r) (gap i r + 3 - w))) (apart w i r)
+      go (yes l) = rw (lt-ltb w 3 l) narrow
+      go (no l) = let k : 3 ≤ w = omega arith in rw (le-ltb w 3 k) (wide k (gap-wide k))
+
+-- ---- the three ends of `step_place`
+module _ (w i r : ℕ) where
+  pub place-narrow : {p : ℕ} → w < 3 → p ≡ narrowPlace w i r → p ≡ placeOf w i r
+  unfolding placeOf
+  place-narrow l e = rw (lt-ltb w 3 l) e
+
+  module _ (g : ℕ) (l : 3 ≤ w) (e : g ≡ gap i r) where
+    pub place-level : g < 2 → g ≡ placeOf w i r
+    unfolding placeOf
+    place-level k = rw (le-ltb w 3 l, ← e, lt-ltb g 2 k)
+
+    pub place-across : 2 ≤ g → g + 3 - w ≡ placeOf w i r
+    unfolding placeOf
+    place-across k = rw (le-ltb w 3 l, ← e, le-ltb g 2 k)
+
+-- ---- a receiver is near
+close : (x : ℕ) (z : ℤ) (side n : ℕ) → natAbs z ≤ 1 → shiftedOf x z side ≡ n → n < side → (x ≤ n + 1) × (n ≤ x + 1)
+close x (pos k) side n s e l = go (ltb (x + k) side) e
+  where
+    go : (b : Bool) → cond b (x + k) side ≡ n → (x ≤ n + 1) × (n ≤ x + 1)
+    go true e = (omega arith, omega arith)
+    go false e = absurd (omega arith)
+close x (negsuc k) side n s e l = go (ltb k x) refl e
+  where
+    go : (b : Bool) → ltb k x ≡ b → cond b (x - suc k) side ≡ n → (x ≤ n + 1) × (n ≤ x + 1)
+    go true t e = let q : k < x = ltb-true k x t in (omega arith, omega arith)
+    go false t e = absurd (omega arith)
+
+small-steps : (d : ℕ) → 1 ≤ d → d ≤ 8 → (natAbs (stepX d) ≤ 1) × (natAbs (stepY d) ≤ 1)
+small-steps =
+    each-direction (λ d. (natAbs (stepX d) ≤ 1) × (natAbs (stepY d) ≤ 1)) (lit≤ tt, lit≤ tt) (lit≤ tt, lit≤ tt) (lit≤ tt, lit≤ tt) (lit≤ tt, lit≤ tt)
+    (lit≤ tt, lit≤ tt) (lit≤ tt, lit≤ tt) (lit≤ tt, lit≤ tt) (lit≤ tt, lit≤ tt)
+
+pub near-of : {w h c r : ℕ} → 0 < w → w ≤ 4096 → (r ≡ c) ⊎ Adjacent w h c r → Near w c r
+near-of some wide (inl e) = rw e (record { some = some; wide = wide; west = omega arith; east = omega arith; north = omega arith; south = omega arith })
+near-of {w} {h} {c} {r} some wide (inr a) =
+    let b = inside-beside w h c r (a .direction) (a .inside) (a .leads) in
+    let s = small-steps (a .direction) (a .first) (a .last) in
+    let x = close (columnOf w c) (stepX (a .direction)) w (columnOf w r) (s .0) (b .column) (b .columns) in
+    let y = close (rowOf w c) (stepY (a .direction)) h (rowOf w r) (s .1) (b .row) (b .rows) in
+    record { some = some; wide = wide; west = x .0; east = x .1; north = y .0; south = y .1 }

@@ -1,0 +1,2 @@
+-- The step from a cell to its receiver.
+pub mod Step

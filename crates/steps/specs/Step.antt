@@ -1,0 +1,34 @@
+-- Where the distance of a step stands in a table of five.
+use Prim.Native.Nat.{ℕ, _+_, _-_, _≤_, _<_}
+use mathlib.Core.Bool.{cond}
+use mathlib.Core.List.{List, [], _∷_}
+use lib.Dec.{eqb, ltb}
+use lib.Ieee.{Float, binary32, ofBits}
+use Rattle.grid.specs.Sides.{columnOf, rowOf}
+
+-- the distances by their place: 1 where the numbers of two cells differ by 0 or 1, then `SQRT_2`, 1 and `SQRT_2` where by w - 1, w and w + 1
+abbrev pub distanceTable : List Float
+distanceTable =
+    let one = ofBits binary32 0x3f80_0000 in
+    let diagonal = ofBits binary32 0x3fb5_04f3 in
+    one ∷ one ∷ diagonal ∷ one ∷ diagonal ∷ []
+
+-- by how much two numbers differ
+abbrev pub gap : ℕ → ℕ → ℕ
+gap a b = (a - b) + (b - a)
+
+abbrev pub narrowPlace : ℕ → ℕ → ℕ → ℕ
+narrowPlace w i r = cond (eqb (columnOf w i) (columnOf w r)) 0 (cond (eqb (rowOf w i) (rowOf w r)) 0 2)
+
+-- the place of the distance between cells i and r; with fewer than three columns w - 1 may be 1, so there it is found by column and row
+unfoldable pub placeOf : ℕ → ℕ → ℕ → ℕ
+placeOf w i r = cond (ltb w 3) (narrowPlace w i r) (cond (ltb (gap i r) 2) (gap i r) (gap i r + 3 - w))
+
+-- cell r is cell i or one of its 8 neighbours, on a grid of w columns
+pub record Near (w i r : ℕ) : Type 0 where
+  pub some : 0 < w
+  pub wide : w ≤ 4096
+  pub west : columnOf w i ≤ columnOf w r + 1
+  pub east : columnOf w r ≤ columnOf w i + 1
+  pub north : rowOf w i ≤ rowOf w r + 1
+  pub south : rowOf w r ≤ rowOf w i + 1
