@@ -9,7 +9,7 @@ use lib.IntN.{pos}
 use lib.ListN.{length, getD, set, drop, length-set}
 use lib.Seq.{set-getD, drop-cons, drop-length}
 use lib.Dec.{T, le→leb}
-use lib.Ieee.{Float, nan, binary32, inFloat, ofInt, le}
+use lib.Ieee.{Float, nan, binary32, inFloat, ofInt, div, le}
 use Rattle.grid.specs.Sides.{InRange}
 use Rattle.grid.proofs.SidesLaws.{cells-bound, some-column}
 use Rattle.drainage.specs.Ground.{gridGround}
@@ -18,19 +18,32 @@ use Rattle.drainage.specs.Ways.{areasAlong}
 use Rattle.ways.specs.Apart.{apart}
 use Rattle.ways.proofs.DistanceLaws.{distance-is}
 use Rattle.lent.proofs.ReceiverLaws.{good-is}
-use Rattle.fluvial_erosion.specs.Incision.{incisionCoef, solved, incisedHeight, incisedAt, inciseAlong, incisedBy}
-use Rattle.fluvial_erosion.specs.Along.{drainedTo, cutAt, CellOf, Drains, Carved}
+use Rattle.rates.specs.Rate.{rateOf}
+use Rattle.steps.specs.Step.{distanceTable, placeOf, Near}
+use Rattle.steps.proofs.PlaceLaws.{place-holds, near-of}
+use Rattle.fluvial_erosion.specs.Incision.{solved, incisedHeight, incisedAt, inciseAlong, incisedBy}
+use Rattle.fluvial_erosion.specs.Along.{drainedTo, cutAt, CellOf, Prepared, Drains, Carved}
 use Rattle.fluvial_erosion.specs.declared.FluvialParams.{FluvialParams}
+
+-- the place of a step in the table
+place-distance : {w i r place : ℕ} {ds : List Float} → Near w i r → ds ≡ distanceTable → place ≡ placeOf w i r → getD ds place nan ≡ apart w i r
+place-distance near e g = rw (e, g) (place-holds near .1)
+
+pub place-few : {w i r place : ℕ} → Near w i r → place ≡ placeOf w i r → place < 5
+place-few near g = rw g (place-holds near .0)
 
 -- the two ends of `incise_cell`
 module _ (w : ℕ) (p : FluvialParams) (n : Float) (areas : List Float) (recv : List ℕ) (hs : List Float) (c : ℕ) where
   pub cell-sea : le (getD hs c nan) (p .«water_level») ≡ true → hs ≡ set hs c (cutAt w p n areas recv hs c)
   cell-sea e = rw e (sym (set-getD hs c nan))
 
-  pub cell-cut : {d coef down : Float} → le (getD hs c nan) (p .«water_level») ≡ false → d ≡ apart w c (getD recv c 0) → coef ≡ incisionCoef (getD areas c nan) n (p .k) d
+  pub cell-cut : {m place : ℕ} {rates ds : List Float} {rate down : Float} → le (getD hs c nan) (p .«water_level») ≡ false → CellOf w areas recv hs c
+      → Prepared m n (p .k) rates ds → place ≡ placeOf w c (getD recv c 0) → rate ≡ rateOf (getD areas c nan) n (p .k)
       → down ≡ drainedTo c (getD recv c 0) (getD hs (getD recv c 0) nan) (p .«water_level»)
-      → set hs c (solved (getD hs c nan) (p .uplift) coef down) ≡ set hs c (cutAt w p n areas recv hs c)
-  cell-cut e a b f = rw (e, f, b, a)
+      → set hs c (solved (getD hs c nan) (p .uplift) (div binary32 rate (getD ds place nan)) down) ≡ set hs c (cutAt w p n areas recv hs c)
+  cell-cut {m} {place} {rates} {ds} e a q g b f =
+      let d : getD ds place nan ≡ apart w c (getD recv c 0) = place-distance (a .step) (q .apart-by) g in
+      rw (e, f, b, d)
 
 -- the code's distance is that of the ground
 module _ {w h : ℕ} {recv list : List ℕ} (drains : Drains w h recv list) (p : FluvialParams) (ground areas hs : List Float) (c : ℕ) (l : c < w * h) where
@@ -48,6 +61,7 @@ module _ {w h : ℕ} {recv list : List ℕ} (drains : Drains w h recv list) (p :
         receiver = omega (arith, drains .along .receivers);
         height = omega arith;
         below = omega (arith, drains .along .inside c l);
+        step = near-of (some-column w h c l) (drains .sides .wide) (good-is w h c (getD recv c 0) (drains .near c l));
       }
 
 -- the heights once the first i entries are incised: what is left to do from here is what there was to do

@@ -1,5 +1,5 @@
 -- What the inner calls of an incision ask, and what they leave.
-use Prim.Native.Nat.{ℕ, _*_, _<_}
+use Prim.Native.Nat.{ℕ, _*_, _≤_, _<_}
 use mathlib.Core.Path.{_≡_}
 use mathlib.Core.Bool.{true, cond}
 use mathlib.Core.List.{List}
@@ -11,6 +11,8 @@ use Rattle.grid.specs.Sides.{InRange}
 use Rattle.drainage.specs.Ground.{gridGround}
 use Rattle.drainage.specs.Ways.{areasAlong}
 use Rattle.ways.specs.Apart.{apart, Along}
+use Rattle.rates.specs.Rate.{ratesOf}
+use Rattle.steps.specs.Step.{distanceTable, Near}
 use Rattle.lent.specs.Lent.{goodReceiver}
 use Rattle.fluvial_erosion.specs.Incision.{incisionCoef, solved, incisedBy}
 use Rattle.fluvial_erosion.specs.declared.FluvialParams.{FluvialParams}
@@ -34,6 +36,13 @@ pub record CellOf (w : ℕ) (areas : List Float) (recv : List ℕ) (hs : List Fl
   pub receiver : c < length recv
   pub height : c < length hs
   pub below : getD recv c 0 < length hs
+  pub step : Near w c (getD recv c 0)
+
+-- what is prepared once for all cells: the rates of the whole areas below m, and the distances by their place
+pub record Prepared (m : ℕ) (n k : Float) (rates ds : List Float) : Type 0 where
+  pub few : m ≤ 1024
+  pub rated : rates ≡ ratesOf m n k
+  pub apart-by : ds ≡ distanceTable
 
 -- receivers and a list on a w × h grid: every receiver is its own cell or a neighbour, and every entry of the list is a cell
 pub record Drains (w h : ℕ) (recv list : List ℕ) : Type 0 where

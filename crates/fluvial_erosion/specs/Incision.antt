@@ -9,7 +9,7 @@ use lib.IntN.{pos}
 use lib.Dec.{eqb}
 use lib.Ieee.{Float, nan, binary32, ofBits, ofInt, add, mul, div, le}
 use Rattle.floats.specs.Stand.{maxOf}
-use Rattle.square_root.specs.Root.{rootOf}
+use Rattle.rates.specs.Rate.{rateOf}
 use Rattle.drainage.specs.Ground.{Ground}
 use Rattle.drainage.specs.Receivers.{distanceTo}
 use Rattle.drainage.specs.Ways.{areasAlong}
@@ -17,7 +17,7 @@ use Rattle.fluvial_erosion.specs.declared.FluvialParams.{FluvialParams}
 
 -- k × root(max(area, 1e-4 × n) / n) / d
 abbrev pub incisionCoef : Float → Float → Float → Float → Float
-incisionCoef area n k d = div binary32 (mul binary32 k (rootOf (div binary32 (maxOf area (mul binary32 (ofBits binary32 0x38d1_b717) n)) n))) d
+incisionCoef area n k d = div binary32 (rateOf area n k) d
 
 -- (height + uplift + c × H) / (1 + c)
 abbrev pub solved : Float → Float → Float → Float → Float

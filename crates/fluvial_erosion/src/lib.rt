@@ -11,32 +11,27 @@ use grid::bad_sides;
 use grid::first_not_finite;
 use lent::first_bad_entry;
 use lent::first_bad_receiver;
-use square_root::root_of;
+use rates::rate_at;
+use rates::table;
+use rates::table_size;
+use steps::distances;
+use steps::step_place;
 use thermal_erosion::copy_heights;
 use ways::accumulate;
-use ways::receiver_distance;
 ghost use mathlib.Core.Path.{_≡_};
 ghost use Prim.Native.Nat.{_*_, _<_};
 ghost use lib.ListN.{length, set};
 ghost use Rattle.drainage.specs.Ground.{gridGround};
-ghost use Rattle.fluvial_erosion.specs.Incision.{incisionCoef, inciseAlong};
+ghost use Rattle.fluvial_erosion.specs.Incision.{inciseAlong};
 ghost use Rattle.answers.specs.Outcome.{gives, refused, refusedAt, answerOf};
 ghost use Rattle.fluvial_erosion.specs.Incise.{badLengths, badIncision, inciseRefusal, InciseMade};
-ghost use Rattle.fluvial_erosion.specs.Along.{drainedTo, cutAt, CellOf, Drains, Lengths, Carved};
+ghost use Rattle.fluvial_erosion.specs.Along.{drainedTo, cutAt, CellOf, Prepared, Drains, Lengths, Carved};
 
 // The settings of an incision on its grid.
 pub struct FluvialParams {
     pub k: f32,
     pub uplift: f32,
     pub water_level: f32,
-}
-
-// Incision coefficient of a cell draining `area` cells out of `n_cells`, `d` cells away from its receiver; areas below 1e-4 of the map share
-// that floor's rate.
-fn incision_coef(area: f32, n_cells: f32, k: f32, d: f32) -> f32
-    ensures { λ r. ⌜ r ≡ incisionCoef area «n_cells» k d ⌝ }
-{
-    k * root_of(max(area, 0.0001 * n_cells) / n_cells) / d
 }
 
 // The height that cell c drains to: the water level if it is its own receiver, and never less.
@@ -49,17 +44,21 @@ fn drains_to(c: usize, r: usize, below: f32, water: f32) -> f32
     max(below, water)
 }
 
-// Incises one cell, from the heights as they stand. A cell that is not above the water is skipped.
+// Incises one cell, from the heights as they stand. A cell that is not above the water is skipped. `rates` has the rates of the whole areas below m.
 fn incise_cell(
     size: Sides,
     params: FluvialParams,
     n_cells: f32,
+    rates: &[f32; 1024],
+    m: usize,
+    ds: &[f32; 5],
     area: &[f32],
     recv: &[u32],
     out: &mut [f32],
     c: usize,
 )
     requires { ⌜ CellOf (size .w) (now area) (now recv) (now out) c ⌝ }
+    requires { ⌜ Prepared m «n_cells» (params .k) (now rates) (now ds) ⌝ }
     ensures { λ _. ⌜ now (out .exit) ≡ set (now (out .entry)) c (cutAt (size .w) params «n_cells» (now (area .entry)) (now (recv .entry)) (now (out .entry)) c) ⌝ }
 {
     let height = out[c];
@@ -67,8 +66,8 @@ fn incise_cell(
         return;
     }
     let r = recv[c] as usize;
-    let d = receiver_distance(c, r, size.w);
-    let coef = incision_coef(area[c], n_cells, params.k, d);
+    let d = ds[step_place(c, r, size.w)];
+    let coef = rate_at(rates, m, area[c], n_cells, params.k) / d;
     let down = drains_to(c, r, out[r], params.water_level);
     out[c] = (height + params.uplift + coef * down) / (1.0 + coef);
 }
@@ -88,10 +87,24 @@ pub fn incise_along(
     ensures { λ _. ⌜ now (out .exit) ≡ inciseAlong (gridGround (size .w) (size .h) (params .«water_level») (now (out .entry))) params (now (area .entry)) (now (recv .entry)) (now (order .entry)) (now (out .entry)) ⌝ }
 {
     let n_cells = (size.w * size.h) as f32;
+    let m = table_size(size.w * size.h);
+    let rates = table(m, n_cells, params.k);
+    let ds = distances();
     let len = order.len();
     let mut i: usize = 0;
     while i < len {
-        incise_cell(size, params, n_cells, area, recv, out, order[i] as usize);
+        incise_cell(
+            size,
+            params,
+            n_cells,
+            &rates,
+            m,
+            &ds,
+            area,
+            recv,
+            out,
+            order[i] as usize,
+        );
         i += 1;
     }
 }
