@@ -4,3 +4,4 @@ pub mod ListLaws
 pub mod SeenLaws
 pub mod StretchLaws
 pub mod ReceiverLaws
+pub mod RowLaws

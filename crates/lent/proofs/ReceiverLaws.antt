@@ -153,7 +153,7 @@ module _ (w h x y : ℕ) (cx : x < w) (cy : y < h) where
     level : x + y * w ≤ r + min x 1 → r ≤ x + y * w + min (w - 1 - x) 1 → Band r
     below : x + y * w + w ≤ r + min x 1 → r ≤ x + y * w + w + min (w - 1 - x) 1 → Band r
 
-  band-good : (r : ℕ) → r < w * h → Band r → goodReceiver w h (cellOf w x y) r ≡ true
+  pub band-good : (r : ℕ) → r < w * h → Band r → goodReceiver w h (cellOf w x y) r ≡ true
   band-good r l (above p q) = go y refl
     where
       go : (k : ℕ) → y ≡ k → goodReceiver w h (cellOf w x y) r ≡ true

@@ -177,6 +177,29 @@ module _ {n : ℕ} {recv list : List ℕ} {lo limit : ℕ} {seen : List ℕ} {p 
       at i h (yes q) = rw q here
       at i h (no q) = w .earlier i (omega arith)
 
+-- a stretch from cell 0 on that covers every cell: the marks tell all, once the cell itself is marked
+module _ (seen : List ℕ) (c : ℕ) (l : c < span) where
+  whole-stood : stoodIn seen 0 c ≡ isMarked seen c
+  whole-stood = let e : c - 0 ≡ c = omega arith in rw (stretch-in 0 c (omega arith) (omega arith)) (ap (isMarked seen) e)
+
+  pub stood-marked : {m b : Bool} → m ≡ isMarked seen c → m ≡ b → stoodIn seen 0 c ≡ b
+  stood-marked e f = whole-stood ∙ sym e ∙ f
+
+  pub noted-marked : {next : List ℕ} → next ≡ marking seen c → next ≡ noting seen 0 c
+  noted-marked e = let back : c - 0 ≡ c = omega arith in rw (stretch-in 0 c (omega arith) (omega arith)) (e ∙ ap (marking seen) (sym back))
+
+  whole-lacked : length seen ≡ 8192 → (r : ℕ) → r < span → Dec (r ≡ c) → lackedIn seen 0 c r ≡ not (isMarked (marking seen c) r)
+  whole-lacked long r k (yes e) =
+      let within : c / 64 < length seen = omega arith in
+      rw (eq-eqb r c e, e, marked-same seen c within)
+  whole-lacked long r k (no d) =
+      let within : c / 64 < length seen = omega arith in
+      let back : r - 0 ≡ r = omega arith in
+      rw (ne-eqb r c d, stretch-in 0 r (omega arith) (omega arith), back, marked-other seen c within r d)
+
+  pub lacked-marked : length seen ≡ 8192 → (r : ℕ) → r < span → {next : List ℕ} {m b : Bool} → next ≡ marking seen c → m ≡ not (isMarked next r) → m ≡ b → lackedIn seen 0 c r ≡ b
+  lacked-marked long r k e f g = whole-lacked long r k (ℕ-discrete r c) ∙ ap (λ (s : List ℕ). not (isMarked s r)) (sym e) ∙ sym f ∙ g
+
 -- the stretches one after another
 pub scans-none : {n : ℕ} {recv list : List ℕ} → Scanned n recv list 0 0 n n
 scans-none =

@@ -177,17 +177,7 @@ fn slide_block(
             total: totals[i],
             greatest: greatest[i],
         };
-        slide_inside(
-            size,
-            os,
-            ts,
-            hmap,
-            out,
-            strength,
-            water,
-            x + i + y * w,
-            s,
-        );
+        slide_inside(size, os, ts, hmap, out, strength, water, x + i + y * w, s);
         i += 1;
     }
 }
@@ -219,18 +209,7 @@ fn slide_inner_cells(
     let mut i: usize = 0;
     while i < n {
         let some = block_of(n - i);
-        slide_block(
-            size,
-            os,
-            ts,
-            hmap,
-            out,
-            strength,
-            water,
-            y,
-            1 + i,
-            some,
-        );
+        slide_block(size, os, ts, hmap, out, strength, water, y, 1 + i, some);
         i += some;
     }
 }
