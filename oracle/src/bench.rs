@@ -127,7 +127,8 @@ fn route(side: usize) {
 }
 
 /// One incision along the flood's network with the source's k for strength 0.6: areas along the list, a copy of the heights, the cut.
-/// The library's call also checks the lent receivers and the list, and every height before and after.
+/// The library's call also checks the lent receivers and the list, and every height before and after; `incise_into` is the incision
+/// without those checks, as a run does it.
 fn incise(side: usize) {
     let size = (side, side);
     let s = Incision { k: 8.0 * 0.6 * (side as f32 / 512.0), uplift: 0.0, water_level: WATER };
@@ -137,18 +138,29 @@ fn incise(side: usize) {
         let (recv, order) = (net.recv.clone(), net.order.clone());
         let (mut ours, mut theirs, mut area) = (vec![0.0; h.len()], vec![0.0; h.len()], vec![0.0; h.len()]);
         let params = incision_params(s.k, s.uplift, s.water_level);
+        let mut source = || {
+            theirs.copy_from_slice(&h);
+            accumulate(&mut net);
+            fluvial::incise(size, &mut theirs, &net, &params);
+        };
         row(
             "incise",
             side,
             kind,
             &mut || assert!(calls::incise(size, &h, &s, &recv, &order, &mut ours, &mut area) == 0),
-            &mut || {
-                theirs.copy_from_slice(&h);
-                accumulate(&mut net);
-                fluvial::incise(size, &mut theirs, &net, &params);
-            },
+            &mut source,
         );
+        let called = ours.clone();
+        row(
+            "incise_into",
+            side,
+            kind,
+            &mut || calls::incise_into(size, &h, &s, &recv, &order, &mut ours, &mut area),
+            &mut source,
+        );
+        same_floats("heights", &called, &theirs);
         same_floats("heights", &ours, &theirs);
+        same_floats("areas", &area, &net.area);
     }
 }
 

@@ -4,9 +4,12 @@ use fluvial_erosion::FluvialParams;
 use grid::Sides;
 use thermal_erosion::ThermalParams;
 ghost use mathlib.Core.Path.{_≡_};
+ghost use Prim.Native.Nat.{_*_};
+ghost use lib.ListN.{length};
 ghost use Rattle.answers.specs.Outcome.{numberIn, answerOf};
 ghost use Rattle.flow.specs.Route.{Routed};
 ghost use Rattle.fluvial_erosion.specs.Incise.{InciseMade};
+ghost use Rattle.fluvial_erosion.specs.Along.{Drains, Lengths, Carved};
 ghost use Rattle.harness.specs.Exported.{Exported, SlideAnswered};
 
 // Document 01's number of an answer, 0 if it is no refusal.
@@ -72,6 +75,33 @@ pub extern "C" fn harness_incise(
         water_level,
     };
     number(fluvial_erosion::incise(size, hmap, params, recv, order, out, area))
+}
+
+// The incision alone, as a run does it with the network of its own routing: nothing is checked, so the caller owes what the checks would find.
+#[no_mangle]
+pub extern "C" fn harness_incise_into(
+    w: usize,
+    h: usize,
+    hmap: &[f32],
+    k: f32,
+    uplift: f32,
+    water_level: f32,
+    recv: &[u32],
+    order: &[u32],
+    out: &mut [f32],
+    area: &mut [f32],
+)
+    requires { ⌜ Drains w h (now recv) (now order) ⌝ }
+    requires { ⌜ Lengths (w * h) (length (now hmap)) (length (now out)) (length (now area)) ⌝ }
+    ensures { λ _. ⌜ Carved w h (now (hmap .entry)) (record { k = k; uplift = uplift; «water_level» = «water_level» }) (now (recv .entry)) (now (order .entry)) (now (out .exit)) (now (area .exit)) ⌝ }
+{
+    let size = Sides { w, h };
+    let params = FluvialParams {
+        k,
+        uplift,
+        water_level,
+    };
+    fluvial_erosion::incise_into(size, hmap, params, recv, order, out, area);
 }
 
 // A talus pass from the fresh record, reported from 0 to 1.

@@ -42,6 +42,24 @@ mod exported {
             area_len: usize,
         ) -> u32;
 
+        pub fn harness_incise_into(
+            w: usize,
+            h: usize,
+            hmap: *const f32,
+            hmap_len: usize,
+            k: f32,
+            uplift: f32,
+            water_level: f32,
+            recv: *const u32,
+            recv_len: usize,
+            order: *const u32,
+            order_len: usize,
+            out: *mut f32,
+            out_len: usize,
+            area: *mut f32,
+            area_len: usize,
+        );
+
         pub fn harness_slide_pass(
             w: usize,
             h: usize,
@@ -117,6 +135,39 @@ pub fn incise(
 ) -> u32 {
     unsafe {
         exported::harness_incise(
+            size.0,
+            size.1,
+            hmap.as_ptr(),
+            hmap.len(),
+            s.k,
+            s.uplift,
+            s.water_level,
+            recv.as_ptr(),
+            recv.len(),
+            order.as_ptr(),
+            order.len(),
+            out.as_mut_ptr(),
+            out.len(),
+            area.as_mut_ptr(),
+            area.len(),
+        )
+    }
+}
+
+/// The incision alone, as a run does it: receivers and list are those of a routing, and every slice holds the grid's cells.
+pub fn incise_into(
+    size: Sides,
+    hmap: &[f32],
+    s: &super::Incision,
+    recv: &[u32],
+    order: &[u32],
+    out: &mut [f32],
+    area: &mut [f32],
+) {
+    let n = size.0 * size.1;
+    assert!([hmap.len(), recv.len(), order.len(), out.len(), area.len()] == [n; 5]);
+    unsafe {
+        exported::harness_incise_into(
             size.0,
             size.1,
             hmap.as_ptr(),
