@@ -18,36 +18,15 @@ use Rattle.drainage.specs.Ways.{areasAlong}
 use Rattle.ways.specs.Apart.{apart}
 use Rattle.ways.proofs.DistanceLaws.{distance-is}
 use Rattle.lent.proofs.ReceiverLaws.{good-is}
-use Rattle.rates.specs.Rate.{rateOf}
-use Rattle.steps.specs.Step.{distanceTable, placeOf, Near}
-use Rattle.steps.proofs.PlaceLaws.{place-holds, near-of}
-use Rattle.fluvial_erosion.specs.Incision.{solved, incisedHeight, incisedAt, inciseAlong, incisedBy}
-use Rattle.fluvial_erosion.specs.Along.{drainedTo, cutAt, CellOf, Prepared, Drains, Carved}
+use Rattle.cuts.specs.Cut.{drainedTo, cutAt, CellOf}
+use Rattle.steps.proofs.PlaceLaws.{near-of}
+use Rattle.fluvial_erosion.specs.Incision.{incisedHeight, incisedAt, inciseAlong, incisedBy}
+use Rattle.fluvial_erosion.specs.Along.{Drains, Carved}
 use Rattle.fluvial_erosion.specs.declared.FluvialParams.{FluvialParams}
-
--- the place of a step in the table
-place-distance : {w i r place : ℕ} {ds : List Float} → Near w i r → ds ≡ distanceTable → place ≡ placeOf w i r → getD ds place nan ≡ apart w i r
-place-distance near e g = rw (e, g) (place-holds near .1)
-
-pub place-few : {w i r place : ℕ} → Near w i r → place ≡ placeOf w i r → place < 5
-place-few near g = rw g (place-holds near .0)
-
--- the two ends of `incise_cell`
-module _ (w : ℕ) (p : FluvialParams) (n : Float) (areas : List Float) (recv : List ℕ) (hs : List Float) (c : ℕ) where
-  pub cell-sea : le (getD hs c nan) (p .«water_level») ≡ true → hs ≡ set hs c (cutAt w p n areas recv hs c)
-  cell-sea e = rw e (sym (set-getD hs c nan))
-
-  pub cell-cut : {m place : ℕ} {rates ds : List Float} {rate down : Float} → le (getD hs c nan) (p .«water_level») ≡ false → CellOf w areas recv hs c
-      → Prepared m n (p .k) rates ds → place ≡ placeOf w c (getD recv c 0) → rate ≡ rateOf (getD areas c nan) n (p .k)
-      → down ≡ drainedTo c (getD recv c 0) (getD hs (getD recv c 0) nan) (p .«water_level»)
-      → set hs c (solved (getD hs c nan) (p .uplift) (div binary32 rate (getD ds place nan)) down) ≡ set hs c (cutAt w p n areas recv hs c)
-  cell-cut {m} {place} {rates} {ds} e a q g b f =
-      let d : getD ds place nan ≡ apart w c (getD recv c 0) = place-distance (a .step) (q .apart-by) g in
-      rw (e, f, b, d)
 
 -- the code's distance is that of the ground
 module _ {w h : ℕ} {recv list : List ℕ} (drains : Drains w h recv list) (p : FluvialParams) (ground areas hs : List Float) (c : ℕ) (l : c < w * h) where
-  cut-is : cutAt w p (ofInt binary32 (pos (w * h))) areas recv hs c ≡ incisedAt (gridGround w h (p .«water_level») ground) p areas recv hs c
+  cut-is : cutAt w (p .k) (p .uplift) (p .«water_level») (ofInt binary32 (pos (w * h))) areas recv hs c ≡ incisedAt (gridGround w h (p .«water_level») ground) p areas recv hs c
   cut-is =
       ap
       (λ (d : Float). incisedHeight p (w * h) (getD areas c nan) d (getD hs c nan) (drainedTo c (getD recv c 0) (getD hs (getD recv c 0) nan) (p .«water_level»)))
@@ -76,7 +55,7 @@ module _ {w h : ℕ} {p : FluvialParams} {areas : List Float} {recv list : List 
 
   module _ {i : ℕ} {hs : List Float} (s : Incising w h p areas recv list start i hs) where
     pub incising-more : Drains w h recv list → i < length list → {next : List Float}
-        → next ≡ set hs (getD list i 0) (cutAt w p (ofInt binary32 (pos (w * h))) areas recv hs (getD list i 0)) → Incising w h p areas recv list start (i + 1) next
+        → next ≡ set hs (getD list i 0) (cutAt w (p .k) (p .uplift) (p .«water_level») (ofInt binary32 (pos (w * h))) areas recv hs (getD list i 0)) → Incising w h p areas recv list start (i + 1) next
     unfolding inciseAlong
     incising-more drains l {next} e =
         let c : ℕ = getD list i 0 in

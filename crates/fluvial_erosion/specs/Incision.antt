@@ -7,22 +7,13 @@ use mathlib.Core.List.{List, [], _∷_}
 use lib.ListN.{getD, set}
 use lib.IntN.{pos}
 use lib.Dec.{eqb}
-use lib.Ieee.{Float, nan, binary32, ofBits, ofInt, add, mul, div, le}
+use lib.Ieee.{Float, nan, binary32, ofInt, le}
 use Rattle.floats.specs.Stand.{maxOf}
-use Rattle.rates.specs.Rate.{rateOf}
+pub use Rattle.cuts.specs.Cut.{incisionCoef, solved}
 use Rattle.drainage.specs.Ground.{Ground}
 use Rattle.drainage.specs.Receivers.{distanceTo}
 use Rattle.drainage.specs.Ways.{areasAlong}
 use Rattle.fluvial_erosion.specs.declared.FluvialParams.{FluvialParams}
-
--- k × root(max(area, 1e-4 × n) / n) / d
-abbrev pub incisionCoef : Float → Float → Float → Float → Float
-incisionCoef area n k d = div binary32 (rateOf area n k) d
-
--- (height + uplift + c × H) / (1 + c)
-abbrev pub solved : Float → Float → Float → Float → Float
-solved height uplift c down =
-    div binary32 (add binary32 (add binary32 height uplift) (mul binary32 c down)) (add binary32 (ofBits binary32 0x3f80_0000) c)
 
 -- the height of a cell after its incision, from its own height, its area, the distance to its receiver and the height H to drain to
 abbrev pub incisedHeight : FluvialParams → ℕ → Float → Float → Float → Float → Float

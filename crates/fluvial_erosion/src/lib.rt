@@ -3,73 +3,33 @@
 use answers::Answer;
 use answers::Refusal;
 use answers::outside;
+use cuts::incise_cell;
 use floats::is_finite;
-use floats::max;
 use grid::Sides;
 use grid::all_finite;
 use grid::bad_sides;
 use grid::first_not_finite;
 use lent::first_bad_entry;
 use lent::first_bad_receiver;
-use rates::rate_at;
 use rates::table;
 use rates::table_size;
 use steps::distances;
-use steps::step_place;
 use thermal_erosion::copy_heights;
 use ways::accumulate;
 ghost use mathlib.Core.Path.{_≡_};
-ghost use Prim.Native.Nat.{_*_, _<_};
-ghost use lib.ListN.{length, set};
+ghost use Prim.Native.Nat.{_*_};
+ghost use lib.ListN.{length};
 ghost use Rattle.drainage.specs.Ground.{gridGround};
 ghost use Rattle.fluvial_erosion.specs.Incision.{inciseAlong};
 ghost use Rattle.answers.specs.Outcome.{gives, refused, refusedAt, answerOf};
 ghost use Rattle.fluvial_erosion.specs.Incise.{badLengths, badIncision, inciseRefusal, InciseMade};
-ghost use Rattle.fluvial_erosion.specs.Along.{drainedTo, cutAt, CellOf, Prepared, Drains, Lengths, Carved};
+ghost use Rattle.fluvial_erosion.specs.Along.{Drains, Lengths, Carved};
 
 // The settings of an incision on its grid.
 pub struct FluvialParams {
     pub k: f32,
     pub uplift: f32,
     pub water_level: f32,
-}
-
-// The height that cell c drains to: the water level if it is its own receiver, and never less.
-fn drains_to(c: usize, r: usize, below: f32, water: f32) -> f32
-    ensures { λ h. ⌜ h ≡ drainedTo c r below water ⌝ }
-{
-    if r == c {
-        return water;
-    }
-    max(below, water)
-}
-
-// Incises one cell, from the heights as they stand. A cell that is not above the water is skipped. `rates` has the rates of the whole areas below m.
-fn incise_cell(
-    size: Sides,
-    params: FluvialParams,
-    n_cells: f32,
-    rates: &[f32; 1024],
-    m: usize,
-    ds: &[f32; 5],
-    area: &[f32],
-    recv: &[u32],
-    out: &mut [f32],
-    c: usize,
-)
-    requires { ⌜ CellOf (size .w) (now area) (now recv) (now out) c ⌝ }
-    requires { ⌜ Prepared m «n_cells» (params .k) (now rates) (now ds) ⌝ }
-    ensures { λ _. ⌜ now (out .exit) ≡ set (now (out .entry)) c (cutAt (size .w) params «n_cells» (now (area .entry)) (now (recv .entry)) (now (out .entry)) c) ⌝ }
-{
-    let height = out[c];
-    if height <= params.water_level {
-        return;
-    }
-    let r = recv[c] as usize;
-    let d = ds[step_place(c, r, size.w)];
-    let coef = rate_at(rates, m, area[c], n_cells, params.k) / d;
-    let down = drains_to(c, r, out[r], params.water_level);
-    out[c] = (height + params.uplift + coef * down) / (1.0 + coef);
 }
 
 // Incises every cell of `out`, forward along the list, by areas that are given.
@@ -94,8 +54,10 @@ pub fn incise_along(
     let mut i: usize = 0;
     while i < len {
         incise_cell(
-            size,
-            params,
+            size.w,
+            params.k,
+            params.uplift,
+            params.water_level,
             n_cells,
             &rates,
             m,

@@ -4,7 +4,7 @@ use floats::max;
 use floats::to_bits;
 use square_root::root_of;
 ghost use mathlib.Core.Path.{_≡_};
-ghost use Prim.Native.Nat.{min, _≤_};
+ghost use Prim.Native.Nat.{_/_, min, _≤_};
 ghost use Rattle.rates.specs.Rate.{rateOf, ratesOf};
 
 // The rate of a cell draining `area` cells out of `n_cells`; areas below 1e-4 of the map share that floor's rate.
@@ -14,11 +14,12 @@ pub fn rate(area: f32, n_cells: f32, k: f32) -> f32
     k * root_of(max(area, 0.0001 * n_cells) / n_cells)
 }
 
-// How many whole areas, from 0 on, the table of a grid of n cells has.
+// How many whole areas, from 0 on, the table of a grid of n cells has: few next to n, so that making it costs little.
 pub fn table_size(n: usize) -> usize
-    ensures { λ r. ⌜ r ≡ min n 1024 ⌝ }
+    ensures { λ r. ⌜ r ≡ min (n / 16) 1024 ⌝ }
 {
-    if n < 1024 { n } else { 1024 }
+    let some = n / 16;
+    if some < 1024 { some } else { 1024 }
 }
 
 // The rates of the whole areas below m.

@@ -9,7 +9,7 @@ use Rattle.fluvial_erosion.proofs.incise_along.Statement.{statement}
 use Rattle.fluvial_erosion.proofs.incise_along.Tie as tie
 use Rattle.fluvial_erosion.proofs.incise_along.Reads as reads
 use Rattle.fluvial_erosion.proofs.incise_along.Lts as lts
-use Rattle.fluvial_erosion.proofs.incise_cell.Reads as incise-cell-reads
+use Rattle.cuts.proofs.incise_cell.Reads as incise-cell-reads
 use Rattle.rates.proofs.table.Reads as table-reads
 use Rattle.rates.proofs.table_size.Reads as table-size-reads
 use Rattle.steps.proofs.distances.Reads as distances-reads

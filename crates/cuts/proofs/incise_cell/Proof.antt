@@ -1,11 +1,11 @@
 use native.Mathlib.Omega.{arith}
-use Rattle.fluvial_erosion.proofs.CellLaws.{cell-sea, cell-cut, place-few}
+use Rattle.cuts.proofs.CellLaws.{cell-sea, cell-cut, place-few}
 use borrow.Author.Needs.{needs}
-use Rattle.fluvial_erosion.proofs.incise_cell.Statement.{statement}
-use Rattle.fluvial_erosion.proofs.incise_cell.Tie as tie
-use Rattle.fluvial_erosion.proofs.incise_cell.Reads as reads
-use Rattle.fluvial_erosion.proofs.incise_cell.Lts as lts
-use Rattle.fluvial_erosion.proofs.drains_to.Reads as drains-to-reads
+use Rattle.cuts.proofs.incise_cell.Statement.{statement}
+use Rattle.cuts.proofs.incise_cell.Tie as tie
+use Rattle.cuts.proofs.incise_cell.Reads as reads
+use Rattle.cuts.proofs.incise_cell.Lts as lts
+use Rattle.cuts.proofs.drains_to.Reads as drains-to-reads
 use Rattle.rates.proofs.rate_at.Reads as rate-at-reads
 use Rattle.steps.proofs.step_place.Reads as step-place-reads
 
@@ -19,7 +19,7 @@ slice-read-height c = search needs
 
 -- src/lib.rt:66:9
 returns : tie.Need-returns
-returns c = let a = c .before .before .before .before .before .before .args in cell-sea (a .size .w) (a .params) (a .n-cells) (a .area .now) (a .recv .now) (a .out .now) (a .c) (c .if1 .taken)
+returns c = let a = c .before .before .before .before .before .args in cell-sea (a .width) (a .k) (a .uplift) (a .water) (a .n-cells) (a .area .now) (a .recv .now) (a .out .now) (a .c) (c .if1 .taken)
 
 -- src/lib.rt:68:13
 mul-r : tie.Need-mul-r
@@ -39,11 +39,11 @@ step-place-requires c κs = search needs
 
 -- src/lib.rt:69:13
 mul-d : tie.Need-mul-d
-mul-d c = omega (arith, place-few (c .before .before .before .before .before .before .before .before .pre .0 .step) (c .step-place .ensures))
+mul-d c = omega (arith, place-few (c .before .before .before .before .before .before .before .pre .0 .step) (c .step-place .ensures))
 
 -- src/lib.rt:69:13
 element-copy-out-d : tie.Need-element-copy-out-d
-element-copy-out-d c = place-few (c .before .before .before .before .before .before .before .before .pre .0 .step) (c .step-place .ensures)
+element-copy-out-d c = place-few (c .before .before .before .before .before .before .before .pre .0 .step) (c .step-place .ensures)
 
 -- src/lib.rt:70:34
 mul-rate-at : tie.Need-mul-rate-at
@@ -83,7 +83,7 @@ same-length c = search needs
 
 -- src/lib.rt:48:1
 returns-2 : tie.Need-returns-2
-returns-2 c = let a = c .before .before .before .before .before .before .before .before .before .before .before .before .before .before .args in cell-cut (a .size .w) (a .params) (a .n-cells) (a .area .now) (a .recv .now) (a .out .now) (a .c) (c .before .before .before .before .before .before .before .before .if1 .left) (c .before .before .before .before .before .before .before .before .before .before .before .before .before .before .pre .0) (c .before .before .before .before .before .before .before .before .before .before .before .before .before .before .pre .1) (c .before .before .before .before .before .before .step-place .ensures) (c .before .before .before .rate-at .ensures) (c .before .drains-to .ensures)
+returns-2 c = let a = c .before .before .before .before .before .before .before .before .before .before .before .before .args in cell-cut (a .width) (a .k) (a .uplift) (a .water) (a .n-cells) (a .area .now) (a .recv .now) (a .out .now) (a .c) (c .before .before .before .before .before .before .before .if1 .left) (c .before .before .before .before .before .before .before .before .before .before .before .before .pre .0) (c .before .before .before .before .before .before .before .before .before .before .before .before .pre .1) (c .before .before .before .before .before .step-place .ensures) (c .before .before .rate-at .ensures) (c .drains-to .ensures)
 
 pub incise-cell-spec : {M : Type 1} → statement M
 incise-cell-spec =

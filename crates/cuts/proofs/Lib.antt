@@ -1,0 +1,2 @@
+-- Laws of one cell.
+pub mod CellLaws

@@ -1,0 +1,2 @@
+-- The incision of one cell.
+pub mod Cut
