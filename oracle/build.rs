@@ -104,7 +104,7 @@ fn main() {
     }
 }
 
-/// The archives that `rt staticlib` writes of the crates that export calls, for the bench alone.
+/// The archives that `rt staticlib` writes of the crates that export calls, for the bench and the peer alone.
 fn link_harness() {
     for name in ["harness", "harness_runs"] {
         let archive = Path::new(&env::var("CARGO_MANIFEST_DIR").expect("CARGO_MANIFEST_DIR"))
@@ -113,7 +113,9 @@ fn link_harness() {
         if !archive.is_file() {
             panic!("{} is not there: run `rt staticlib {name}`", archive.display());
         }
-        println!("cargo:rustc-link-arg-bin=bench={}", archive.display());
+        for program in ["bench", "peer"] {
+            println!("cargo:rustc-link-arg-bin={program}={}", archive.display());
+        }
     }
 }
 
