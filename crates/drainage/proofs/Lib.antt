@@ -9,7 +9,6 @@ pub mod StateLaws
 pub mod FloodLaws
 pub mod NetworkLaws
 pub mod GroundLaws
-pub mod PlateLaws
 pub mod CountLaws
 pub mod TrailLaws
 pub mod WorkListLaws

@@ -1,6 +1,5 @@
 -- Laws of the definitions in specs/.
 pub mod SettleLaws
 pub mod IndependenceLaws
-pub mod PlateLaws
 pub mod CellLaws
 pub mod RefusalLaws

@@ -2,4 +2,3 @@
 pub mod PassLaws
 pub mod CopyLaws
 pub mod SlideLaws
-pub mod PlateLaws

@@ -1,3 +1,2 @@
 -- Document 01, 'Talus': the pass and its public call.
 pub mod SlidePass
-pub mod Plates
