@@ -1,6 +1,6 @@
 //! The oracle: the published Rust source behind document 01's refusals. `oracle lists CRATES` writes the replay lists into
 //! the crates folder, `oracle verify CRATES` says whether the files there are those lists, and `oracle powf` counts the
-//! floats on which `powf` with 0.5 is not the square root.
+//! floats on which `powf` with 0.5 is not the square root. `oracle relief` answers the stream on standard input as document 01's program does.
 mod incisions;
 mod list;
 mod maps;
@@ -18,6 +18,7 @@ mod standins;
 mod streams;
 mod terrain;
 
+use std::io::{Read, Write};
 use std::path::Path;
 use std::process::ExitCode;
 
@@ -48,6 +49,15 @@ fn main() -> ExitCode {
                 }
             }
             println!("the lists stand as the oracle makes them");
+            ExitCode::SUCCESS
+        }
+        ["relief"] => {
+            let mut input = Vec::new();
+            let read = std::io::stdin().read_to_end(&mut input);
+            let done = read.and_then(|_| std::io::stdout().write_all(&rules::streams::relief(&input).bytes));
+            if done.is_err() {
+                return ExitCode::FAILURE;
+            }
             ExitCode::SUCCESS
         }
         ["powf"] => {
