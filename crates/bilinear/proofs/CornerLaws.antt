@@ -17,11 +17,11 @@ use Rattle.bilinear.specs.Places.{Grid}
 use Rattle.bilinear.specs.Samples.{asSource, northEast, southWest, southEast, between, bilinearAt, bilinearOf}
 
 -- row y ends within the grid
-rows : (w h y : ℕ) → y < h → y * w + w ≤ w * h
-rows w h y l = let m : (y + 1) * w ≤ h * w = mul-le-mul-right w (omega arith) in omega (arith, mul-comm w h)
+pub row-end : (w h y : ℕ) → y < h → y * w + w ≤ w * h
+row-end w h y l = let m : (y + 1) * w ≤ h * w = mul-le-mul-right w (omega arith) in omega (arith, mul-comm w h)
 
 pub place-fits : {w h x y : ℕ} → Place w h x y → (y * w + w ≤ w * h) × (w * h ≤ 2 ^ 24)
-place-fits {w} {h} {x} {y} p = (rows w h y (p .row), cells-bound w h (p .wide) (p .high))
+place-fits {w} {h} {x} {y} p = (row-end w h y (p .row), cells-bound w h (p .wide) (p .high))
 
 module _ {w h x y : ℕ} (p : Place w h x y) where
   pub nw-in : x + y * w < w * h
@@ -38,14 +38,14 @@ module _ {w h x y : ℕ} (p : Place w h x y) where
   sw-in = go (ltb y (h - 1)) (ltb-true y (h - 1))
     where
       go : (b : Bool) → (b ≡ true → y < h - 1) → cond b (x + (y + 1) * w) (x + y * w) < w * h
-      go true l = let m : y < h - 1 = l refl in omega (arith, p .column, rows w h (y + 1) (omega arith))
+      go true l = let m : y < h - 1 = l refl in omega (arith, p .column, row-end w h (y + 1) (omega arith))
       go false l = nw-in
 
   pub se-in : southEast asSource w h x y < w * h
   se-in = go (ltb x (w - 1)) (ltb y (h - 1)) (ltb-true x (w - 1)) (ltb-true y (h - 1))
     where
       go : (a b : Bool) → (a ≡ true → x < w - 1) → (b ≡ true → y < h - 1) → cond (a && b) (x + 1 + (y + 1) * w) (x + y * w) < w * h
-      go true true l m = let n : y < h - 1 = m refl in omega (arith, l refl, rows w h (y + 1) (omega arith))
+      go true true l m = let n : y < h - 1 = m refl in omega (arith, l refl, row-end w h (y + 1) (omega arith))
       go true false l m = nw-in
       go false b l m = nw-in
 
@@ -76,7 +76,7 @@ sample-by v w h x y {i} {j} {dx} {dy} a b c d e =
 
 -- row y of a grid lies within its values, which are few
 pub grid-row : {w h len y : ℕ} → Grid w h len → y < h → (y * w + w ≤ len) × (len ≤ 2 ^ 24)
-grid-row {w} {h} {len} {y} g l = omega (arith, rows w h y l, cells-bound w h (g .w-high) (g .h-high), g .size)
+grid-row {w} {h} {len} {y} g l = omega (arith, row-end w h y l, cells-bound w h (g .w-high) (g .h-high), g .size)
 
 pub grid-good : (w h len : ℕ) → badSides w h ≡ false → not (eqb len (w * h)) ≡ false → Grid w h len
 grid-good w h len e f =

@@ -9,9 +9,8 @@ use native.Mathlib.Omega.{arith}
 use lib.ListN.{length, getD, set}
 use lib.Dec.{eqb}
 use lib.Ieee.{Float, nan, binary32, sub}
-use Rattle.lists.specs.Loops.{tabulate}
 use Rattle.lists.proofs.TurnLaws.{turns-keep}
-use Rattle.lists.proofs.TableLaws.{filled, filled-none, filled-length, filled-more, filled-done, filled-ahead}
+use Rattle.lists.proofs.FillLaws.{Filling, filling-more, filling-next, filling-done}
 use Rattle.grid.specs.Heights.{allFinite}
 use Rattle.generators.specs.Marks.{reportOf}
 use Rattle.generators.specs.declared.Progress.{Progress}
@@ -126,34 +125,16 @@ module _ (hs : List Float) (r : Reached) {new : List Float} {m : Progress} {p : 
   pass-off {all} {x} on a t f = made-off hs r m new completed x on all a t f ∙ ap (afterPass hs r) e
 
 -- the loop that takes the difference: after i turns the first i places hold it
-pub record Subtracted (small old : List Float) (i : ℕ) (new : List Float) : Type 0 where
-  pub within : i ≤ length old
-  pub held : new ≡ filled (λ k. sub binary32 (getD old k nan) (getD small k nan)) i old
+abbrev pub subtracted : List Float → List Float → ℕ → Float
+subtracted old small k = sub binary32 (getD old k nan) (getD small k nan)
 
-module _ {small old : List Float} where
-  pub subtracted-none : Subtracted small old 0 old
-  subtracted-none = record { within = omega arith; held = filled-none (λ k. sub binary32 (getD old k nan) (getD small k nan)) old }
+module _ (old small : List Float) {new : List Float} {i : ℕ} (s : Filling (subtracted old small) i old new) where
+  pub subtracted-more : i < length old → Filling (subtracted old small) (i + 1) old (set new i (sub binary32 (getD new i nan) (getD small i nan)))
+  subtracted-more l = filling-more s (ap (λ (x : Float). sub binary32 x (getD small i nan)) (filling-next s nan)) l
 
-  module _ {i : ℕ} {new : List Float} (s : Subtracted small old i new) where
-    pub subtracted-length : length new ≡ length old
-    subtracted-length = ap length (s .held) ∙ filled-length (λ k. sub binary32 (getD old k nan) (getD small k nan)) i old (s .within)
-
-    pub subtracted-more : i < length old → Subtracted small old (i + 1) (set new i (sub binary32 (getD new i nan) (getD small i nan)))
-    subtracted-more l = record {
-      within = omega arith;
-      held =
-          ap (λ (l : List Float). set l i (sub binary32 (getD l i nan) (getD small i nan))) (s .held)
-          ∙ ap (λ (x : Float). set (filled (λ k. sub binary32 (getD old k nan) (getD small k nan)) i old) i (sub binary32 x (getD small i nan)))
-          (filled-ahead (λ k. sub binary32 (getD old k nan) (getD small k nan)) i i old nan (omega arith))
-          ∙ filled-more (λ k. sub binary32 (getD old k nan) (getD small k nan)) i old l;
-    }
-
-    pub subtracted-done : length old ≡ length small → length small ≤ i → new ≡ differenceOf old small
-    unfolding differenceOf
-    subtracted-done n l =
-        let e : i ≡ length small = omega (arith, s .within) in
-        s .held ∙ filled-done (λ k. sub binary32 (getD old k nan) (getD small k nan)) i old (n ∙ sym e)
-        ∙ ap (λ (k : ℕ). tabulate k (λ k. sub binary32 (getD old k nan) (getD small k nan))) e
+  pub subtracted-done : length old ≡ length small → length small ≤ i → new ≡ differenceOf old small
+  unfolding differenceOf
+  subtracted-done n l = filling-done s (length small) n l
 
 -- every state of a run has one of the three numbers
 module _ (c : Course) where

@@ -6,14 +6,13 @@ use mathlib.Core.List.{List}
 use lib.ListN.{length}
 use lib.Ieee.{Float}
 use lib.Ieee.Scale.{finite}
-use borrow.Author.Tests.{eq-eqb, ne-eqb, eqb-true, ltb-false, not-true, not-false}
+use borrow.Author.Tests.{eqb-true, ltb-false, not-true, not-false}
 use Rattle.answers.specs.Outcome.{Outcome, gives, refused, refusedAt, answerOf}
 use Rattle.answers.specs.declared.Answer.{Answer}
-use Rattle.answers.specs.declared.Refusal.{Refusal}
-use Rattle.answers.specs.declared.Refusal.the-variants.{Side, ReducedSide, Length, Setting, Height, Receiver, List as ListAt, Stream, Cells, Stopped, RunOff}
 use Rattle.grid.specs.Sides.{badSides}
 use Rattle.grid.specs.Heights.{firstNotFinite, allFinite}
-use Rattle.grid.proofs.SidesLaws.{good-sides}
+use Rattle.answers.proofs.OutcomeLaws.{given}
+use Rattle.grid.proofs.SidesLaws.{good-sides, neither}
 use Rattle.flood.specs.Slices.{Accepted}
 use Rattle.flow.specs.declared.Lent.{Lent}
 use Rattle.flow.specs.Route.{floodOf, orderOf, receiversOf, areasOf, lentOf, badLengths, routeAnswer, accepted, Enough, Holding, Routed}
@@ -21,35 +20,12 @@ use Rattle.flow.specs.Route.{floodOf, orderOf, receiversOf, areasOf, len
 abbrev byTests : Bool → Bool → Bool → Bool → ℕ → Outcome (Unit {0})
 byTests s l f a k = cond s (refused 1) (cond l (refused 3) (cond f (cond a (gives tt) (refusedAt 5 k)) (refused 4)))
 
--- whether an outcome is no refusal
-abbrev pub given : Outcome (Unit {0}) → Bool
-given (gives u) = true
-given (refused n) = false
-given (refusedAt n c) = false
-
 given-is : (s l f a : Bool) (k : ℕ) → given (byTests s l f a k) ≡ (not s && (not l && (f && a)))
 given-is true l f a k = refl
 given-is false true f a k = refl
 given-is false false true true k = refl
 given-is false false true false k = refl
 given-is false false false a k = refl
-
-pub refused-not : (r : Refusal) → given (answerOf (Answer.Refused r)) ≡ false
-refused-not Side = refl
-refused-not ReducedSide = refl
-refused-not Length = refl
-refused-not Setting = refl
-refused-not (Height c) = refl
-refused-not (Receiver c) = refl
-refused-not (ListAt p) = refl
-refused-not Stream = refl
-refused-not Cells = refl
-refused-not Stopped = refl
-refused-not RunOff = refl
-
-neither : (a b : Bool) → (a || b) ≡ false → (a ≡ false) × (b ≡ false)
-neither true b e = absurd (true≢false e)
-neither false b e = (refl, e)
 
 both : (a b : Bool) → (a && b) ≡ true → (a ≡ true) × (b ≡ true)
 both true b e = (refl, e)
@@ -103,15 +79,6 @@ module _ (w h : ℕ) (hs : List Float) (water : Float) (l : Lent) (e : accepted 
     cells = sym n ∙ accepted-enough .heights;
     finites = both (finite water) (allFinite hs) (past-lengths .1) .1;
   }
-
--- finite heights, by the first that is not
-pub all-finite : (hs : List Float) (n bad : ℕ) → length hs ≡ n → bad ≡ firstNotFinite hs → bad ≡ n → allFinite hs ≡ true
-unfolding allFinite
-all-finite hs n bad e f z = eq-eqb (firstNotFinite hs) (length hs) (sym f ∙ z ∙ sym e)
-
-pub not-all-finite : (hs : List Float) (n bad : ℕ) → length hs ≡ n → bad ≡ firstNotFinite hs → (bad ≡ n → ⊥) → allFinite hs ≡ false
-unfolding allFinite
-not-all-finite hs n bad e f d = ne-eqb (firstNotFinite hs) (length hs) (λ z. d (f ∙ z ∙ e))
 
 chosen : {A : Type 0} (b : Bool) (x y : A) → b ≡ true → x ≡ cond b x y
 chosen b x y e = sym (ap (λ t. cond t x y) e)

@@ -8,14 +8,14 @@ use lib.ListN.{length, getD, drop}
 use lib.Dec.{eqb, ltb}
 use lib.Ieee.{Float}
 use borrow.Author.Tests.{lt-ltb, le-ltb, ltb-false, eqb-true, not-false}
-use Rattle.answers.specs.Outcome.{Outcome, gives, refused, refusedAt, refusalOf, answerOf}
+use Rattle.answers.specs.Outcome.{Outcome, gives, refused, refusedAt, answerOf}
 use Rattle.answers.specs.declared.Answer.{Answer}
 use Rattle.answers.specs.declared.Refusal.{Refusal}
-use Rattle.answers.specs.declared.Refusal.the-variants.{Side, ReducedSide, Length, Setting, Height, Receiver, List as Listed, Stream, Cells, Stopped, RunOff}
 use Rattle.grid.specs.Sides.{badSides, InRange}
 use Rattle.grid.specs.Heights.{firstNotFinite, allFinite}
-use Rattle.grid.proofs.SidesLaws.{good-sides}
-use Rattle.generators.proofs.ExtentsLaws.{all-finite, not-all-finite}
+use Rattle.answers.proofs.OutcomeLaws.{given, refusal-given}
+use Rattle.grid.proofs.SidesLaws.{good-sides, neither}
+use Rattle.grid.proofs.HeightsLaws.{all-finite, not-all-finite}
 use Rattle.drainage.specs.Ways.{areasAlong}
 use Rattle.lent.specs.Lent.{firstBadReceiver, firstBadEntry, receiverTest, goodEntry}
 use Rattle.lent.specs.Seen.{Lengths}
@@ -32,43 +32,20 @@ byOutcome number at then (gives x) = then
 byOutcome number at then (refused k) = number k
 byOutcome number at then (refusedAt k c) = at k c
 
-gave : Outcome (Unit {0}) → Bool
-gave (gives x) = true
-gave (refused k) = false
-gave (refusedAt k c) = false
-
-refusal-gives : (q : Refusal) → gave (refusalOf q) ≡ false
-unfolding gave
-refusal-gives Side = refl
-refusal-gives ReducedSide = refl
-refusal-gives Length = refl
-refusal-gives Setting = refl
-refusal-gives (Height c) = refl
-refusal-gives (Receiver c) = refl
-refusal-gives (Listed c) = refl
-refusal-gives Stream = refl
-refusal-gives Cells = refl
-refusal-gives Stopped = refl
-refusal-gives RunOff = refl
-
 -- a refusal is itself, and leaves what was there
-by-itself : (o : Outcome (Unit {0})) (then : Outcome (Unit {0})) → gave o ≡ false → byOutcome refused refusedAt then o ≡ o
-unfolding byOutcome gave
+by-itself : (o : Outcome (Unit {0})) (then : Outcome (Unit {0})) → given o ≡ false → byOutcome refused refusedAt then o ≡ o
+unfolding byOutcome
 by-itself (gives x) then e = absurd (true≢false e)
 by-itself (refused k) then e = refl
 by-itself (refusedAt k c) then e = refl
 
-by-staying : {A : Type 0} (x then : A) (o : Outcome (Unit {0})) → gave o ≡ false → byOutcome (λ _. x) (λ _ _. x) then o ≡ x
-unfolding byOutcome gave
+by-staying : {A : Type 0} (x then : A) (o : Outcome (Unit {0})) → given o ≡ false → byOutcome (λ _. x) (λ _ _. x) then o ≡ x
+unfolding byOutcome
 by-staying x then (gives y) e = absurd (true≢false e)
 by-staying x then (refused k) e = refl
 by-staying x then (refusedAt k c) e = refl
 
 -- ---- what one test says that let pass
-neither : (a b : Bool) → (a || b) ≡ false → (a ≡ false) × (b ≡ false)
-neither true b e = absurd (true≢false e)
-neither false b e = (refl, e)
-
 pub record Sized (n heights recv list result scratch : ℕ) : Type 0 where
   pub map : heights ≡ n
   pub receivers : recv ≡ n
@@ -182,14 +159,13 @@ module _ (w h : ℕ) (hs : List Float) (p : FluvialParams) (recv list : List ℕ
 
   -- an accepted input, from its outcome
   pub accepted : gives tt ≡ decided → Accepted
-  unfolding gave
   accepted e =
       go (badSides w h) refl (badLengths (w * h) (length hs) (length recv) (length list) result scratch) refl (badIncision p) refl (not (allFinite hs)) refl
-      (ltb (firstBadReceiver w h recv) (w * h)) refl (ltb (firstBadEntry (w * h) recv list) (w * h)) refl (ap gave e)
+      (ltb (firstBadReceiver w h recv) (w * h)) refl (ltb (firstBadEntry (w * h) recv list) (w * h)) refl (ap given e)
     where
       go : (a : Bool) → badSides w h ≡ a → (b : Bool) → badLengths (w * h) (length hs) (length recv) (length list) result scratch ≡ b → (c : Bool) → badIncision p ≡ c
           → (d : Bool) → not (allFinite hs) ≡ d → (f : Bool) → ltb (firstBadReceiver w h recv) (w * h) ≡ f → (g : Bool) → ltb (firstBadEntry (w * h) recv list) (w * h) ≡ g
-          → true ≡ gave (cond a (refused 1) (cond b (refused 3) (cond c (refused 4) (cond d (refusedAt 5 (firstNotFinite hs))
+          → true ≡ given {A = Unit {0}} (cond a (refused 1) (cond b (refused 3) (cond c (refused 4) (cond d (refusedAt 5 (firstNotFinite hs))
           (cond f (refusedAt 6 (firstBadReceiver w h recv)) (cond g (refusedAt 7 (firstBadEntry (w * h) recv list)) (gives tt)))))))
           → Accepted
       go true ea b eb c ec d ed f ef g eg t = absurd (true≢false t)
@@ -229,8 +205,8 @@ module _ (w h : ℕ) (hs : List Float) (p : FluvialParams) (recv list : List ℕ
         areas = sym (by-staying scratch _ (answerOf r) none) ∙ ap (byOutcome (λ _. scratch) (λ _ _. scratch) _) d ∙ natural w h hs p recv list (length old) (length scratch) (λ _. scratch) (λ _ _. scratch) _;
       }
     where
-      none : gave (answerOf r) ≡ false
-      none = ap (λ (r : Answer). gave (answerOf r)) e ∙ refusal-gives q
+      none : given (answerOf r) ≡ false
+      none = ap (λ (r : Answer). given (answerOf r)) e ∙ refusal-given q
 
   -- an accepted input is incised
   module _ (e : gives tt ≡ decided w h hs p recv list (length old) (length scratch)) where
@@ -251,5 +227,5 @@ module _ (w h : ℕ) (hs : List Float) (p : FluvialParams) (recv list : List ℕ
 pub answer-done : {all : Bool} (out : List Float) → all ≡ allFinite out → all ≡ true → answerOf Answer.Done ≡ cond (allFinite out) (gives tt) (refused 22)
 answer-done out a e = rw (sym a ∙ e)
 
-pub answer-off : {all : Bool} (out : List Float) → all ≡ allFinite out → all ≡ false → answerOf (Answer.Refused RunOff) ≡ cond (allFinite out) (gives tt) (refused 22)
+pub answer-off : {all : Bool} (out : List Float) → all ≡ allFinite out → all ≡ false → answerOf (Answer.Refused Refusal.RunOff) ≡ cond (allFinite out) (gives tt) (refused 22)
 answer-off out a e = rw (sym a ∙ e)

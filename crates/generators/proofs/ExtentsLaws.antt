@@ -5,15 +5,15 @@ use mathlib.Core.Bool.{true, false}
 use mathlib.Core.List.{List, [], _∷_, _++_, map}
 use native.Mathlib.Numerals.{add-one}
 use native.Mathlib.Omega.{arith}
-use borrow.Author.Tests.{eq-eqb, ne-eqb}
-use lib.ListN.{length, getD, take, set, length-map, List·getD-map}
+use lib.ListN.{length, getD, take, length-map, List·getD-map}
 use lib.Seq.{take-all, take-suc}
 use lib.Ieee.{Float, nan, binary32, ofBits}
 use lib.Ieee.Scale.{finite}
 use Rattle.lists.specs.Loops.{tabulate}
-use Rattle.lists.proofs.TableLaws.{filled, filled-none, filled-length, filled-more, filled-done, filled-ahead, tabulate-same, tabulate-getD}
-use Rattle.grid.specs.Heights.{firstNotFinite, allFinite, FiniteBelow, FirstBad}
-use Rattle.grid.proofs.HeightsLaws.{below-none, below-more, below-less, below-all, first-at}
+use Rattle.lists.proofs.TableLaws.{tabulate-same, tabulate-getD}
+use Rattle.lists.proofs.FillLaws.{Filling, filling-next, filling-done}
+use Rattle.grid.specs.Heights.{allFinite, FiniteBelow, FirstBad}
+use Rattle.grid.proofs.HeightsLaws.{below-none, below-more, below-less, below-all, first-at, not-all-finite}
 use Rattle.generators.specs.declared.MinMax.{MinMax}
 use Rattle.generators.specs.Extents.{widened, widenedBy, minMaxOf}
 
@@ -64,48 +64,12 @@ tabulate-map g l =
     ∙ ap (λ (n : ℕ). tabulate n (λ i. getD (map g l) i (g nan))) (sym (length-map l g))
     ∙ tabulate-getD (map g l) (g nan)
 
-module _ (g : Float → Float) (old : List Float) where
-  -- new holds g of each of the first i values, and the others as they were
-  pub record Stored (i : ℕ) (new : List Float) : Type 0 where
-    pub within : i ≤ length old
-    pub held : new ≡ filled (λ k. g (getD old k nan)) i old
+-- the pass that stores g of each value
+pub stored-next : (g : Float → Float) {i : ℕ} {old new : List Float} {x : Float} → Filling (λ k. g (getD old k nan)) i old new → x ≡ g (getD new i nan) → x ≡ g (getD old i nan)
+stored-next g p e = e ∙ ap g (filling-next p nan)
 
-  pub stored-none : Stored 0 old
-  stored-none = record { within = omega arith; held = filled-none (λ k. g (getD old k nan)) old }
-
-  pub stored-length : (i : ℕ) (new : List Float) → Stored i new → length new ≡ length old
-  stored-length i new s = ap length (s .held) ∙ filled-length (λ k. g (getD old k nan)) i old (s .within)
-
-  pub stored-more : (i : ℕ) (new : List Float) (x : Float) → Stored i new → i < length old → x ≡ g (getD new i nan) → Stored (i + 1) (set new i x)
-  stored-more i new x s h e =
-      record {
-        within = omega arith;
-        held =
-            ap (set new i) e
-            ∙ ap (λ (l : List Float). set l i (g (getD l i nan))) (s .held)
-            ∙ ap (λ (x : Float). set (filled f i old) i (g x)) (filled-ahead f i i old nan (omega arith))
-            ∙ filled-more f i old h;
-      }
-    where
-      f : ℕ → Float
-      f k = g (getD old k nan)
-
-  pub stored-done : (i : ℕ) (new : List Float) → Stored i new → length old ≤ i → new ≡ map g old
-  stored-done i new s h =
-      let e : i ≡ length old = omega (arith, s .within) in
-      s .held ∙ filled-done f i old (sym e) ∙ ap (λ (n : ℕ). tabulate n f) e ∙ tabulate-map g old
-    where
-      f : ℕ → Float
-      f k = g (getD old k nan)
-
--- the place that the search for a bad value gives, and its test
-pub all-finite : (hs : List Float) (c : ℕ) → c ≡ firstNotFinite hs → c ≡ length hs → allFinite hs ≡ true
-unfolding allFinite
-all-finite hs c e h = eq-eqb _ _ (sym e ∙ h)
-
-pub not-all-finite : (hs : List Float) (c : ℕ) → c ≡ firstNotFinite hs → (c ≡ length hs → ⊥) → allFinite hs ≡ false
-unfolding allFinite
-not-all-finite hs c e h = ne-eqb _ _ (λ q. h (e ∙ q))
+pub stored-done : (g : Float → Float) {i : ℕ} {old new : List Float} → Filling (λ k. g (getD old k nan)) i old new → length old ≤ i → new ≡ map g old
+stored-done g {i} {old} p l = filling-done p (length old) refl l ∙ tabulate-map g old
 
 -- the pass that tests g of each value, where each of the first i was finite
 module _ (g : Float → Float) where

@@ -12,7 +12,7 @@ use Rattle.answers.specs.declared.Refusal.{Refusal}
 use Rattle.grid.specs.Heights.{firstNotFinite, allFinite}
 use Rattle.generators.specs.declared.MinMax.{MinMax}
 use Rattle.generators.specs.Extents.{minMaxOf, slopeOf, scaledBy, normalizedOf, badTargets, NormalizeMade}
-use Rattle.generators.proofs.ExtentsLaws.{not-all-finite}
+use Rattle.grid.proofs.HeightsLaws.{not-all-finite}
 
 module _ (v : List Float) (lo hi : Float) where
   pub normalize-setting : badTargets lo hi ≡ true → NormalizeMade v lo hi (Answer.Refused Refusal.Setting) v

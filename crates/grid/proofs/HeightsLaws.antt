@@ -10,7 +10,7 @@ use lib.Seq.{getD-set-same, getD-set-other}
 use lib.Dec.{eqb, eqb·suc-suc, eqb·zero-suc}
 use lib.Ieee.{Float, nan}
 use lib.Ieee.Scale.{finite}
-use borrow.Author.Tests.{eq-eqb, eqb-true, eqb-false}
+use borrow.Author.Tests.{eq-eqb, ne-eqb, eqb-true, eqb-false}
 use lib.Arith.{lt-of-le-ne}
 use Rattle.grid.specs.Heights.{firstNotFinite, allFinite, FiniteBelow, FirstBad}
 
@@ -137,6 +137,15 @@ all-at hs e = all-below hs e .each
 pub not-all : (hs : List Float) → allFinite hs ≡ false → FirstBad hs (firstNotFinite hs)
 unfolding allFinite
 not-all hs e = first-bad hs (lt-of-le-ne (first-le hs) (eqb-false (firstNotFinite hs) (length hs) e))
+
+-- what the search for a bad height gives says whether there is one
+pub all-finite : (hs : List Float) (c : ℕ) → c ≡ firstNotFinite hs → c ≡ length hs → allFinite hs ≡ true
+unfolding allFinite
+all-finite hs c e h = eq-eqb _ _ (sym e ∙ h)
+
+pub not-all-finite : (hs : List Float) (c : ℕ) → c ≡ firstNotFinite hs → (c ≡ length hs → ⊥) → allFinite hs ≡ false
+unfolding allFinite
+not-all-finite hs c e h = ne-eqb _ _ (λ q. h (e ∙ q))
 
 pub all-cons : (x : Float) (xs : List Float) → allFinite (x ∷ xs) ≡ (finite x && allFinite xs)
 unfolding allFinite firstNotFinite

@@ -1,3 +1,4 @@
 -- Laws of the definitions in specs/Loops.antt.
 pub mod TurnLaws
 pub mod TableLaws
+pub mod FillLaws

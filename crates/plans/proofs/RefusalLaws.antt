@@ -1,7 +1,7 @@
 -- What a whole run refuses is what Refusals.antt says, and what an accepted input is known by.
 use Prim.Native.Nat.{ℕ, suc, _*_, _≤_}
 use mathlib.Core.Path.{_≡_, refl}
-use mathlib.Core.Bool.{Bool, true, false, not, _||_, cond, true≢false}
+use mathlib.Core.Bool.{Bool, true, false, not, _||_, cond}
 use mathlib.Core.List.{List}
 use native.Mathlib.Omega.{arith}
 use borrow.Author.Tests.{eqb-true, ltb-false, le-ltb, not-false}
@@ -11,7 +11,7 @@ use lib.Ieee.{Float}
 use Rattle.answers.specs.Outcome.{Outcome, gives, refused, refusedAt}
 use Rattle.grid.specs.Sides.{badSides}
 use Rattle.grid.specs.Heights.{firstNotFinite, allFinite}
-use Rattle.grid.proofs.SidesLaws.{good-sides}
+use Rattle.grid.proofs.SidesLaws.{good-sides, neither}
 use Rattle.runs.specs.Refusals.{refusalBy}
 use Rattle.plans.specs.Accepted.{refusalOn, numberOf, SameRefusal, Accepted}
 
@@ -26,10 +26,6 @@ same-refusal w h bad map scratch room =
     go false true true d = refl
     go false true false true = refl
     go false true false false = refl
-
-neither : (a b : Bool) → (a || b) ≡ false → (a ≡ false) × (b ≡ false)
-neither true b e = absurd (true≢false e)
-neither false b e = (refl, e)
 
 -- what is not refused by a number passes its test
 passed : (b : Bool) (n : ℕ) (rest : Outcome (Unit {0})) → cond b (refused n) rest ≡ gives tt → (b ≡ false) × (rest ≡ gives tt)

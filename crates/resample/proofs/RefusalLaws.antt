@@ -7,18 +7,14 @@ use native.Mathlib.Omega.{arith}
 use lib.Dec.{eqb, ltb}
 use lib.Ieee.{Float}
 use borrow.Author.Tests.{eqb-true, eqb-false, ltb-false, not-false}
-use Rattle.answers.specs.Outcome.{Outcome, gives, refused, refusedAt, refusalOf, answerOf}
+use Rattle.answers.specs.Outcome.{Outcome, gives, refused, answerOf}
 use Rattle.answers.specs.declared.Answer.{Answer}
 use Rattle.answers.specs.declared.Refusal.{Refusal}
-use Rattle.answers.specs.declared.Refusal.the-variants.{Side, ReducedSide, Length, Setting, Height, Receiver, Stream, Cells, Stopped, RunOff}
 use Rattle.grid.specs.Sides.{badSides}
-use Rattle.grid.proofs.SidesLaws.{good-sides}
+use Rattle.answers.proofs.OutcomeLaws.{given, refusal-given}
+use Rattle.grid.proofs.SidesLaws.{good-sides, neither}
 use Rattle.resample.specs.WorkSize.{Within}
 use Rattle.resample.specs.Blocks.{badReduced, shapeRefusal}
-
-pub neither : (a b : Bool) → (a || b) ≡ false → (a ≡ false) × (b ≡ false)
-neither true b e = absurd (true≢false e)
-neither false b e = (refl, e)
 
 reduced-good : (r s : ℕ) → badReduced r s ≡ false → (1 ≤ r) × (r ≤ s)
 reduced-good r s e =
@@ -38,33 +34,12 @@ within-good w h dw dh e f =
 pub reduced-small : (w h dw dh : ℕ) → badSides w h ≡ false → (badReduced dw w || badReduced dh h) ≡ false → (dw ≤ 4096) × (dh ≤ 4096)
 reduced-small w h dw dh e f = omega (arith, within-good w h dw dh e f)
 
--- whether an answer gives something; a refusal does not
-given : {A : Type 0} → Outcome A → Bool
-given (gives x) = true
-given (refused n) = false
-given (refusedAt n c) = false
-
-refusal-given : (r : Refusal) → given (refusalOf {A = Unit {0}} r) ≡ false
-unfolding given
-refusal-given Side = refl
-refusal-given ReducedSide = refl
-refusal-given Length = refl
-refusal-given Setting = refl
-refusal-given (Height c) = refl
-refusal-given (Receiver c) = refl
-refusal-given (Refusal.List p) = refl
-refusal-given Stream = refl
-refusal-given Cells = refl
-refusal-given Stopped = refl
-refusal-given RunOff = refl
-
 -- the shape's three tests, with what follows them as an argument
 abbrev tests : {A : Type 0} → Bool → Bool → Bool → (ℕ → A) → A → A
 tests a b c number then = cond a (number 1) (cond b (number 2) (cond c (number 3) then))
 
 refused-tests : (a b c : Bool) (o : Outcome (Unit {0})) → given o ≡ false → o ≡ tests a b c refused (gives tt)
     → ((x : Outcome (Unit {0})) → o ≡ tests a b c refused x) × ((d x : List Float) → d ≡ tests a b c (λ n. d) x)
-unfolding given
 refused-tests true b c o n e = (λ x. e, λ d x. refl)
 refused-tests false true c o n e = (λ x. e, λ d x. refl)
 refused-tests false false true o n e = (λ x. e, λ d x. refl)
@@ -87,7 +62,6 @@ pub record Shaped (w h len dw dh dlen : ℕ) : Type 0 where
   pub small : dlen ≡ dw * dh
 
 accepted-tests : (a b c : Bool) → _≡_ {A = Outcome (Unit {0})} (gives tt) (tests a b c refused (gives tt)) → (a ≡ false) × ((b ≡ false) × (c ≡ false))
-unfolding given
 accepted-tests true b c e = absurd (true≢false (ap given e))
 accepted-tests false true c e = absurd (true≢false (ap given e))
 accepted-tests false false true e = absurd (true≢false (ap given e))

@@ -7,10 +7,11 @@ use native.Mathlib.Nat.{mul-le-mul}
 use native.Mathlib.Numerals.{add-one}
 use native.Mathlib.Omega.{arith}
 use borrow.Author.Tests.{not-true, not-false}
-use lib.ListN.{length, getD, set}
+use lib.ListN.{length, getD}
 use lib.Ieee.{Float, nan}
 use lib.Ieee.Scale.{finite}
-use Rattle.lists.proofs.TableLaws.{length-tabulate, getD-tabulate, filled, filled-none, filled-length, filled-more, filled-done}
+use Rattle.lists.proofs.TableLaws.{length-tabulate, getD-tabulate}
+use Rattle.lists.proofs.FillLaws.{Filling, filling-done}
 use Rattle.grid.specs.Heights.{firstNotFinite, FiniteBelow, FirstBad}
 use Rattle.grid.proofs.SidesLaws.{column-lt, row-lt, cells-bound}
 use Rattle.grid.proofs.HeightsLaws.{below-none, below-more, first-at, first-none}
@@ -59,30 +60,8 @@ module _ (s : List ℕ) (rows w h : ℕ) where
       let e : i ≡ length (heightsAt s rows w h) = omega (arith, found .within, heights-length) in
       sym (first-none (heightsAt s rows w h) (subst (FiniteBelow (heightsAt s rows w h)) e (found .below)) ∙ heights-length)
 
-  -- the loop that loads the map: the first i cells hold their heights
-  pub record Loaded (old : List Float) (i : ℕ) (new : List Float) : Type 0 where
-    pub within : i ≤ length old
-    pub held : new ≡ filled (cellAt s rows w) i old
-
-  module _ {old : List Float} where
-    pub loaded-none : Loaded old 0 old
-    loaded-none = record { within = omega arith; held = filled-none (cellAt s rows w) old }
-
-    module _ {i : ℕ} {new : List Float} (m : Loaded old i new) where
-      pub loaded-length : length new ≡ length old
-      loaded-length = ap length (m .held) ∙ filled-length (cellAt s rows w) i old (m .within)
-
-      pub loaded-more : i < length old → {x : Float} → x ≡ cellAt s rows w i → Loaded old (i + 1) (set new i x)
-      loaded-more l {x} e =
-          record {
-            within = omega arith;
-            held =
-                ap (λ (x : Float). set new i x) e ∙ ap (λ (k : List Float). set k i (cellAt s rows w i)) (m .held)
-                ∙ filled-more (cellAt s rows w) i old l;
-          }
-
-      pub loaded-done : length old ≡ w * h → w * h ≤ i → new ≡ heightsAt s rows w h
-      unfolding heightsAt
-      loaded-done n l =
-          let e : i ≡ w * h = omega (arith, m .within) in
-          m .held ∙ ap (λ (k : ℕ). filled (cellAt s rows w) k old) e ∙ filled-done (cellAt s rows w) (w * h) old n
+-- the loop that loads the map has loaded every height
+pub loaded-done : (s : List ℕ) (rows w h : ℕ) {old new : List Float} {i : ℕ} → Filling (cellAt s rows w) i old new → length old ≡ w * h → w * h ≤ i
+    → new ≡ heightsAt s rows w h
+unfolding heightsAt
+loaded-done s rows w h p n l = filling-done p (w * h) n l

@@ -1,11 +1,11 @@
 -- The ends of `slide_pass`, each with its answer, its record and the slice after it.
 use Prim.Native.Nat.{ℕ, _*_, _^_, _≤_}
 use mathlib.Core.Path.{_≡_, refl, sym, ap, _∙_, subst}
-use mathlib.Core.Bool.{Bool, true, false, not, _||_, true≢false}
+use mathlib.Core.Bool.{Bool, true, false, not, _||_}
 use mathlib.Core.List.{List}
 use native.Mathlib.Omega.{arith}
-use borrow.Author.Tests.{eq-eqb, ne-eqb, eqb-false, ltb-false}
-use lib.Dec.{eqb, ltb}
+use borrow.Author.Tests.{eq-eqb, ne-eqb, ltb-false}
+use lib.Dec.{eqb}
 use lib.ListN.{length}
 use lib.Ieee.{Float, binary32, ofBits, neg}
 use lib.Ieee.Scale.{finite}
@@ -14,11 +14,11 @@ use mir.Val.{Fits}
 use Rattle.answers.specs.Outcome.{refusedAt, outsideOf}
 use Rattle.answers.specs.declared.Answer.{Answer}
 use Rattle.answers.specs.declared.Refusal.{Refusal}
-use Rattle.grid.specs.Sides.{badSide, badSides}
+use Rattle.grid.specs.Sides.{badSides}
 use Rattle.grid.specs.Heights.{firstNotFinite, allFinite}
-use Rattle.grid.proofs.SidesLaws.{cells-fit}
+use Rattle.grid.proofs.SidesLaws.{cells-fit, good-sides, neither}
 use Rattle.generators.specs.declared.Progress.{Progress}
-use Rattle.generators.proofs.ExtentsLaws.{all-finite, not-all-finite}
+use Rattle.grid.proofs.HeightsLaws.{all-finite, not-all-finite}
 use Rattle.thermal_erosion.specs.SlidePass.{Pass, passOf, Ready, badMarks, badPass, Passed, SlideMade}
 use Rattle.thermal_erosion.specs.declared.ThermalParams.{ThermalParams}
 use Rattle.thermal_erosion.specs.declared.Slid.{Slid}
@@ -26,24 +26,8 @@ use Rattle.thermal_erosion.specs.declared.Slid.{Slid}
 abbrev pub refusing : Refusal → Progress → Slid
 refusing r m = record { answer = Answer.Refused r; progress = m }
 
-neither : (a b : Bool) → (a || b) ≡ false → (a ≡ false) × (b ≡ false)
-neither true b e = absurd (true≢false e)
-neither false b e = (refl, e)
-
--- a side in range
-side-good : (s : ℕ) → badSide s ≡ false → (1 ≤ s) × (s ≤ 4096)
-side-good s e =
-    let p = neither (eqb s 0) (ltb 4096 s) e in
-    let n : s ≡ 0 → ⊥ = eqb-false s 0 (p .0) in
-    omega (arith, ltb-false 4096 s (p .1))
-
-sides-good : (w h : ℕ) → badSides w h ≡ false → (1 ≤ w) × ((w ≤ 4096) × (h ≤ 4096))
-sides-good w h e =
-    let n = neither (badSide w) (badSide h) e in
-    omega (arith, side-good w (n .0), side-good h (n .1))
-
 pub cells-fit-sides : (w h : ℕ) → badSides w h ≡ false → Fits w64 (w * h)
-cells-fit-sides w h e = let m = sides-good w h e in cells-fit w h (m .1 .0) (m .1 .1)
+cells-fit-sides w h e = let r = good-sides w h e in cells-fit w h (r .wide) (r .high)
 
 asked-most : (p : ThermalParams) (from to : Float) (m : Progress) → badPass p from to m ≡ false → m .asked ≤ 2 ^ 31
 asked-most p from to m e =
@@ -63,8 +47,8 @@ pub slide-ready : (w h map copy : ℕ) (p : ThermalParams) (from to : Float) (m 
     → badPass p from to m ≡ false
     → Ready w h map copy (m .asked)
 slide-ready w h map copy p from to m sides a b set =
-    let s = sides-good w h sides in
-    record { some = s .0; wide = s .1 .0; high = s .1 .1; heights = a; copied = b ∙ sym a; questions = omega (arith, asked-most p from to m set) }
+    let r = good-sides w h sides in
+    record { some = r .columns; wide = r .wide; high = r .high; heights = a; copied = b ∙ sym a; questions = omega (arith, asked-most p from to m set) }
 
 -- the ends of a pass: stopped, complete, run off
 module _ (s : Pass) (new : List Float) (m : Progress) (e : _≡_ {A = Pass} (record { out = new; marks = m }) s) where

@@ -2,7 +2,7 @@
 use Prim.Native.Nat.{ℕ, _+_, _-_, _*_, _≤_, _<_}
 use mathlib.Core.Path.{_≡_, refl, sym, ap, _∙_, subst}
 use mathlib.Core.Bool.{Bool, true, false, true≢false}
-use native.Mathlib.Nat.{mul-comm, mul-le-mul-right}
+use native.Mathlib.Nat.{mul-comm}
 use native.Mathlib.Decide.{decLt}
 use native.Mathlib.Omega.{arith}
 use lib.Ieee.{Float, nan}
@@ -11,6 +11,7 @@ use Rattle.lists.specs.Loops.{tabulate}
 use Rattle.lists.proofs.TableLaws.{length-tabulate, getD-tabulate}
 use Rattle.grid.specs.Heights.{allFinite}
 use Rattle.grid.proofs.HeightsLaws.{below-all, all-at}
+use Rattle.bilinear.proofs.CornerLaws.{row-end}
 
 pub record Finites (f : ℕ → Float) (n : ℕ) : Type 0 where
   pub each : (k : ℕ) → k < n → finite (f k) ≡ true
@@ -51,9 +52,6 @@ module _ (f : ℕ → Float) (n : ℕ) where
 
 -- row by row, w values each
 module _ (f : ℕ → Float) (w h y : ℕ) (l : y < h) where
-  rows : y * w + w ≤ w * h
-  rows = let m : (y + 1) * w ≤ h * w = mul-le-mul-right w (omega arith) in omega (arith, mul-comm w h)
-
   pub row-more : Finites f (y * w) → allFinite (tabulate w (λ x. f (y * w + x))) ≡ true → Finites f ((y + 1) * w)
   row-more p e = record { each = λ k q. go k q (decLt k (y * w)) }
     where
@@ -69,7 +67,7 @@ module _ (f : ℕ → Float) (w h y : ℕ) (l : y < h) where
       go : (b : Bool) → allFinite (tabulate (w * h) f) ≡ b → b ≡ false
       go true q =
           absurd (true≢false (sym (finites-all (λ x. f (y * w + x)) w
-          (record { each = λ k m. finites-back f (w * h) q .each (y * w + k) (omega (arith, rows)) })) ∙ e))
+          (record { each = λ k m. finites-back f (w * h) q .each (y * w + k) (omega (arith, row-end w h y l)) })) ∙ e))
       go false q = refl
 
 pub rows-all : (f : ℕ → Float) (w h y : ℕ) → Finites f (y * w) → y ≤ h → h ≤ y → allFinite (tabulate (w * h) f) ≡ true

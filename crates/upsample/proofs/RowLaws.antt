@@ -15,7 +15,8 @@ use Rattle.floats.specs.Stand.{fractOf, indexOf}
 use Rattle.grid.specs.Heights.{allFinite}
 use Rattle.lists.specs.Loops.{tabulate}
 use Rattle.lists.proofs.TableLaws.{length-tabulate, tabulate-same}
-use Rattle.resample.proofs.FillLaws.{Filling, filling-none, filling-next, filling-done, table-values}
+use Rattle.lists.proofs.FillLaws.{Filling, filling-none, filling-next, filling-done}
+use Rattle.resample.proofs.FillLaws.{table-values}
 use Rattle.resample.specs.WorkSize.{float}
 use Rattle.resample.specs.Blocks.{Values}
 use Rattle.bilinear.specs.Samples.{asSource, bilinearAt, bilinearOf}

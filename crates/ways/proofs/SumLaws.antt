@@ -8,35 +8,18 @@ use lib.Seq.{drop-cons, drop-length}
 use lib.Ieee.{Float, binary32, ofBits}
 use native.Mathlib.Numerals.{add-one}
 use Rattle.lists.specs.Loops.{tabulate}
-use Rattle.lists.proofs.TableLaws.{filled, filled-none, filled-length, filled-more, filled-done}
+use Rattle.lists.proofs.FillLaws.{Filling, filling-done}
 use Rattle.drainage.specs.Ways.{areasAlong}
 use Rattle.ways.specs.Apart.{addedDown}
 
-tabulate-same : {A : Type 0} (x : A) (n : ℕ) → tabulate n (λ i. x) ≡ replicate n x
+tabulate-constant : {A : Type 0} (x : A) (n : ℕ) → tabulate n (λ i. x) ≡ replicate n x
 unfolding tabulate
-tabulate-same x zero = refl
-tabulate-same x (suc n) = ap (λ l. l ++ (x ∷ [])) (tabulate-same x n) ∙ replicate-append-replicate n 1 x ∙ ap (λ (k : ℕ). replicate k x) (add-one n)
+tabulate-constant x zero = refl
+tabulate-constant x (suc n) = ap (λ l. l ++ (x ∷ [])) (tabulate-constant x n) ∙ replicate-append-replicate n 1 x ∙ ap (λ (k : ℕ). replicate k x) (add-one n)
 
--- the first i values are x
-pub record Filling (x : Float) (old : List Float) (i : ℕ) (new : List Float) : Type 0 where
-  pub within : i ≤ length old
-  pub held : new ≡ filled (λ k. x) i old
-
-module _ {x : Float} {old : List Float} where
-  pub filling-none : Filling x old 0 old
-  filling-none = record { within = omega arith; held = filled-none (λ k. x) old }
-
-  module _ {i : ℕ} {new : List Float} (s : Filling x old i new) where
-    pub filling-length : length new ≡ length old
-    filling-length = ap length (s .held) ∙ filled-length (λ k. x) i old (s .within)
-
-    pub filling-more : i < length old → Filling x old (i + 1) (set new i x)
-    filling-more l = record { within = omega arith; held = ap (λ (r : List Float). set r i x) (s .held) ∙ filled-more (λ k. x) i old l }
-
-    pub filling-done : length old ≤ i → new ≡ replicate (length old) x
-    filling-done l =
-        let e : length old ≡ i = omega (arith, s .within) in
-        s .held ∙ filled-done (λ k. x) i old e ∙ tabulate-same x i ∙ ap (λ (k : ℕ). replicate k x) (sym e)
+-- a loop that stores x at each place
+pub fill-done : {x : Float} {i : ℕ} {old new : List Float} → Filling (λ k. x) i old new → length old ≤ i → new ≡ replicate (length old) x
+fill-done {x} {i} {old} p l = filling-done p (length old) refl l ∙ tabulate-constant x (length old)
 
 -- the areas once the entries from position k on are added
 pub record Adding (n : ℕ) (recv list : List ℕ) (k : ℕ) (area : List Float) : Type 0 where

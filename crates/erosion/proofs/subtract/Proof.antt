@@ -1,4 +1,5 @@
-use Rattle.erosion.proofs.ReachedLaws.{Subtracted, subtracted-none, subtracted-length, subtracted-more, subtracted-done}
+use Rattle.lists.proofs.FillLaws.{Filling, filling-none, filling-length}
+use Rattle.erosion.proofs.ReachedLaws.{subtracted, subtracted-more, subtracted-done}
 use mathlib.Core.Path.{_∙_}
 use native.Mathlib.Omega.{arith}
 use lib.ListN.{length}
@@ -7,19 +8,19 @@ use Rattle.erosion.proofs.subtract.Statement.{statement}
 use Rattle.erosion.proofs.subtract.Tie as tie
 
 abbrev Inv-loop : tie.InvT-loop
-Inv-loop eroded₀ small n i₀ eroded i = Subtracted small eroded₀ i eroded
+Inv-loop eroded₀ small n i₀ eroded i = Filling (subtracted eroded₀ small) i eroded₀ eroded
 
 abbrev μ-loop : tie.MeasureT-loop
 μ-loop eroded₀ small n i₀ eroded i = length small - i
 
 loop-holds : tie.Need-loop-holds Inv-loop μ-loop
-loop-holds c = subtracted-none
+loop-holds c = filling-none
 
 mul-eroded : tie.Need-mul-eroded Inv-loop μ-loop
-mul-eroded c = omega (arith, subtracted-length (c .before .loop .inv))
+mul-eroded c = omega (arith, filling-length (c .before .loop .inv))
 
 slice-read-eroded : tie.Need-slice-read-eroded Inv-loop μ-loop
-slice-read-eroded c = omega (arith, subtracted-length (c .before .before .loop .inv))
+slice-read-eroded c = omega (arith, filling-length (c .before .before .loop .inv))
 
 mul-eroded-2 : tie.Need-mul-eroded-2 Inv-loop μ-loop
 mul-eroded-2 c = omega arith
@@ -28,10 +29,10 @@ shared-slice-read-eroded : tie.Need-shared-slice-read-eroded Inv-loop μ-loop
 shared-slice-read-eroded c = omega arith
 
 mul-eroded-3 : tie.Need-mul-eroded-3 Inv-loop μ-loop
-mul-eroded-3 c = omega (arith, subtracted-length (c .before .before .before .loop .inv))
+mul-eroded-3 c = omega (arith, filling-length (c .before .before .before .loop .inv))
 
 slice-write-eroded : tie.Need-slice-write-eroded Inv-loop μ-loop
-slice-write-eroded c = omega (arith, subtracted-length (c .before .before .before .loop .inv))
+slice-write-eroded c = omega (arith, filling-length (c .before .before .before .loop .inv))
 
 add-i : tie.Need-add-i Inv-loop μ-loop
 add-i c = omega arith
@@ -40,13 +41,13 @@ loop-less : tie.Need-loop-less Inv-loop μ-loop
 loop-less c = omega arith
 
 loop-again : tie.Need-loop-again Inv-loop μ-loop
-loop-again c = subtracted-more (c .before .before .before .loop .inv) (omega arith)
+loop-again c = subtracted-more _ (c .before .before .before .before .args .small .now) (c .before .before .before .loop .inv) (omega arith)
 
 same-length : tie.Need-same-length Inv-loop μ-loop
-same-length c = subtracted-length (c .before .loop .inv)
+same-length c = filling-length (c .before .loop .inv)
 
 returns : tie.Need-returns Inv-loop μ-loop
-returns c = subtracted-done (c .before .loop .inv) (c .before .before .pre) (c .loop-test .left)
+returns c = subtracted-done _ _ (c .before .loop .inv) (c .before .before .pre) (c .loop-test .left)
 
 pub subtract-spec : {M : Type 1} → statement M
 subtract-spec =

@@ -3,7 +3,8 @@ use mathlib.Core.Bool.{true, false}
 use borrow.Author.Tests.{not-true, not-false}
 use Rattle.answers.specs.Outcome.{refusedAt}
 use Rattle.grid.proofs.SidesLaws.{good-sides, cells-fit}
-use Rattle.flow.proofs.RouteLaws.{answer-is, enough, all-finite, not-all-finite}
+use Rattle.grid.proofs.HeightsLaws.{all-finite, not-all-finite}
+use Rattle.flow.proofs.RouteLaws.{answer-is, enough}
 use borrow.Author.Needs.{needs}
 use Rattle.flow.proofs.refusal.Statement.{statement}
 use Rattle.flow.proofs.refusal.Tie as tie
@@ -46,14 +47,14 @@ returns-4 c =
     let lengths = sym (c .before .before .before .before .before .bad-lengths .ensures) ∙ c .before .before .before .before .if2 .left in
     let many = sym (c .before .before .before .before .before .before .before .before .before .before .pre) ∙ enough _ _ _ lengths .heights in
     ap (refusedAt 5) (c .before .first-not-finite .ensures)
-    ∙ answer-is (a .size .w) (a .size .h) (a .h .now) (a .water-level) (a .l) false false true false (sym (c .before .before .before .before .before .before .before .before .bad-sides .ensures) ∙ c .before .before .before .before .before .before .before .if1 .left) lengths (sym (c .before .before .before .is-finite .ensures) ∙ not-false _ (c .before .before .if3 .left)) (not-all-finite _ _ _ many (c .before .first-not-finite .ensures) (c .if4 .taken))
+    ∙ answer-is (a .size .w) (a .size .h) (a .h .now) (a .water-level) (a .l) false false true false (sym (c .before .before .before .before .before .before .before .before .bad-sides .ensures) ∙ c .before .before .before .before .before .before .before .if1 .left) lengths (sym (c .before .before .before .is-finite .ensures) ∙ not-false _ (c .before .before .if3 .left)) (not-all-finite _ _ (c .before .first-not-finite .ensures) (λ e. c .if4 .taken (e ∙ many)))
 
 returns-5 : tie.Need-returns-5
 returns-5 c =
     let a = c .before .before .before .before .before .before .before .before .before .before .args in
     let lengths = sym (c .before .before .before .before .before .bad-lengths .ensures) ∙ c .before .before .before .before .if2 .left in
     let many = sym (c .before .before .before .before .before .before .before .before .before .before .pre) ∙ enough _ _ _ lengths .heights in
-    answer-is (a .size .w) (a .size .h) (a .h .now) (a .water-level) (a .l) false false true true (sym (c .before .before .before .before .before .before .before .before .bad-sides .ensures) ∙ c .before .before .before .before .before .before .before .if1 .left) lengths (sym (c .before .before .before .is-finite .ensures) ∙ not-false _ (c .before .before .if3 .left)) (all-finite _ _ _ many (c .before .first-not-finite .ensures) (c .if4 .left))
+    answer-is (a .size .w) (a .size .h) (a .h .now) (a .water-level) (a .l) false false true true (sym (c .before .before .before .before .before .before .before .before .bad-sides .ensures) ∙ c .before .before .before .before .before .before .before .if1 .left) lengths (sym (c .before .before .before .is-finite .ensures) ∙ not-false _ (c .before .before .if3 .left)) (all-finite _ _ (c .before .first-not-finite .ensures) (c .if4 .left ∙ sym many))
 
 pub refusal-spec : {M : Type 1} → statement M
 refusal-spec =

@@ -1,7 +1,7 @@
 use mathlib.Core.Path.{ap}
 use borrow.Author.Needs.{needs}
 use Rattle.answers.specs.Outcome.{gives, refusedAt}
-use Rattle.generators.proofs.ExtentsLaws.{all-finite, not-all-finite}
+use Rattle.grid.proofs.HeightsLaws.{all-finite, not-all-finite}
 use Rattle.generators.proofs.get_min_max.Statement.{statement}
 use Rattle.generators.proofs.get_min_max.Tie as tie
 

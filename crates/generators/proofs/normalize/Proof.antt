@@ -1,6 +1,6 @@
 use mathlib.Core.Path.{sym, _∙_}
 use borrow.Author.Needs.{needs}
-use Rattle.generators.proofs.ExtentsLaws.{all-finite}
+use Rattle.grid.proofs.HeightsLaws.{all-finite}
 use Rattle.generators.proofs.NormalizeLaws.{Accepted, normalize-setting, normalize-height, normalize-runs-off, normalize-done}
 use Rattle.generators.proofs.normalize.Statement.{statement}
 use Rattle.generators.proofs.normalize.Tie as tie

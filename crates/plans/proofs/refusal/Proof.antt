@@ -1,4 +1,4 @@
-use Rattle.generators.proofs.ExtentsLaws.{all-finite, not-all-finite}
+use Rattle.grid.proofs.HeightsLaws.{all-finite, not-all-finite}
 use Rattle.grid.proofs.SidesLaws.{good-sides, cells-fit}
 use borrow.Author.Tests.{eq-eqb, ne-eqb, lt-ltb, le-ltb}
 use mathlib.Core.Path.{_≡_, sym, _∙_}

@@ -3,7 +3,8 @@ use native.Mathlib.Omega.{arith}
 use lib.ListN.{length}
 use Rattle.grid.proofs.SidesLaws.{column-lt, row-lt}
 use Rattle.resample.specs.Blocks.{downsampled}
-use Rattle.resample.proofs.FillLaws.{averageAt, Filling, filling-none, filling-length, filling-more, filling-done}
+use Rattle.lists.proofs.FillLaws.{Filling, filling-none, filling-length, filling-more, filling-done}
+use Rattle.resample.proofs.FillLaws.{averageAt}
 use Rattle.resample.proofs.downsample_into.Statement.{statement}
 use Rattle.resample.proofs.downsample_into.Tie as tie
 

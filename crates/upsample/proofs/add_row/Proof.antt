@@ -1,5 +1,5 @@
 use denote.Ref.{now}
-use Rattle.resample.proofs.FillLaws.{Filling, filling-none, filling-length, filling-more, filling-done}
+use Rattle.lists.proofs.FillLaws.{Filling, filling-none, filling-length, filling-more, filling-done}
 use Rattle.bilinear.proofs.CornerLaws.{index-in}
 use Rattle.upsample.proofs.RowLaws.{rowAt, row-next}
 use Rattle.upsample.specs.Samples.{addedRow}

@@ -1,14 +1,16 @@
 use Prim.Native.Nat.{_-_}
 use native.Mathlib.Omega.{arith}
 use lib.ListN.{length}
-use Rattle.ways.proofs.SumLaws.{Filling, filling-none, filling-length, filling-more, filling-done}
+use mathlib.Core.Path.{refl}
+use Rattle.lists.proofs.FillLaws.{Filling, filling-none, filling-length, filling-more}
+use Rattle.ways.proofs.SumLaws.{fill-done}
 use Rattle.ways.proofs.fill.Statement.{statement}
 use Rattle.ways.proofs.fill.Tie as tie
 use Rattle.ways.proofs.fill.Reads as reads
 use Rattle.ways.proofs.fill.Lts as lts
 
 abbrev Inv-loop : tie.InvT-loop
-Inv-loop values₀ x n i₀ values i = Filling x values₀ i values
+Inv-loop values₀ x n i₀ values i = Filling (λ k. x) i values₀ values
 
 abbrev μ-loop : tie.MeasureT-loop
 μ-loop values₀ x n i₀ values i = length values₀ - i
@@ -35,7 +37,7 @@ loop-less c = omega arith
 
 -- src/lib.rt:43:5
 loop-again : tie.Need-loop-again Inv-loop μ-loop
-loop-again c = filling-more (c .before .loop .inv) (c .loop-test .taken)
+loop-again c = filling-more (c .before .loop .inv) refl (c .loop-test .taken)
 
 -- src/lib.rt:38:1
 same-length : tie.Need-same-length Inv-loop μ-loop
@@ -43,7 +45,7 @@ same-length c = filling-length (c .before .loop .inv)
 
 -- src/lib.rt:38:1
 returns : tie.Need-returns Inv-loop μ-loop
-returns c = filling-done (c .before .loop .inv) (c .loop-test .left)
+returns c = fill-done (c .before .loop .inv) (c .loop-test .left)
 
 pub fill-spec : {M : Type 1} → statement M
 fill-spec =

@@ -1,0 +1,39 @@
+-- A loop that stores f 0, f 1, … into a list from the front: its invariant, at the start, after one store and at the end.
+use Prim.Native.Nat.{ℕ, _+_, _≤_, _<_}
+use mathlib.Core.Path.{_≡_, ap, ap₂, _∙_}
+use mathlib.Core.List.{List}
+use native.Mathlib.Omega.{arith}
+use lib.ListN.{length, getD, set}
+use Rattle.lists.specs.Loops.{tabulate}
+use Rattle.lists.proofs.TableLaws.{filled, filled-none, filled-length, filled-more, filled-done, filled-ahead, tabulate-getD}
+
+-- the list `old` after i stores is `new`
+pub record Filling {A : Type 0} (f : ℕ → A) (i : ℕ) (old new : List A) : Type 0 where
+  pub held : new ≡ filled f i old
+  pub within : i ≤ length old
+
+pub filling-none : {A : Type 0} {f : ℕ → A} {old : List A} → Filling f 0 old old
+filling-none {A} {f} {old} = record { held = filled-none f old; within = omega arith }
+
+module _ {A : Type 0} {f : ℕ → A} {i : ℕ} {old new : List A} (p : Filling f i old new) where
+  pub filling-length : length new ≡ length old
+  filling-length = ap length (p .held) ∙ filled-length f i old (p .within)
+
+  pub filling-more : {v : A} → v ≡ f i → i < length old → Filling f (i + 1) old (set new i v)
+  filling-more e l = record {
+    held = ap₂ (λ (d : List A) (x : A). set d i x) (p .held) e ∙ filled-more f i old l;
+    within = omega arith;
+  }
+
+  -- the next place still holds what it held
+  pub filling-next : (d : A) → getD new i d ≡ getD old i d
+  filling-next d = ap (λ (l : List A). getD l i d) (p .held) ∙ filled-ahead f i i old d (omega arith)
+
+  pub filling-done : (n : ℕ) → length old ≡ n → n ≤ i → new ≡ tabulate n f
+  filling-done n e l =
+      let s : i ≡ n = omega (arith, p .within) in
+      p .held ∙ ap (λ (k : ℕ). filled f k old) s ∙ filled-done f n old e
+
+-- a loop that copies the list hs
+pub copied : {A : Type 0} {hs old new : List A} {i : ℕ} (d : A) → Filling (λ k. getD hs k d) i old new → length old ≡ length hs → length hs ≤ i → new ≡ hs
+copied {A} {hs} d p n l = filling-done p (length hs) n l ∙ tabulate-getD hs d
