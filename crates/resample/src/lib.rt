@@ -1,4 +1,4 @@
-// The source's resample.rs as far as the reduced grid: its sides, and the block average onto it. The way back is the crate `upsample`.
+// The source's resample.rs as far as the reduced grid: its sides, and the block average onto it. The way back is in the crates `bilinear` and `upsample`.
 use answers::Answer;
 use answers::Refusal;
 use floats::round;
