@@ -53,13 +53,13 @@ pub fn begun() -> Reached
 }
 
 // The end of a run by 21 or 22: the counts stay.
-pub fn ended(number: u32, marks: Progress, r: Reached) -> Reached
-    ensures { λ e. ⌜ e ≡ halted number marks r ⌝ }
+pub fn ended(number: u32, marks: Progress, reached: Reached) -> Reached
+    ensures { λ e. ⌜ e ≡ halted number marks reached ⌝ }
 {
     Reached {
         marks: marks,
-        incisions: r.incisions,
-        passes: r.passes,
+        incisions: reached.incisions,
+        passes: reached.passes,
         number: number,
     }
 }
