@@ -10,20 +10,8 @@ ghost use mathlib.Core.Path.{_≡_};
 ghost use Prim.Native.Nat.{_≤_};
 ghost use lib.ListN.{length, take};
 
-// Room for the values of a task, each x at first: heights, and the cells and states of a network.
+// Room for the heights of a task, each x at first.
 fn room(x: f32) -> [f32; 4100]
-    ensures { λ r. ⌜ 4100 ≡ length r ⌝ }
-{
-    [x; 4100]
-}
-
-fn cells(x: u32) -> [u32; 4100]
-    ensures { λ r. ⌜ 4100 ≡ length r ⌝ }
-{
-    [x; 4100]
-}
-
-fn states(x: u8) -> [u8; 4100]
     ensures { λ r. ⌜ 4100 ≡ length r ⌝ }
 {
     [x; 4100]
@@ -75,13 +63,9 @@ fn put(x: u32) {
     io::write_all(1, &b);
 }
 
-fn put_float(x: f32) {
-    put(floats::to_bits(x));
-}
-
 fn put_floats(v: &[f32]) {
     for i in 0..v.len() {
-        put_float(v[i]);
+        put(floats::to_bits(v[i]));
     }
 }
 
@@ -131,22 +115,23 @@ fn replay_fluvial() {
     let conf = next_fluvial();
     let stop = word();
     let fill = word();
-    let mut small_room = room(floats::from_bits(fill));
+    let height = floats::from_bits(fill);
+    let mut small_room = room(height);
     let small_n = next_length(&small_room);
     let small = &mut small_room[..small_n];
-    let mut eroded_room = room(floats::from_bits(fill));
+    let mut eroded_room = room(height);
     let eroded_n = next_length(&eroded_room);
     let eroded = &mut eroded_room[..eroded_n];
-    let mut copy_room = room(floats::from_bits(fill));
+    let mut copy_room = room(height);
     let copy_n = next_length(&copy_room);
     let copy = &mut copy_room[..copy_n];
-    let mut area_room = room(floats::from_bits(fill));
+    let mut area_room = room(height);
     let area_n = next_length(&area_room);
     let area = &mut area_room[..area_n];
-    let mut order = cells(fill);
-    let mut recv = cells(fill);
-    let mut queue = cells(fill);
-    let mut status = states((fill % 256) as u8);
+    let mut order = [fill; 4100];
+    let mut recv = [fill; 4100];
+    let mut queue = [fill; 4100];
+    let mut status = [(fill % 256) as u8; 4100];
     let mut space = room(0.0);
     let n = next_length(&space);
     let hmap = &mut space[..n];

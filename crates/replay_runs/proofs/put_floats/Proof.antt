@@ -15,14 +15,17 @@ abbrev μ-loop : tie.MeasureT-loop
 loop-holds : tie.Need-loop-holds Inv-loop μ-loop
 loop-holds c = omega arith
 
-mul-put-float : tie.Need-mul-put-float Inv-loop μ-loop
-mul-put-float c = omega arith
+mul-to-bits : tie.Need-mul-to-bits Inv-loop μ-loop
+mul-to-bits c = omega arith
 
-shared-slice-read-put-float : tie.Need-shared-slice-read-put-float Inv-loop μ-loop
-shared-slice-read-put-float c = omega arith
+shared-slice-read-to-bits : tie.Need-shared-slice-read-to-bits Inv-loop μ-loop
+shared-slice-read-to-bits c = omega arith
 
-put-float-requires : tie.Need-put-float-requires Inv-loop μ-loop
-put-float-requires c κs = tt
+to-bits-requires : tie.Need-to-bits-requires Inv-loop μ-loop
+to-bits-requires c κs = tt
+
+put-requires : tie.Need-put-requires Inv-loop μ-loop
+put-requires c κs = tt
 
 add-i : tie.Need-add-i Inv-loop μ-loop
 add-i c = omega arith
@@ -39,4 +42,15 @@ returns c = tt
 pub put-floats-spec : {M : Type 1} → statement M
 put-floats-spec =
     tie.close
-    (tie.spec Inv-loop μ-loop loop-holds mul-put-float shared-slice-read-put-float put-float-requires add-i loop-less loop-again returns)
+    (tie.spec
+    Inv-loop
+    μ-loop
+    loop-holds
+    mul-to-bits
+    shared-slice-read-to-bits
+    to-bits-requires
+    put-requires
+    add-i
+    loop-less
+    loop-again
+    returns)
