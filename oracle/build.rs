@@ -104,16 +104,22 @@ fn main() {
     }
 }
 
-/// The archives that `rt staticlib` writes of the crates that export calls, for the bench and the peer alone.
+/// The archives that `rt staticlib` writes of the crates that export calls, for the programs that link them.
+const ARCHIVES: [(&str, &[&str]); 3] = [
+    ("bench", &["harness", "harness_runs"]),
+    ("peer", &["harness"]),
+    ("compare", &["harness", "harness_calls", "harness_runs", "layout_calls"]),
+];
+
 fn link_harness() {
-    for name in ["harness", "harness_runs"] {
-        let archive = Path::new(&env::var("CARGO_MANIFEST_DIR").expect("CARGO_MANIFEST_DIR"))
-            .join(format!("../target/staticlib/lib{name}.a"));
-        println!("cargo:rerun-if-changed={}", archive.display());
-        if !archive.is_file() {
-            panic!("{} is not there: run `rt staticlib {name}`", archive.display());
-        }
-        for program in ["bench", "peer"] {
+    for (program, names) in ARCHIVES {
+        for name in names {
+            let archive = Path::new(&env::var("CARGO_MANIFEST_DIR").expect("CARGO_MANIFEST_DIR"))
+                .join(format!("../target/staticlib/lib{name}.a"));
+            println!("cargo:rerun-if-changed={}", archive.display());
+            if !archive.is_file() {
+                println!("cargo:warning={} is not there: run `rt staticlib {name}` for {program}", archive.display());
+            }
             println!("cargo:rustc-link-arg-bin={program}={}", archive.display());
         }
     }

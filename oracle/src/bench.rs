@@ -170,10 +170,16 @@ fn slide(side: usize) {
     let s = Talus { threshold: 0.03 * 0.25 / (side as f32 / 512.0), strength: 0.5, water_level: WATER };
     for (kind, h) in terrains(side) {
         let (mut ours, mut theirs) = (vec![0.0; h.len()], vec![0.0; h.len()]);
-        row("slide_pass", side, kind, &mut || assert!(calls::slide_pass(size, &h, &mut ours, &s) == 0), &mut || {
-            theirs.copy_from_slice(&h);
-            assert!(source::erosion::slide_pass(size, &h, &mut theirs, &s, (0.0, 1.0), Record::FRESH, 0).0);
-        });
+        row(
+            "slide_pass",
+            side,
+            kind,
+            &mut || assert!(calls::slide_pass(size, &h, &mut ours, &s, (0.0, 1.0), Record::FRESH, 0).0 == 0),
+            &mut || {
+                theirs.copy_from_slice(&h);
+                assert!(source::erosion::slide_pass(size, &h, &mut theirs, &s, (0.0, 1.0), Record::FRESH, 0).0);
+            },
+        );
         same_floats("heights", &ours, &theirs);
     }
 }
@@ -191,7 +197,7 @@ fn whole_runs(side: usize) {
         let (mut ours, mut theirs, mut scratch) = (h.clone(), h.clone(), runs::Scratch::new(h.len()));
         let mut lib = || {
             ours.copy_from_slice(&h);
-            assert!(scratch.thermal(size, &mut ours, &THERMAL) == 0);
+            assert!(runs::number(scratch.thermal(size, &mut ours, &THERMAL, 0)) == 0);
         };
         row("gen_thermal_erosion", side, kind, &mut lib, &mut || {
             theirs.copy_from_slice(&h);
@@ -200,7 +206,7 @@ fn whole_runs(side: usize) {
         same_floats("heights", &ours, &theirs);
         let mut lib = || {
             ours.copy_from_slice(&h);
-            assert!(scratch.fluvial(size, &mut ours, &FLUVIAL) == 0);
+            assert!(runs::number(scratch.fluvial(size, &mut ours, &FLUVIAL, 0)) == 0);
         };
         row("gen_fluvial_erosion", side, kind, &mut lib, &mut || {
             theirs.copy_from_slice(&h);

@@ -1,2 +1,2 @@
--- What the exported calls promise, in the public calls' own definitions.
-pub mod Exported
+-- What an exported report promises, in the public call's own definitions.
+pub mod Reporting

@@ -1,26 +1,22 @@
-// The calls that the oracle's bench measures, by the C convention: a slice passes as pointer and length. No part of the public calls.
-use answers::Answer;
+// Routing, single passes and reports by the C convention, for the oracle's bench and comparison: a slice passes as pointer and length, an answer
+// is one u64 (specs/Word.antt of harness_calls). No part of the public calls.
 use fluvial_erosion::FluvialParams;
+use generators::Go;
+use generators::Progress;
 use grid::Sides;
+use harness_calls::refusal_word;
+use harness_calls::word;
 use thermal_erosion::ThermalParams;
 ghost use mathlib.Core.Path.{_≡_};
 ghost use Prim.Native.Nat.{_*_};
 ghost use lib.ListN.{length};
-ghost use Rattle.answers.specs.Outcome.{numberIn, answerOf};
+ghost use Rattle.generators.specs.Marks.{goOf};
 ghost use Rattle.flow.specs.Route.{Routed};
 ghost use Rattle.fluvial_erosion.specs.Incise.{InciseMade};
 ghost use Rattle.fluvial_erosion.specs.Along.{Drains, Lengths, Carved};
-ghost use Rattle.harness.specs.Exported.{Exported, SlideAnswered};
-
-// Document 01's number of an answer, 0 if it is no refusal.
-fn number(a: Answer) -> u32
-    ensures { λ r. ⌜ r ≡ numberIn (answerOf a) ⌝ }
-{
-    match a {
-        Answer::Done => 0,
-        Answer::Refused(r) => answers::number(r),
-    }
-}
+ghost use Rattle.thermal_erosion.specs.SlidePass.{SlideMade};
+ghost use Rattle.harness_calls.specs.Word.{wordOf, Exported};
+ghost use Rattle.harness.specs.Reporting.{goValue, Reporting};
 
 // The network of a map.
 #[no_mangle]
@@ -35,11 +31,11 @@ pub extern "C" fn harness_route(
     area: &mut [f32],
     queue: &mut [u32],
     status: &mut [u8],
-) -> u32
+) -> u64
     ensures { λ r. ⌜ Exported (λ a. Routed w h (now (hmap .entry)) «water_level» (now (order .entry)) (now (recv .entry)) (now (spill .entry)) (now (area .entry)) (now (queue .entry)) (now (status .entry)) a (now (order .exit)) (now (recv .exit)) (now (spill .exit)) (now (area .exit)) (now (queue .exit)) (now (status .exit))) r ⌝ }
 {
     let size = Sides { w, h };
-    number(flow::route(
+    word(flow::route(
         size,
         hmap,
         water_level,
@@ -65,7 +61,7 @@ pub extern "C" fn harness_incise(
     order: &[u32],
     out: &mut [f32],
     area: &mut [f32],
-) -> u32
+) -> u64
     ensures { λ r. ⌜ Exported (λ a. InciseMade w h (now (hmap .entry)) (record { k = k; uplift = uplift; «water_level» = «water_level» }) (now (recv .entry)) (now (order .entry)) (now (out .entry)) (now (area .entry)) a (now (out .exit)) (now (area .exit))) r ⌝ }
 {
     let size = Sides { w, h };
@@ -74,7 +70,7 @@ pub extern "C" fn harness_incise(
         uplift,
         water_level,
     };
-    number(fluvial_erosion::incise(size, hmap, params, recv, order, out, area))
+    word(fluvial_erosion::incise(size, hmap, params, recv, order, out, area))
 }
 
 // The incision alone, as a run does it with the network of its own routing: nothing is checked, so the caller owes what the checks would find.
@@ -104,7 +100,7 @@ pub extern "C" fn harness_incise_into(
     fluvial_erosion::incise_into(size, hmap, params, recv, order, out, area);
 }
 
-// A talus pass from the fresh record, reported from 0 to 1.
+// A talus pass; the record is read and written in place.
 #[no_mangle]
 pub extern "C" fn harness_slide_pass(
     w: usize,
@@ -114,9 +110,14 @@ pub extern "C" fn harness_slide_pass(
     threshold: f32,
     strength: f32,
     water_level: f32,
+    from: f32,
+    to: f32,
+    last: &mut f32,
+    asked: &mut u32,
+    stopped: &mut bool,
     stop: u32,
-) -> u32
-    ensures { λ r. ⌜ Exported (SlideAnswered w h (now (hmap .entry)) (now (out .entry)) (record { threshold = threshold; strength = strength; «water_level» = «water_level» }) stop (now (out .exit))) r ⌝ }
+) -> u64
+    ensures { λ r. ⌜ Exported (λ a. SlideMade w h (now (hmap .entry)) (now (out .entry)) (record { threshold = threshold; strength = strength; «water_level» = «water_level» }) from to (record { last = now (last .entry); asked = now (asked .entry); stopped = now (stopped .entry) }) stop (record { answer = a; progress = record { last = now (last .exit); asked = now (asked .exit); stopped = now (stopped .exit) } }) (now (out .exit))) r ⌝ }
 {
     let size = Sides { w, h };
     let params = ThermalParams {
@@ -124,16 +125,52 @@ pub extern "C" fn harness_slide_pass(
         strength,
         water_level,
     };
-    let slid = thermal_erosion::slide_pass(
-        size,
-        hmap,
-        out,
-        params,
-        0.0,
-        1.0,
-        generators::fresh(),
-        stop,
-    );
+    let before = Progress {
+        last: *last,
+        asked: *asked,
+        stopped: *stopped,
+    };
+    let slid = thermal_erosion::slide_pass(size, hmap, out, params, from, to, before, stop);
+    let after = slid.progress;
+    *last = after.last;
+    *asked = after.asked;
+    *stopped = after.stopped;
     let answer = slid.answer;
-    number(answer)
+    word(answer)
+}
+
+// A report's answer: 1 to go on, 0 to stop, or the refusal's word.
+fn go_word(go: Go) -> u64
+    ensures { λ r. ⌜ r ≡ wordOf goValue (goOf go) ⌝ }
+{
+    match go {
+        Go::On => 1,
+        Go::Stop => 0,
+        Go::Refused(r) => refusal_word(r),
+    }
+}
+
+// A report; the record is read and written in place.
+#[no_mangle]
+pub extern "C" fn harness_report(
+    last: &mut f32,
+    asked: &mut u32,
+    stopped: &mut bool,
+    p: f32,
+    stop: u32,
+) -> u64
+    ensures { λ r. ⌜ Reporting (record { last = now (last .entry); asked = now (asked .entry); stopped = now (stopped .entry) }) p stop (record { last = now (last .exit); asked = now (asked .exit); stopped = now (stopped .exit) }) r ⌝ }
+{
+    let before = Progress {
+        last: *last,
+        asked: *asked,
+        stopped: *stopped,
+    };
+    let reported = before.report(p, stop);
+    let after = reported.progress;
+    *last = after.last;
+    *asked = after.asked;
+    *stopped = after.stopped;
+    let go = reported.go;
+    go_word(go)
 }

@@ -1,14 +1,15 @@
-// Whole runs by the C convention, for the oracle's bench: a slice passes as pointer and length. No part of the public calls.
+// Whole runs by the C convention, for the oracle's bench and comparison: a slice passes as pointer and length, an answer is one u64
+// (specs/Exported.antt). No part of the public calls.
 use answers::Answer;
 use erosion::RunAnswer;
 use grid::Sides;
 use runs::FluvialSettings;
 use runs::ThermalSettings;
 ghost use mathlib.Core.Path.{_≡_};
-ghost use Rattle.answers.specs.Outcome.{numberIn, answerOf};
+ghost use Rattle.answers.specs.Outcome.{numberIn, placeIn, answerOf};
 ghost use Rattle.thermal_run.specs.ThermalRun.{ThermalRun};
 ghost use Rattle.fluvial_run.specs.FluvialRun.{FluvialRun};
-ghost use Rattle.harness_runs.specs.Exported.{Exported};
+ghost use Rattle.harness_runs.specs.Exported.{Exported, endWord};
 
 // Document 01's number of an answer, 0 if it is no refusal.
 fn number(a: Answer) -> u32
@@ -20,11 +21,25 @@ fn number(a: Answer) -> u32
     }
 }
 
-fn ended(r: RunAnswer) -> u32
-    ensures { λ n. ⌜ n ≡ numberIn (answerOf (r .answer)) ⌝ }
+// The place that a refusal carries, 0 if none does.
+fn place(a: Answer) -> usize
+    ensures { λ r. ⌜ r ≡ placeIn (answerOf a) ⌝ }
+{
+    match a {
+        Answer::Done => 0,
+        Answer::Refused(r) => answers::place(r),
+    }
+}
+
+// The end of a run in one word.
+fn ended(r: RunAnswer) -> u64
+    ensures { λ w. ⌜ w ≡ endWord (r .answer) (r .incisions) (r .passes) (r .questions) ⌝ }
 {
     let answer = r.answer;
-    number(answer)
+    let high = number(answer) % 0x1_0000 * 0x1_0000 + r.incisions % 0x1_0000;
+    let counts = r.passes % 0x1_0000 * 0x1_0000 + r.questions % 0x1_0000;
+    let low = (place(answer) % 0x1_0000_0000 + counts as usize) % 0x1_0000_0000;
+    high as u64 * 0x1_0000_0000 + low as u64
 }
 
 // A whole thermal run.
@@ -42,7 +57,7 @@ pub extern "C" fn harness_thermal_run(
     small: &mut [f32],
     eroded: &mut [f32],
     copy: &mut [f32],
-) -> u32
+) -> u64
     ensures { λ r. ⌜ Exported (λ a. ThermalRun w h (record { «water_level» = «water_level»; talus = talus; strength = strength; iterations = iterations; «work_res» = «work_res» }) stop (now (hmap .entry)) (now (small .entry)) (now (eroded .entry)) (now (copy .entry)) a (now (hmap .exit)) (now (small .exit)) (now (eroded .exit)) (now (copy .exit))) r ⌝ }
 {
     let size = Sides { w, h };
@@ -77,7 +92,7 @@ pub extern "C" fn harness_fluvial_run(
     recv: &mut [u32],
     queue: &mut [u32],
     status: &mut [u8],
-) -> u32
+) -> u64
     ensures { λ r. ⌜ Exported (λ a. FluvialRun w h (record { «water_level» = «water_level»; strength = strength; talus = talus; uplift = uplift; iterations = iterations; «work_res» = «work_res» }) stop (now (hmap .entry)) (now (small .entry)) (now (eroded .entry)) (now (copy .entry)) (now (area .entry)) (now (order .entry)) (now (recv .entry)) (now (queue .entry)) (now (status .entry)) a (now (hmap .exit)) (now (small .exit)) (now (eroded .exit)) (now (copy .exit)) (now (area .exit)) (now (order .exit)) (now (recv .exit)) (now (queue .exit)) (now (status .exit))) r ⌝ }
 {
     let size = Sides { w, h };

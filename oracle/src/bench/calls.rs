@@ -1,5 +1,8 @@
-//! The library's calls as crates/harness exports them: a slice passes as pointer and length, and each gives document 01's
-//! number, 0 if none refuses.
+//! The library's calls as crates/harness exports them: a slice passes as pointer and length, and each gives an answer in one
+//! word, document 01's number × 2^32 plus the place that it carries, 0 if none refuses.
+use crate::source::erosion::{Incision, Talus};
+use crate::source::Record;
+
 type Sides = (usize, usize);
 
 mod exported {
@@ -22,7 +25,7 @@ mod exported {
             queue_len: usize,
             status: *mut u8,
             status_len: usize,
-        ) -> u32;
+        ) -> u64;
 
         pub fn harness_incise(
             w: usize,
@@ -40,7 +43,7 @@ mod exported {
             out_len: usize,
             area: *mut f32,
             area_len: usize,
-        ) -> u32;
+        ) -> u64;
 
         pub fn harness_incise_into(
             w: usize,
@@ -70,8 +73,15 @@ mod exported {
             threshold: f32,
             strength: f32,
             water_level: f32,
+            from: f32,
+            to: f32,
+            last: *mut f32,
+            asked: *mut u32,
+            stopped: *mut bool,
             stop: u32,
-        ) -> u32;
+        ) -> u64;
+
+        pub fn harness_report(last: *mut f32, asked: *mut u32, stopped: *mut bool, p: f32, stop: u32) -> u64;
     }
 }
 
@@ -81,8 +91,8 @@ pub struct Network {
     pub recv: Vec<u32>,
     pub spill: Vec<f32>,
     pub area: Vec<f32>,
-    queue: Vec<u32>,
-    status: Vec<u8>,
+    pub queue: Vec<u32>,
+    pub status: Vec<u8>,
 }
 
 impl Network {
@@ -97,7 +107,7 @@ impl Network {
         }
     }
 
-    pub fn route(&mut self, size: Sides, hmap: &[f32], water_level: f32) -> u32 {
+    pub fn route(&mut self, size: Sides, hmap: &[f32], water_level: f32) -> u64 {
         // each slice is the one that its pointer and length name; here and below those written are lent to this call alone
         unsafe {
             exported::harness_route(
@@ -127,12 +137,12 @@ impl Network {
 pub fn incise(
     size: Sides,
     hmap: &[f32],
-    s: &super::Incision,
+    s: &Incision,
     recv: &[u32],
     order: &[u32],
     out: &mut [f32],
     area: &mut [f32],
-) -> u32 {
+) -> u64 {
     unsafe {
         exported::harness_incise(
             size.0,
@@ -158,7 +168,7 @@ pub fn incise(
 pub fn incise_into(
     size: Sides,
     hmap: &[f32],
-    s: &super::Incision,
+    s: &Incision,
     recv: &[u32],
     order: &[u32],
     out: &mut [f32],
@@ -187,9 +197,18 @@ pub fn incise_into(
     }
 }
 
-/// A pass from the fresh record, reported from 0 to 1.
-pub fn slide_pass(size: Sides, hmap: &[f32], out: &mut [f32], s: &super::Talus) -> u32 {
-    unsafe {
+/// A pass of `hmap` into `out`, reported between the ends, and the record after it.
+pub fn slide_pass(
+    size: Sides,
+    hmap: &[f32],
+    out: &mut [f32],
+    s: &Talus,
+    ends: (f32, f32),
+    r: Record,
+    stop: u32,
+) -> (u64, Record) {
+    let mut r = r;
+    let word = unsafe {
         exported::harness_slide_pass(
             size.0,
             size.1,
@@ -200,7 +219,21 @@ pub fn slide_pass(size: Sides, hmap: &[f32], out: &mut [f32], s: &super::Talus) 
             s.threshold,
             s.strength,
             s.water_level,
-            0,
+            ends.0,
+            ends.1,
+            &mut r.last,
+            &mut r.asked,
+            &mut r.stopped,
+            stop,
         )
-    }
+    };
+    (word, r)
+}
+
+/// A report: 1 to go on, 0 to stop, or a refusal; and the record after it.
+#[allow(dead_code)]
+pub fn report(r: Record, p: f32, stop: u32) -> (u64, Record) {
+    let mut r = r;
+    let word = unsafe { exported::harness_report(&mut r.last, &mut r.asked, &mut r.stopped, p, stop) };
+    (word, r)
 }

@@ -1,4 +1,5 @@
-//! Whole runs as crates/harness_runs exports them, with the scratch slices that they are lent.
+//! Whole runs as crates/harness_runs exports them, with the scratch slices that they are lent. An answer is one word: 16 bits each for document
+//! 01's number, incisions, passes and questions; a place instead of the last two where a refusal carries one.
 use crate::source::erosion::Settings;
 use crate::Sides;
 
@@ -21,7 +22,7 @@ mod exported {
             eroded_len: usize,
             copy: *mut f32,
             copy_len: usize,
-        ) -> u32;
+        ) -> u64;
 
         pub fn harness_fluvial_run(
             w: usize,
@@ -51,8 +52,13 @@ mod exported {
             queue_len: usize,
             status: *mut u8,
             status_len: usize,
-        ) -> u32;
+        ) -> u64;
     }
+}
+
+/// Document 01's number of a run's answer, 0 if none refuses.
+pub fn number(word: u64) -> u32 {
+    (word >> 48) as u32
 }
 
 /// The slices that a run is lent; a thermal run takes the first three.
@@ -69,11 +75,17 @@ pub struct Scratch {
 
 impl Scratch {
     pub fn new(n: usize) -> Scratch {
+        Scratch::of(&[n; 4], n)
+    }
+
+    /// The lengths of the slices of floats, and of the others.
+    pub fn of(floats: &[usize], n: usize) -> Scratch {
+        let floats = |i: usize| vec![0.0; floats.get(i).copied().unwrap_or(0)];
         Scratch {
-            small: vec![0.0; n],
-            eroded: vec![0.0; n],
-            copy: vec![0.0; n],
-            area: vec![0.0; n],
+            small: floats(0),
+            eroded: floats(1),
+            copy: floats(2),
+            area: floats(3),
             order: vec![0; n],
             recv: vec![0; n],
             queue: vec![0; n],
@@ -81,8 +93,8 @@ impl Scratch {
         }
     }
 
-    /// The number of a thermal run that is never stopped.
-    pub fn thermal(&mut self, size: Sides, map: &mut [f32], s: &Settings) -> u32 {
+    /// The answer of a thermal run.
+    pub fn thermal(&mut self, size: Sides, map: &mut [f32], s: &Settings, stop: u32) -> u64 {
         // each slice is the one that its pointer and length name, and is lent to this call alone; so below
         unsafe {
             exported::harness_thermal_run(
@@ -95,7 +107,7 @@ impl Scratch {
                 s.strength,
                 s.iterations,
                 s.work_res,
-                0,
+                stop,
                 self.small.as_mut_ptr(),
                 self.small.len(),
                 self.eroded.as_mut_ptr(),
@@ -106,8 +118,8 @@ impl Scratch {
         }
     }
 
-    /// The number of a fluvial run that is never stopped.
-    pub fn fluvial(&mut self, size: Sides, map: &mut [f32], s: &Settings) -> u32 {
+    /// The answer of a fluvial run.
+    pub fn fluvial(&mut self, size: Sides, map: &mut [f32], s: &Settings, stop: u32) -> u64 {
         unsafe {
             exported::harness_fluvial_run(
                 size.0,
@@ -120,7 +132,7 @@ impl Scratch {
                 s.uplift,
                 s.iterations,
                 s.work_res,
-                0,
+                stop,
                 self.small.as_mut_ptr(),
                 self.small.len(),
                 self.eroded.as_mut_ptr(),

@@ -1,2 +1,0 @@
--- From the public calls' promises to the exported ones.
-pub mod ExportedLaws

@@ -1,0 +1,17 @@
+-- A report by the C convention: the answer in one word, and the record after it.
+use Prim.Native.Nat.{ℕ}
+use mathlib.Core.Path.{_≡_}
+use mathlib.Core.Bool.{Bool, true, false}
+use lib.Ieee.{Float}
+use Rattle.generators.specs.Marks.{reportAnswer, reportRecord}
+use Rattle.generators.specs.declared.Progress.{Progress}
+use Rattle.harness_calls.specs.Word.{wordOf}
+
+-- 1 to go on
+abbrev pub goValue : Bool → ℕ
+goValue true = 1
+goValue false = 0
+
+pub record Reporting (m : Progress) (p : Float) (stop : ℕ) (after : Progress) (word : ℕ) : Type 0 where
+  pub worded : word ≡ wordOf goValue (reportAnswer m p stop)
+  pub handed : after ≡ reportRecord m p stop

@@ -1,0 +1,2 @@
+-- From the calls' answers to their words.
+pub mod WordLaws

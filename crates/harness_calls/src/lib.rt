@@ -1,0 +1,127 @@
+// The direct calls on maps by the C convention, for the oracle's comparison with the source: a slice passes as pointer and length, an answer is one
+// u64 (specs/Word.antt). No part of the public calls.
+use answers::Answer;
+use answers::Refusal;
+use answers::Value;
+use generators::Extent;
+use grid::Sides;
+ghost use Prim.Native.Nat.{_+_, _*_, _%_, _^_};
+ghost use mathlib.Core.Path.{_≡_};
+ghost use lib.Ieee.{binary32, toBits};
+ghost use Rattle.answers.specs.Outcome.{numberOf, placeOf, answerOf, valueOf};
+ghost use Rattle.generators.specs.Extents.{extentOf, getMinMaxAnswer, NormalizeMade};
+ghost use Rattle.resample.specs.Blocks.{Downsampled};
+ghost use Rattle.bilinear.specs.Samples.{bilinearAnswer};
+ghost use Rattle.upsample.specs.Samples.{Added};
+ghost use Rattle.harness_calls.specs.Word.{wordOf, leastBits, greatestBits, Exported};
+
+// A refusal's number and place in one word.
+pub fn refusal_word(r: Refusal) -> u64
+    ensures { λ w. ⌜ w ≡ numberOf r * 2 ^ 32 + placeOf r % 2 ^ 32 ⌝ }
+{
+    let place = answers::place(r) % 0x1_0000_0000;
+    answers::number(r) as u64 * 0x1_0000_0000 + place as u64
+}
+
+// An answer's word, 0 if it is no refusal.
+pub fn word(a: Answer) -> u64
+    ensures { λ w. ⌜ w ≡ wordOf (λ _. 0) (answerOf a) ⌝ }
+{
+    match a {
+        Answer::Done => 0,
+        Answer::Refused(r) => refusal_word(r),
+    }
+}
+
+fn value_word(v: Value) -> u64
+    ensures { λ w. ⌜ w ≡ wordOf (toBits binary32) (valueOf v) ⌝ }
+{
+    match v {
+        Value::Given(x) => floats::to_bits(x) as u64,
+        Value::Refused(r) => refusal_word(r),
+    }
+}
+
+fn least_word(e: Extent) -> u64
+    ensures { λ w. ⌜ w ≡ wordOf leastBits (extentOf e) ⌝ }
+{
+    match e {
+        Extent::Of(m) => floats::to_bits(m.min) as u64,
+        Extent::Refused(r) => refusal_word(r),
+    }
+}
+
+fn greatest_word(e: Extent) -> u64
+    ensures { λ w. ⌜ w ≡ wordOf greatestBits (extentOf e) ⌝ }
+{
+    match e {
+        Extent::Of(m) => floats::to_bits(m.max) as u64,
+        Extent::Refused(r) => refusal_word(r),
+    }
+}
+
+// `get_min_max`: the bits of min.
+#[no_mangle]
+pub extern "C" fn harness_least(v: &[f32]) -> u64
+    ensures { λ w. ⌜ w ≡ wordOf leastBits (getMinMaxAnswer (now (v .entry))) ⌝ }
+{
+    least_word(generators::get_min_max(v))
+}
+
+// `get_min_max`: the bits of max.
+#[no_mangle]
+pub extern "C" fn harness_greatest(v: &[f32]) -> u64
+    ensures { λ w. ⌜ w ≡ wordOf greatestBits (getMinMaxAnswer (now (v .entry))) ⌝ }
+{
+    greatest_word(generators::get_min_max(v))
+}
+
+// `normalize`.
+#[no_mangle]
+pub extern "C" fn harness_normalize(v: &mut [f32], lo: f32, hi: f32) -> u64
+    ensures { λ w. ⌜ Exported (λ a. NormalizeMade (now (v .entry)) lo hi a (now (v .exit))) w ⌝ }
+{
+    word(generators::normalize(v, lo, hi))
+}
+
+// `downsample`.
+#[no_mangle]
+pub extern "C" fn harness_downsample(
+    src: &[f32],
+    w: usize,
+    h: usize,
+    dst: &mut [f32],
+    dw: usize,
+    dh: usize,
+) -> u64
+    ensures { λ r. ⌜ Exported (λ a. Downsampled (now (src .entry)) w h (now (dst .entry)) dw dh a (now (dst .exit))) r ⌝ }
+{
+    let size = Sides { w, h };
+    let dsize = Sides { w: dw, h: dh };
+    word(resample::downsample(src, size, dst, dsize))
+}
+
+// `add_upsampled`.
+#[no_mangle]
+pub extern "C" fn harness_add_upsampled(
+    map: &mut [f32],
+    w: usize,
+    h: usize,
+    delta: &[f32],
+    dw: usize,
+    dh: usize,
+) -> u64
+    ensures { λ r. ⌜ Exported (λ a. Added (now (map .entry)) w h (now (delta .entry)) dw dh a (now (map .exit))) r ⌝ }
+{
+    let size = Sides { w, h };
+    let dsize = Sides { w: dw, h: dh };
+    word(upsample::add_upsampled(map, size, delta, dsize))
+}
+
+// `bilinear`: the bits of the sample.
+#[no_mangle]
+pub extern "C" fn harness_bilinear(v: &[f32], x: f32, y: f32, w: usize, h: usize) -> u64
+    ensures { λ r. ⌜ r ≡ wordOf (toBits binary32) (bilinearAnswer (now (v .entry)) x y w h) ⌝ }
+{
+    value_word(bilinear::bilinear(v, x, y, Sides { w, h }))
+}

@@ -1,0 +1,2 @@
+-- From a run's answer to its word.
+pub mod EndLaws
