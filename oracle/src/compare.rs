@@ -1,6 +1,7 @@
 //! Compares the library with the source behind document 01's refusals, bit for bit: random small grids over all calls, then large ones.
-//! `compare [times]`: so many times 1,000 rounds on small grids (10 at first), each round one or more grids of each call. docs/DIFFERENCES.md has the totals.
+//! `compare [thousands]`: so many thousand rounds on small grids (100 where none is given), eight new grids in each. docs/DIFFERENCES.md has the totals.
 #[path = "bench/calls.rs"]
+#[allow(dead_code)]
 mod calls;
 #[path = "compare/exported.rs"]
 mod exported;
@@ -35,10 +36,13 @@ use whole::Kind;
 
 const SEED: u64 = 7_616_167;
 
-fn small(times: usize) -> bool {
+/// Each round has a new map for the extents and a new grid for each of seven kinds of calls.
+const GRIDS: usize = 8;
+
+fn small(rounds: usize) -> bool {
     let (mut grids, mut numbers) = (Tally::default(), Tally::default());
     let r = &mut Random::new(SEED);
-    for i in 0..times * 1000 {
+    for i in 0..rounds {
         maps::extent(&mut grids, r, i);
         maps::downsample(&mut grids, r, i);
         maps::add_upsampled(&mut grids, r, i);
@@ -47,19 +51,21 @@ fn small(times: usize) -> bool {
         passes::incise(&mut grids, r, i);
         passes::slide(&mut grids, r, i);
         whole::small(&mut grids, r, i);
-        maps::root(&mut numbers, r, i);
+        for j in 0..16 {
+            maps::root(&mut numbers, r, j);
+        }
         maps::work_size(&mut numbers, r, i);
         maps::reports(&mut numbers, r, i);
     }
-    let a = grids.print("small grids");
+    let a = grids.print(&format!("{} random small grids", rounds * GRIDS));
     numbers.print("numbers") && a
 }
 
-/// White noise from 0 to 1 on slopes from the middle to the border.
+/// Slopes from the middle down to the border, with noise as high as sixteen steps of the slope.
 fn hills(r: &mut Random, size: Sides) -> Vec<f32> {
     let far = (size.0 + size.1) as f32;
     let edge = |i: usize, side: usize| i.min(side - 1 - i) as f32 / far;
-    (0..size.0 * size.1).map(|i| r.unit() * 0.1 + edge(i % size.0, size.0) + edge(i / size.0, size.1)).collect()
+    (0..size.0 * size.1).map(|i| r.unit() * 16.0 / far + edge(i % size.0, size.0) + edge(i / size.0, size.1)).collect()
 }
 
 fn noise(r: &mut Random, size: Sides) -> Vec<f32> {
@@ -88,19 +94,26 @@ fn large() -> bool {
         }
         maps::large(&mut t, r, size, (size.0.div_ceil(3), size.1.div_ceil(3)));
     }
-    let h = hills(r, (4095, 4095));
-    passes::large(&mut t, r, (4095, 4095), h, 0.12, true);
+    let size = (4095, 4095);
+    let h = hills(r, size);
+    passes::large(&mut t, r, size, h.clone(), 0.12, true);
+    for kind in [Kind::Fluvial, Kind::Thermal] {
+        let s = Settings { work_res: 512, ..settings(size, 3) };
+        whole::large(&mut t, r, kind, size, h.clone(), &s, true);
+    }
     let size = (4096, 4096);
     let h = hills(r, size);
     passes::large(&mut t, r, size, h.clone(), 0.12, false);
-    whole::large(&mut t, r, Kind::Fluvial, size, h, &settings(size, 1), false);
+    for kind in [Kind::Fluvial, Kind::Thermal] {
+        whole::large(&mut t, r, kind, size, h.clone(), &settings(size, 1), false);
+    }
     t.print("large grids: sides 512, 1,024, 4,095, 4,096, 1 x 4,096 and 4,096 x 1")
 }
 
 fn main() -> ExitCode {
-    let times = std::env::args().nth(1).and_then(|a| a.parse().ok()).unwrap_or(10);
+    let thousands = std::env::args().nth(1).and_then(|a| a.parse().ok()).unwrap_or(100);
     println!("seed {SEED}");
-    let (a, b) = (small(times), large());
+    let (a, b) = (small(thousands * 1000), large());
     if a && b {
         println!("no difference");
         return ExitCode::SUCCESS;

@@ -11,9 +11,6 @@ mod source;
 #[allow(dead_code)]
 mod standins;
 
-#[allow(unused_imports)]
-use source::erosion::{Incision, Talus};
-
 use random::Random;
 use std::fs;
 use std::path::Path;
