@@ -84,7 +84,7 @@ fn large() -> bool {
     for size in [(512, 512), (1024, 1024), (1, 4096), (4096, 1)] {
         for make in [hills, noise] {
             let h = make(r, size);
-            passes::large(&mut t, r, size, h.clone(), 0.12, true);
+            passes::large(&mut t, r, size, h.clone(), 0.12);
             for kind in [Kind::Fluvial, Kind::Thermal] {
                 let s = settings(size, 3);
                 whole::large(&mut t, r, kind, size, h.clone(), &s, true);
@@ -96,14 +96,14 @@ fn large() -> bool {
     }
     let size = (4095, 4095);
     let h = hills(r, size);
-    passes::large(&mut t, r, size, h.clone(), 0.12, true);
+    passes::large(&mut t, r, size, h.clone(), 0.12);
     for kind in [Kind::Fluvial, Kind::Thermal] {
         let s = Settings { work_res: 512, ..settings(size, 3) };
         whole::large(&mut t, r, kind, size, h.clone(), &s, true);
     }
     let size = (4096, 4096);
     let h = hills(r, size);
-    passes::large(&mut t, r, size, h.clone(), 0.12, false);
+    passes::large(&mut t, r, size, h.clone(), 0.12);
     for kind in [Kind::Fluvial, Kind::Thermal] {
         whole::large(&mut t, r, kind, size, h.clone(), &settings(size, 1), false);
     }

@@ -233,15 +233,13 @@ pub fn slide(t: &mut Tally, r: &mut Random, i: usize) {
 }
 
 /// A large grid: its network, an incision along both lists, a pass to the end and one that stops at a random question.
-pub fn large(t: &mut Tally, r: &mut Random, size: Sides, h: Vec<f32>, water_level: f32, lists: bool) {
+pub fn large(t: &mut Tally, r: &mut Random, size: Sides, h: Vec<f32>, water_level: f32) {
     let l = Land { size, h, water_level };
     let n = l.h.len();
     let net = routed(t, &l, room(n));
     let scale = size.0.max(size.1) as f32 / 512.0;
     let s = Incision { k: 4.8 * scale, uplift: 0.001, water_level };
-    if lists {
-        both_lists(t, r, &l, &s, &net);
-    }
+    both_lists(t, r, &l, &s, &net);
     drop(net);
     let s = Talus { threshold: 0.0075 / scale, strength: 0.5, water_level };
     let mut p = Pass { s, ends: (0.0, 1.0), r: Record::FRESH, stop: 0, out: n };
