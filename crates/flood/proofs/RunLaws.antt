@@ -1,70 +1,58 @@
--- Laws of the whole flood: after i turns the slices hold the flood after i steps, and the queue its waiting cells.
-use Prim.Native.Nat.{ℕ, zero, suc, _+_, _-_, _*_, _^_, _≤_, _<_}
+-- Laws of the whole flood: after some turns the slices hold the flood after as many steps as cells have left, and the scan and its heap the
+-- waiting cells.
+use Prim.Native.Nat.{ℕ, _+_, _-_, _*_, _^_, _≤_, _<_}
 use mathlib.Core.Path.{_≡_, refl, sym, ap, _∙_, subst}
-use mathlib.Core.Logic.{inl, inr}
+use mathlib.Core.Bool.{cond}
 use mathlib.Core.List.{List, [], _∷_, _++_}
+use native.Mathlib.Decide.{decLt}
 use native.Mathlib.Numerals.{add-one}
 use native.Mathlib.Omega.{arith}
 use lib.ListN.{length, getD, set, take}
 use lib.Seq.{getD-set-same, getD-set-other, take-suc-set, take-all}
-use lib.Ieee.{Float}
-use borrow.Author.Tests.{eq-eqb, eqb-true}
+use lib.Dec.{eqb, ltb}
+use lib.Ieee.{Float, nan}
+use borrow.Author.Tests.{eq-eqb, ne-eqb, eqb-true, lt-ltb, le-ltb}
 use Rattle.float_order.specs.Fit.{Fit}
+use Rattle.float_order.specs.Order.{rank}
 use Rattle.grid.proofs.SidesLaws.{cells-bound}
 use Rattle.drainage.specs.Ground.{floats, gridGround}
+use Rattle.drainage.specs.Grids.{Height}
 use Rattle.drainage.specs.Flood.{Flood, leastWaiting, step, floodAfter, flooded}
-use Rattle.drainage.specs.Ways.{one, times}
-use Rattle.drainage.proofs.TallyLaws.{same-or-not, one-same, one-other, one-eq}
+use Rattle.drainage.specs.Ways.{countBelow}
+use Rattle.drainage.proofs.TallyLaws.{count-more, count-apart}
 use Rattle.drainage.proofs.FloodLaws.{step-leaves, leastWaiting-is, leastWaiting-found, floodAfter-none, floodAfter-more}
-use Rattle.drainage.proofs.GroundLaws.{grid-stage}
-use Rattle.heap.specs.Queue.{placeOf, within, Popped}
-use Rattle.flood.specs.Slices.{stateOf, Queued, Started, ReachedAll, Accepted, Flooded}
+use Rattle.drainage.proofs.StateLaws.{Stands, floodAfter-stands}
+use Rattle.drainage.proofs.GroundLaws.{grid-stage, grid-heights, gridGround-joined, finite-numbers}
+use Rattle.flood.specs.declared.Scan.{Scan}
+use Rattle.flood.specs.Slices.{stateOf, Started, Accepted, Flooded}
+use Rattle.flood.specs.Scans.{atLimit, Listed, Queued, Begun, Waits, Turned, Leaves, Leaver, ReachedAll, Onward}
+use Rattle.flood.proofs.ScanLaws.{under-limit, listed-set, leaver-level}
 
-pub record Running (w h : ℕ) (water : Float) (hs : List Float) (i len : ℕ) (status : List ℕ) (spill : List Float) (recv order queue : List ℕ) : Type 0 where
+pub record Running (w h : ℕ) (water : Float) (hs : List Float) (i : ℕ) (s : Scan) (status : List ℕ) (spill : List Float) (recv order queue : List ℕ) : Type 0 where
   pub state : stateOf status spill recv (take i order) ≡ floodAfter floats (gridGround w h water hs) hs i
-  pub queued : Queued status spill len queue
+  pub begun : Begun hs order status spill s queue
 
-module _ (status : List ℕ) (spill : List Float) (len : ℕ) (queue : List ℕ) (q : Queued status spill len queue) (c : ℕ) (queue′ : List ℕ)
-    (p : Popped (placeOf spill) (length spill) len queue c queue′) where
-  -- the cell that leaves the queue waited
-  waited : getD status c 0 ≡ 1
-  waited = one-eq (getD status c 0) 1 (omega (arith, q .cells c, p .cells c, one-same c c refl))
-
-  -- it does not wait any more
-  pub left-queued : c < length status → Queued (set status c 2) spill (len - 1) queue′
-  left-queued l = record {
-    heap = p .heap;
-    cells = λ b. elim (same-or-not c b) [
-      | inl z ↦
-          omega (
-            arith,
-            q .cells b,
-            p .cells b,
-            one-same c b z,
-            one-same (getD status b 0) 1 (ap (λ i. getD status i 0) (sym z) ∙ waited),
-            one-other (getD (set status c 2) b 0) 1 (unlike (ap (λ i. getD (set status c 2) i 0) (sym z) ∙ getD-set-same status c 2 0 l)),
-          )
-      | inr z ↦ omega (arith, q .cells b, p .cells b, one-other c b z, ap (λ v. one v 1) (getD-set-other status c b 2 0 (λ y. z (sym y))))
-    ];
-  }
-    where
-      unlike : {v : ℕ} → v ≡ 2 → v ≡ 1 → ⊥
-      unlike z y = omega arith
+-- one turn more
+abbrev pub after : Scan → ℕ → Scan
+after s len = record { head = s .head; limit = s .limit; len = len; cell = s .cell }
 
 module _ (w h : ℕ) (water : Float) (hs : List Float) where
   pub running-none :
-      (len : ℕ) (status : List ℕ) (spill : List Float) (recv order queue : List ℕ) → Started w h water hs len status spill recv queue
-      → Running w h water hs 0 len status spill recv order queue
-  running-none len status spill recv order queue s = record { state = s .state ∙ sym (floodAfter-none floats (gridGround w h water hs) hs); queued = s .queued }
+      (s : Scan) (status : List ℕ) (spill : List Float) (recv order queue : List ℕ) → Started w h water hs status spill recv
+      → Begun hs order status spill s queue → Running w h water hs 0 s status spill recv order queue
+  running-none s status spill recv order queue t b = record { state = t .state ∙ sym (floodAfter-none floats (gridGround w h water hs) hs); begun = b }
 
-  module _ (i len : ℕ) (status : List ℕ) (spill : List Float) (recv order queue : List ℕ) (r : Running w h water hs i len status spill recv order queue) where
+  module _ (i : ℕ) (s : Scan) (status : List ℕ) (spill : List Float) (recv order queue : List ℕ) (r : Running w h water hs i s status spill recv order queue)
+      (a : Accepted w h hs) where
     abbrev now-state : Flood Float
     now-state = stateOf status spill recv (take i order)
 
+    pub few : length hs ≤ 2 ^ 24
+    few = omega (arith, a .cells, cells-bound w h (a .sides .wide) (a .sides .high))
+
     -- while some cell has not left, one waits
-    pub some-queued : Accepted w h hs → Fit hs → i < w * h → 0 < len
-    unfolding times
-    some-queued a fit l = go len (subst (λ n. 0 < n) (sym (r .queued .cells next ∙ one-same (getD status next 0) 1 waits-now)) (omega arith))
+    pub some-waits : Fit hs → i < w * h → Waits status
+    some-waits fit l = record { cell = next; waits = eqb-true (getD status next 0) 1 (leastWaiting-found floats (gridGround w h water hs) hs now-state .one-waits inside) }
       where
         next : ℕ
         next = leastWaiting floats (gridGround w h water hs) hs now-state
@@ -74,38 +62,129 @@ module _ (w h : ℕ) (water : Float) (hs : List Float) where
             subst (λ s. leastWaiting floats (gridGround w h water hs) hs s < w * h) (sym (r .state))
             (grid-stage w h water hs (a .sides) (a .cells) fit (a .finites) i (omega arith) .next l)
 
-        waits-now : getD status next 0 ≡ 1
-        waits-now = eqb-true (getD status next 0) 1 (leastWaiting-found floats (gridGround w h water hs) hs now-state .one-waits inside)
+    -- as many cells have left as stand in the order
+    left-count : Fit hs → i ≤ w * h → countBelow (w * h) (λ c. eqb (getD status c 0) 2) ≡ i
+    left-count fit l =
+        ap (λ (t : Flood Float). countBelow (w * h) (λ c. eqb (getD (t .status) c 0) 2)) (r .state) ∙ stands .holds .flooding .count ∙ stands .left
+      where
+        stands : Stands floats (gridGround w h water hs) hs Height rank i (floodAfter floats (gridGround w h water hs) hs i)
+        stands =
+            floodAfter-stands floats (gridGround w h water hs) hs Height rank (gridGround-joined w h water hs (a .sides)) finite-numbers (a .cells)
+            (grid-heights (w * h) hs (a .cells) fit (a .finites)) i l
 
-        go : (n : ℕ) → 0 < within next n queue → 0 < n
-        go zero p = let z : ⊥ = omega arith in absurd z
-        go (suc n) p = omega arith
+    module _ (fit : Fit hs) (l : i < w * h) (t : Scan) (status′ queue′ : List ℕ) (turned : Turned hs order (s .head) status spill t status′ queue′)
+        (sized : length status ≡ w * h) where
+      module _ (m : t .cell < length hs) where
+        abbrev c : ℕ
+        c = t .cell
 
-    -- the least cell of the queue leaves and reaches its neighbours
-    module _ (a : Accepted w h hs) (c : ℕ) (queue₁ : List ℕ) (p : Popped (placeOf spill) (length spill) len queue c queue₁) (sized : length spill ≡ w * h) where
-      leaves-next : leastWaiting floats (gridGround w h water hs) hs now-state ≡ c
-      leaves-next =
-          leastWaiting-is floats (gridGround w h water hs) hs now-state few c (subst (λ n. c < n) sized (p .inside))
-          (eq-eqb (getD status c 0) 1 (waited status spill len queue (r .queued) c queue₁ p))
-          (λ b l e. p .least b (omega (arith, r .queued .cells b, one-same (getD status b 0) 1 (eqb-true (getD status b 0) 1 e))))
-        where
-          few : w * h ≤ 2 ^ 32
-          few = omega (arith, cells-bound w h (a .sides .wide) (a .sides .high))
+        v : Leaves hs (t .limit) c status spill status′
+        v = turned .leaves m
+
+        inside : c < w * h
+        inside = omega (arith, a .cells)
+
+        left-now : getD status′ c 0 ≡ 2
+        left-now = ap (λ z. getD z c 0) (v .marked) ∙ getD-set-same status c 2 0 (omega (arith, inside, sized))
+
+        other : (b : ℕ) → (b ≡ c → ⊥) → getD status′ b 0 ≡ getD status b 0
+        other b d = ap (λ z. getD z b 0) (v .marked) ∙ getD-set-other status c b 2 0 d
+
+        -- the order has room before the scan's place: the cells that left and those the scan has not passed are different ones
+        pub leaver-room : i < t .head
+        leaver-room =
+            omega (
+              arith,
+              left-count fit (omega arith),
+              count-more (λ b. eqb (getD status b 0) 2) (λ b. eqb (getD status′ b 0) 2) (w * h) c inside
+              (ne-eqb (getD status c 0) 2 (λ z. unlike (v .waited) z)) (eq-eqb (getD status′ c 0) 2 left-now) (λ b d. ap (λ z. eqb z 2) (sym (other b d))),
+              count-apart (λ b. eqb (getD status′ b 0) 2) (atLimit hs (t .limit)) (w * h)
+              (λ b k e. under-limit hs (t .limit) b (turned .queued .gone b (eqb-true (getD status′ b 0) 2 e))),
+              ap (λ n. t .head + countBelow n (atLimit hs (t .limit))) (sym (a .cells)),
+              turned .listed .many,
+              a .cells,
+            )
+          where
+            unlike : {x : ℕ} → x ≡ 1 → x ≡ 2 → ⊥
+            unlike p q = omega arith
+
+        pub leaver : length order ≡ w * h → Leaver hs (t .limit) c i status′ spill order
+        leaver n = record {
+          left = left-now;
+          level = leaver-level hs spill (t .limit) c few (λ b k. grid-heights (w * h) hs (a .cells) fit (a .finites) b (omega (arith, a .cells))) good (v .low);
+          room = omega arith;
+        }
+          where
+            good : Height (getD spill c nan)
+            good =
+                subst (λ (z : Flood Float). Height (getD (z .spill) c nan)) (sym (r .state))
+                (grid-stage w h water hs (a .sides) (a .cells) fit (a .finites) i (omega arith) .good c inside)
+
+        leaves-next : leastWaiting floats (gridGround w h water hs) hs now-state ≡ c
+        leaves-next =
+            leastWaiting-is floats (gridGround w h water hs) hs now-state (omega (arith, few, a .cells)) c inside (eq-eqb (getD status c 0) 1 (v .waited))
+            (λ b k e. v .least b (eqb-true (getD status b 0) 1 e))
+
+        running-leaves :
+            (len′ : ℕ) (status″ : List ℕ) (spill″ : List Float) (recv″ order″ queue″ : List ℕ) → length order ≡ w * h → order″ ≡ set order i c
+            → ReachedAll w h hs (t .limit) c status′ spill recv len′ status″ spill″ recv″ queue″
+            → Running w h water hs (i + 1) (after t len′) status″ spill″ recv″ order″ queue″
+        running-leaves len′ status″ spill″ recv″ order″ queue″ n e x = record {
+          state =
+              ap (stateOf status″ spill″ recv″) (ap (take (i + 1)) e ∙ ap (λ n. take n (set order i c)) (add-one i) ∙ take-suc-set order i c (omega arith))
+              ∙ x .state water (take i order ++ (c ∷ []))
+              ∙ ap (λ z. Rattle.drainage.specs.Flood.pushAll floats (gridGround w h water hs) hs c (stateOf z spill recv (take i order ++ (c ∷ [])))) (v .marked)
+              ∙ sym (step-leaves floats (gridGround w h water hs) hs now-state c leaves-next inside)
+              ∙ ap (step floats (gridGround w h water hs) hs) (r .state)
+              ∙ sym (floodAfter-more floats (gridGround w h water hs) hs i)
+              ∙ ap (floodAfter floats (gridGround w h water hs) hs) (sym (add-one i));
+          begun = record { listed = listed-set hs (t .head) (t .limit) order order″ (turned .listed) i c leaver-room e; queued = x .queued };
+        }
+
+      running-passes :
+          length hs ≤ t .cell → (len′ : ℕ) (status″ : List ℕ) (spill″ : List Float) (recv″ order″ queue″ : List ℕ)
+          → stateOf status″ spill″ recv″ order″ ≡ stateOf status′ spill recv order → Queued hs (t .limit) status″ spill″ len′ queue″
+          → Running w h water hs i (after t len′) status″ spill″ recv″ order″ queue″
+      running-passes m len′ status″ spill″ recv″ order″ queue″ e q = record {
+        state =
+            ap (λ (z : Flood Float). stateOf (z .status) (z .spill) (z .finder) (take i (z .order))) e
+            ∙ ap (λ z. stateOf z spill recv (take i order)) (turned .same m)
+            ∙ r .state;
+        begun = record {
+          listed = subst (Listed hs (t .head) (t .limit)) (sym (ap (λ (z : Flood Float). z .order) e)) (turned .listed);
+          queued = q;
+        };
+      }
 
       pub running-more :
-          i < length order → (len′ : ℕ) (status′ : List ℕ) (spill′ : List Float) (recv′ queue′ : List ℕ)
-          → ReachedAll w h hs c (set status c 2) spill recv len′ status′ spill′ recv′ queue′
-          → Running w h water hs (i + 1) len′ status′ spill′ recv′ (set order i c) queue′
-      running-more l len′ status′ spill′ recv′ queue′ s = record {
-        state =
-            ap (stateOf status′ spill′ recv′) (ap (λ n. take n (set order i c)) (add-one i) ∙ take-suc-set order i c l)
-            ∙ s .state water (take i order ++ (c ∷ []))
-            ∙ sym (step-leaves floats (gridGround w h water hs) hs now-state c leaves-next (subst (λ n. c < n) sized (p .inside)))
-            ∙ ap (step floats (gridGround w h water hs) hs) (r .state)
-            ∙ sym (floodAfter-more floats (gridGround w h water hs) hs i)
-            ∙ ap (floodAfter floats (gridGround w h water hs) hs) (sym (add-one i));
-        queued = s .queued;
-      }
+          length order ≡ w * h → (len′ k : ℕ) (status″ : List ℕ) (spill″ : List Float) (recv″ order″ queue″ : List ℕ)
+          → Onward w h hs i t order status′ spill recv len′ order″ status″ spill″ recv″ queue″ → k ≡ cond (ltb (t .cell) (length hs)) 1 0
+          → Running w h water hs (i + k) (after t len′) status″ spill″ recv″ order″ queue″
+      running-more n len′ k status″ spill″ recv″ order″ queue″ o e = elim (decLt (t .cell) (length hs)) [
+        | yes m ↦
+            subst (λ j. Running w h water hs j (after t len′) status″ spill″ recv″ order″ queue″) (one-more m)
+            (running-leaves m len′ status″ spill″ recv″ order″ queue″ n (o .joins m) (o .reached m))
+        | no m ↦
+            subst (λ j. Running w h water hs j (after t len′) status″ spill″ recv″ order″ queue″) (no-more (omega arith))
+            (running-passes (omega arith) len′ status″ spill″ recv″ order″ queue″ (o .stays (omega arith)) (o .queued))
+      ]
+        where
+          one-more : t .cell < length hs → i + 1 ≡ i + k
+          one-more m = ap (λ j. i + j) (sym (e ∙ ap (λ b. cond b 1 0) (lt-ltb (t .cell) (length hs) m)))
+
+          no-more : length hs ≤ t .cell → i ≡ i + k
+          no-more m = omega (arith, e ∙ ap (λ b. cond b 1 0) (le-ltb (t .cell) (length hs) m))
+
+      -- a turn brings a cell to the order or the scan onward
+      pub turn-less : (k : ℕ) → k ≡ cond (ltb (t .cell) (length hs)) 1 0 → (i + k ≤ w * h) × (w * h - (i + k) + (w * h - t .head) < w * h - i + (w * h - s .head))
+      turn-less k e = elim (decLt (t .cell) (length hs)) [
+        | yes m ↦
+            let one-now : k ≡ 1 = e ∙ ap (λ b. cond b 1 0) (lt-ltb (t .cell) (length hs) m) in
+            (omega arith, omega (arith, turned .onward))
+        | no m ↦
+            let none-now : k ≡ 0 = e ∙ ap (λ b. cond b 1 0) (le-ltb (t .cell) (length hs) (omega arith)) in
+            (omega arith, omega (arith, turned .passes (omega arith), turned .listed .few, turned .listed .long, a .cells))
+      ]
 
     pub running-done : i ≤ w * h → w * h ≤ i → length order ≡ w * h → Flooded w h water hs order recv spill
     running-done lo hi n = record {

@@ -1,21 +1,22 @@
 -- Laws of the first state: rows of marks are the list of marks, and the waiting cells gathered are the queue.
 use Prim.Native.Nat.{ℕ, _+_, _*_, _≤_, _<_}
 use mathlib.Core.Path.{_≡_, refl, sym, ap, _∙_}
-use mathlib.Core.Bool.{cond}
+use mathlib.Core.Bool.{Bool, true, false, cond}
 use mathlib.Core.Logic.{inl, inr}
 use mathlib.Core.List.{List, []}
 use native.Mathlib.Omega.{arith}
 use lib.ListN.{length, getD, List·getD-eq-default}
 use lib.Ieee.{Float, nan}
 use Rattle.lists.specs.Loops.{tabulate}
+use Rattle.lists.proofs.TableLaws.{length-tabulate, getD-tabulate}
 use Rattle.grid.specs.Sides.{cellOf}
 use Rattle.grid.specs.Base.{baseOf}
 use Rattle.grid.proofs.BaseLaws.{base-cell}
-use Rattle.drainage.specs.Flood.{start}
+use Rattle.drainage.specs.Flood.{Flood, start}
 use Rattle.drainage.specs.Ways.{times}
 use Rattle.drainage.proofs.TallyLaws.{same-or-not, one-same, one-other}
 use Rattle.heap.specs.Queue.{placeOf, Pushed}
-use Rattle.flood.specs.Slices.{stateOf, markOf, Queued, Gathered, Started}
+use Rattle.flood.specs.Slices.{stateOf, markOf, Gathered, Started}
 
 module _ (w h : ℕ) (hs : List Float) (water : Float) where
   -- the marks of all cells, and that of column x, row y
@@ -67,21 +68,28 @@ module _ (status : List ℕ) (spill : List Float) where
       few = omega (arith, g .few);
     }
 
-  pub gathered-done : (i len : ℕ) (queue : List ℕ) → length status ≤ i → Gathered status spill i len queue → Queued status spill len queue
-  gathered-done i len queue n g = record {
-    heap = g .heap;
-    cells = λ c. elim (native.Mathlib.Decide.decLt c i) [
-      | yes l ↦ g .below c l
-      | no l ↦ g .above c (omega arith) ∙ sym (one-other (getD status c 0) 1 (outside c (omega arith)))
-    ];
-  }
-    where
-      outside : (c : ℕ) → length status ≤ c → getD status c 0 ≡ 1 → ⊥
-      outside c l e = omega (arith, List·getD-eq-default status 0 {n = c} l)
-
 pub started :
-    (w h : ℕ) (water : Float) (hs : List Float) (len : ℕ) (status : List ℕ) (spill : List Float) (recv queue : List ℕ)
-    → status ≡ tabulate (w * h) (marks w h hs water) → spill ≡ hs → recv ≡ tabulate (w * h) (λ c. c) → Queued status spill len queue
-    → Started w h water hs len status spill recv queue
+    (w h : ℕ) (water : Float) (hs : List Float) (status : List ℕ) (spill : List Float) (recv : List ℕ) → status ≡ tabulate (w * h) (marks w h hs water)
+    → spill ≡ hs → recv ≡ tabulate (w * h) (λ c. c) → Started w h water hs status spill recv
 unfolding start
-started w h water hs len status spill recv queue a b c q = record { state = λ i. stateOf (a i) (b i) (c i) []; queued = q }
+started w h water hs status spill recv a b c = record { state = λ i. stateOf (a i) (b i) (c i) [] }
+
+-- at the start no cell has left
+pub started-fresh :
+    (w h : ℕ) (water : Float) (hs : List Float) (status : List ℕ) (spill : List Float) (recv : List ℕ) → Started w h water hs status spill recv
+    → (c : ℕ) → getD status c 0 ≡ 2 → ⊥
+unfolding start
+started-fresh w h water hs status spill recv s c e = elim (native.Mathlib.Decide.decLt c (w * h)) [
+  | yes l ↦ marked (baseOf w h water hs c) (sym (at ∙ getD-tabulate (marks w h hs water) (w * h) c 0 l) ∙ e)
+  | no l ↦ unlike (sym (at ∙ List·getD-eq-default (tabulate (w * h) (marks w h hs water)) 0 {n = c} (omega (arith, length-tabulate (marks w h hs water) (w * h)))) ∙ e)
+]
+  where
+    at : getD status c 0 ≡ getD (tabulate (w * h) (marks w h hs water)) c 0
+    at = ap (λ (t : Flood Float). getD (t .status) c 0) (s .state)
+
+    marked : (b : Bool) → cond b 1 0 ≡ 2 → ⊥
+    marked true z = omega arith
+    marked false z = omega arith
+
+    unlike : 0 ≡ 2 → ⊥
+    unlike z = omega arith

@@ -1,16 +1,18 @@
 -- Laws of a step: a push, the pushes of a leaver, and a cell's leaving.
 use Prim.Native.Nat.{ℕ, suc, _+_, _*_, _^_, _≤_, _<_}
-use mathlib.Core.Path.{_≡_, sym, ap, ap₂, _∙_, subst}
+use mathlib.Core.Path.{_≡_, refl, sym, ap, ap₂, _∙_, subst}
 use mathlib.Core.Bool.{cond}
 use mathlib.Core.Logic.{inl, inr}
 use mathlib.Core.List.{List}
 use native.Mathlib.Numerals.{add-one}
+use native.Mathlib.Decide.{decLt}
 use native.Mathlib.Omega.{arith}
 use lib.ListN.{length, getD, set, length-set, List·getD-eq-default}
 use lib.Seq.{getD-set-same, getD-set-other}
 use lib.Ieee.{Float, nan}
 use borrow.Author.Tests.{eq-eqb, ne-eqb}
 use Rattle.lists.proofs.TurnLaws.{turns-none, turns-more}
+use Rattle.floats.specs.Key.{keyOf}
 use Rattle.floats.specs.Stand.{maxOf}
 use Rattle.grid.specs.Sides.{columnOf, rowOf}
 use Rattle.grid.specs.Directions.{neighbourOf, neighbourAt}
@@ -21,7 +23,8 @@ use Rattle.drainage.proofs.TallyLaws.{same-or-not, one-same, one-other, one-bou
 use Rattle.drainage.proofs.KeptLaws.{getD-inside, pushedTo}
 use Rattle.heap.specs.Queue.{placeOf, within, Heap, Pushed}
 use Rattle.heap.proofs.RoomLaws.{heap-same, heap-room}
-use Rattle.flood.specs.Slices.{stateOf, Sizes, Queued, Reached, ReachedAll}
+use Rattle.flood.specs.Slices.{stateOf, Sizes}
+use Rattle.flood.specs.Scans.{Queued, Level, Reached, ReachedAll}
 
 -- lists of the same lengths
 pub sizes-kept :
@@ -40,92 +43,159 @@ sizes-kept s a b c d = record {
 pub sizes-whole : {n : ℕ} {hs : List Float} {status : List ℕ} {spill : List Float} {recv queue : List ℕ} → Sizes n hs status spill recv queue → Sizes (length hs) hs status spill recv queue
 sizes-whole {hs} {status} {spill} {recv} {queue} s = subst (λ n. Sizes n hs status spill recv queue) (sym (s .heights)) s
 
-module _ (status : List ℕ) (spill : List Float) (len : ℕ) (queue : List ℕ) (q : Queued status spill len queue) (m : ℕ) (e : getD status m 0 ≡ 0) where
-  none : within m len queue ≡ 0
-  none = q .cells m ∙ one-other (getD status m 0) 1 (λ z. unlike z)
-    where
-      unlike : getD status m 0 ≡ 1 → ⊥
-      unlike z = omega arith
+module _ (hs : List Float) (limit : ℕ) (status : List ℕ) (spill : List Float) (len : ℕ) (queue : List ℕ) (q : Queued hs limit status spill len queue) where
+  counted : (c : ℕ) → within c len queue ≤ one (getD status c 0) 1
+  counted c = elim (decLt (placeOf hs c) limit) [ yes h ↦ omega (arith, q .below c h) | no h ↦ omega (arith, q .above c (omega arith)) ]
 
-  -- a cell that does not wait has room in the queue, and its spill height is not looked at there
-  pub has-room : m < length spill → len < length spill
-  has-room l = heap-room (placeOf spill) (length spill) len queue (q .heap) (λ c. omega (arith, q .cells c, one-bound (getD status c 0) 1)) m l none
+  module _ (m : ℕ) (e : getD status m 0 ≡ 0) where
+    none : within m len queue ≡ 0
+    none = omega (arith, counted m, one-other (getD status m 0) 1 (λ z. unlike z))
+      where
+        unlike : getD status m 0 ≡ 1 → ⊥
+        unlike z = omega arith
 
-  pub respilled : (spill′ : List Float) (x : Float) → spill′ ≡ set spill m x → Heap (placeOf spill′) (length spill′) len queue
-  respilled spill′ x f =
-      subst (λ n. Heap (placeOf spill′) n len queue) (sym (ap length f ∙ length-set spill m x))
-      (heap-same (placeOf spill) (placeOf spill′) (length spill) len queue (q .heap) same)
-    where
-      same : (c : ℕ) → 0 < within c len queue → placeOf spill c ≡ placeOf spill′ c
-      same c p = elim (same-or-not c m) [
-        | inl z ↦ let no : ⊥ = omega (arith, ap (λ c. within c len queue) z, none) in absurd no
-        | inr z ↦ ap (λ (y : Float). Rattle.floats.specs.Key.keyOf y * 2 ^ 32 + c) (sym (ap (λ t. getD t c nan) f ∙ getD-set-other spill m c x nan z))
-      ]
+    -- a cell that does not wait has room in the heap, and its spill height is not looked at there
+    pub has-room : m < length spill → len < length spill
+    has-room l = heap-room (placeOf spill) (length spill) len queue (q .heap) (λ c. omega (arith, counted c, one-bound (getD status c 0) 1)) m l none
 
-module _ (hs : List Float) (c m : ℕ) (status : List ℕ) (spill : List Float) (recv : List ℕ) (len : ℕ) (queue : List ℕ) (q : Queued status spill len queue) where
-  stays : (getD status m 1 ≡ 0 → ⊥) → Reached hs c m status spill recv len status spill recv queue
+    pub respilled : (spill′ : List Float) (x : Float) → spill′ ≡ set spill m x → Heap (placeOf spill′) (length spill′) len queue
+    respilled spill′ x f =
+        subst (λ n. Heap (placeOf spill′) n len queue) (sym (ap length f ∙ length-set spill m x))
+        (heap-same (placeOf spill) (placeOf spill′) (length spill) len queue (q .heap) same)
+      where
+        same : (c : ℕ) → 0 < within c len queue → placeOf spill c ≡ placeOf spill′ c
+        same c p = elim (same-or-not c m) [
+          | inl z ↦ let no : ⊥ = omega (arith, ap (λ c. within c len queue) z, none) in absurd no
+          | inr z ↦ ap (λ (y : Float). keyOf y * 2 ^ 32 + c) (sym (ap (λ t. getD t c nan) f ∙ getD-set-other spill m c x nan z))
+        ]
+
+unlike-zero : {v : ℕ} → v ≡ 2 → v ≡ 0 → ⊥
+unlike-zero z y = omega arith
+
+module _ (hs : List Float) (limit c m : ℕ) (status : List ℕ) (spill : List Float) (recv : List ℕ) (len : ℕ) (queue : List ℕ)
+    (q : Queued hs limit status spill len queue) (left : getD status c 0 ≡ 2) where
+  stays : (getD status m 1 ≡ 0 → ⊥) → Reached hs limit c m status spill recv len status spill recv queue
   stays d = record {
+    left = left;
+    level = refl;
     state = λ g order.
         sym (ap (λ b. cond b (Rattle.drainage.specs.Flood.pushed floats g hs c m (stateOf status spill recv order)) (stateOf status spill recv order)) (ne-eqb (getD status m 1) 0 d));
     queued = q;
   }
 
   -- outside the grid, or pushed already
-  pub reached-none : length status ≤ m → Reached hs c m status spill recv len status spill recv queue
+  pub reached-none : length status ≤ m → Reached hs limit c m status spill recv len status spill recv queue
   reached-none l = stays unlike
     where
       unlike : getD status m 1 ≡ 0 → ⊥
       unlike z = omega (arith, List·getD-eq-default status 1 {n = m} l)
 
-  pub reached-old : m < length status → (getD status m 0 ≡ 0 → ⊥) → Reached hs c m status spill recv len status spill recv queue
+  pub reached-old : m < length status → (getD status m 0 ≡ 0 → ⊥) → Reached hs limit c m status spill recv len status spill recv queue
   reached-old l d = stays (λ z. d (getD-inside status m 0 1 l ∙ z))
 
-  pub reached-new :
-      m < length status → getD status m 0 ≡ 0 → (status′ : List ℕ) (spill′ : List Float) (recv′ queue′ : List ℕ) → status′ ≡ set status m 1
-      → (x : Float) → x ≡ maxOf (getD hs m nan) (getD spill c nan) → spill′ ≡ set spill m x → recv′ ≡ set recv m c
-      → Pushed (placeOf spill′) (length spill′) len queue m queue′ → Reached hs c m status spill recv (len + 1) status′ spill′ recv′ queue′
-  reached-new l e status′ spill′ recv′ queue′ a x r s f p = record {
-    state = λ g order.
-        (λ i. stateOf (a i) ((s ∙ ap (set spill m) r) i) (f i) order)
-        ∙ sym (ap (λ t. cond t (Rattle.drainage.specs.Flood.pushed floats g hs c m (stateOf status spill recv order)) (stateOf status spill recv order)) (eq-eqb (getD status m 1) 0 (getD-inside status m 1 0 l ∙ e)));
-    queued = record {
+  -- a cell not pushed yet: t and y are the statuses and the spill heights after it
+  module _ (l : m < length status) (e : getD status m 0 ≡ 0) (status′ : List ℕ) (spill′ : List Float) (recv′ : List ℕ) (a : status′ ≡ set status m 1)
+      (x : Float) (r : x ≡ maxOf (getD hs m nan) (getD spill c nan)) (s : spill′ ≡ set spill m x) (f : recv′ ≡ set recv m c) where
+    here : getD status′ m 0 ≡ 1
+    here = ap (λ t. getD t m 0) a ∙ getD-set-same status m 1 0 l
+
+    other : (j : ℕ) → (j ≡ m → ⊥) → getD status′ j 0 ≡ getD status j 0
+    other j d = ap (λ t. getD t j 0) a ∙ getD-set-other status m j 1 0 d
+
+    other-spill : (j : ℕ) → (j ≡ m → ⊥) → getD spill′ j nan ≡ getD spill j nan
+    other-spill j d = ap (λ t. getD t j nan) s ∙ getD-set-other spill m j x nan d
+
+    apart : c ≡ m → ⊥
+    apart z = unlike-zero left (ap (λ i. getD status i 0) z ∙ e)
+
+    gone : (j : ℕ) → getD status′ j 0 ≡ 2 → placeOf hs j < limit
+    gone j w = elim (same-or-not j m) [
+      | inl z ↦ let no : ⊥ = omega (arith, here, ap (λ i. getD status′ i 0) z) in absurd no
+      | inr z ↦ q .gone j (sym (other j z) ∙ w)
+    ]
+
+    reached : (len′ : ℕ) (queue′ : List ℕ) → Queued hs limit status′ spill′ len′ queue′ → Reached hs limit c m status spill recv len′ status′ spill′ recv′ queue′
+    reached len′ queue′ q′ = record {
+      left = other c apart ∙ left;
+      level = other-spill c apart;
+      state = λ g order.
+          (λ i. stateOf (a i) ((s ∙ ap (set spill m) r) i) (f i) order)
+          ∙ sym (ap (λ t. cond t (Rattle.drainage.specs.Flood.pushed floats g hs c m (stateOf status spill recv order)) (stateOf status spill recv order)) (eq-eqb (getD status m 1) 0 (getD-inside status m 1 0 l ∙ e)));
+      queued = q′;
+    }
+
+    -- one that the scan has not passed waits in the list
+    pub reached-listed :
+        m < length spill → m < length hs → Level hs limit (getD spill c nan) → limit ≤ placeOf hs m
+        → Reached hs limit c m status spill recv len status′ spill′ recv′ queue
+    reached-listed b i v h = reached len queue (record {
+      heap = respilled hs limit status spill len queue q m e spill′ x s;
+      below = λ j k. q .below j k ∙ ap (λ t. one t 1) (sym (other j (under j k)));
+      above = q .above;
+      own = λ j k w. elim (same-or-not j m) [
+        | inl z ↦
+            ap (λ j. getD spill′ j nan) z ∙ ap (λ t. getD t m nan) s ∙ getD-set-same spill m x nan b ∙ r ∙ v .keeps m i h
+            ∙ ap (λ j. getD hs j nan) (sym z)
+        | inr z ↦ other-spill j z ∙ q .own j k (sym (other j z) ∙ w)
+      ];
+      gone = gone;
+    })
+      where
+        under : (j : ℕ) → placeOf hs j < limit → j ≡ m → ⊥
+        under j k z = omega (arith, ap (placeOf hs) z)
+
+    -- another joins the heap
+    pub reached-heaped :
+        (queue′ : List ℕ) → placeOf hs m < limit → Pushed (placeOf spill′) (length spill′) len queue m queue′
+        → Reached hs limit c m status spill recv (len + 1) status′ spill′ recv′ queue′
+    reached-heaped queue′ h p = reached (len + 1) queue′ (record {
       heap = p .heap;
-      cells = λ j. p .cells j ∙ elim (same-or-not m j) [
+      below = λ j k. p .cells j ∙ elim (same-or-not m j) [
         | inl z ↦
             omega (
               arith,
-              q .cells j,
+              q .below j k,
               one-same m j z,
               one-other (getD status j 0) 1 (unlike (ap (λ i. getD status i 0) (sym z) ∙ e)),
-              one-same (getD status′ j 0) 1 (ap (λ t. getD t j 0) a ∙ ap (λ i. getD (set status m 1) i 0) (sym z) ∙ getD-set-same status m 1 0 l),
+              one-same (getD status′ j 0) 1 (ap (λ i. getD status′ i 0) (sym z) ∙ here),
             )
-        | inr z ↦
-            omega (arith, q .cells j, one-other m j z, ap (λ v. one v 1) (ap (λ t. getD t j 0) a ∙ getD-set-other status m j 1 0 (λ y. z (sym y))))
+        | inr z ↦ omega (arith, q .below j k, one-other m j z, ap (λ v. one v 1) (other j (λ y. z (sym y))))
       ];
-    };
-  }
-    where
-      unlike : {v : ℕ} → v ≡ 0 → v ≡ 1 → ⊥
-      unlike z y = omega arith
+      above = λ j k. p .cells j ∙ omega (arith, q .above j k, one-other m j (λ z. over j k (sym z)));
+      own = λ j k w. other-spill j (over j k) ∙ q .own j k (sym (other j (over j k)) ∙ w);
+      gone = gone;
+    })
+      where
+        unlike : {v : ℕ} → v ≡ 0 → v ≡ 1 → ⊥
+        unlike z y = omega arith
+
+        over : (j : ℕ) → limit ≤ placeOf hs j → j ≡ m → ⊥
+        over j k z = omega (arith, ap (placeOf hs) z)
 
 -- cell c has reached its neighbours in the first d directions
-pub record ReachedTo (w h : ℕ) (hs : List Float) (c d : ℕ) (status : List ℕ) (spill : List Float) (recv : List ℕ) (len : ℕ) (status′ : List ℕ)
+pub record ReachedTo (w h : ℕ) (hs : List Float) (limit c d : ℕ) (status : List ℕ) (spill : List Float) (recv : List ℕ) (len : ℕ) (status′ : List ℕ)
     (spill′ : List Float) (recv′ queue′ : List ℕ) : Type 0 where
+  pub left : getD status′ c 0 ≡ 2
+  pub level : getD spill′ c nan ≡ getD spill c nan
   pub state :
       (water : Float) (order : List ℕ) → stateOf status′ spill′ recv′ order ≡ pushedTo floats (gridGround w h water hs) hs c d (stateOf status spill recv order)
-  pub queued : Queued status′ spill′ len queue′
+  pub queued : Queued hs limit status′ spill′ len queue′
 
-module _ (w h : ℕ) (hs : List Float) (c : ℕ) (status : List ℕ) (spill : List Float) (recv : List ℕ) where
-  pub reached-start : (len : ℕ) (queue : List ℕ) → Queued status spill len queue → ReachedTo w h hs c 0 status spill recv len status spill recv queue
-  reached-start len queue q = record { state = λ water order. sym (turns-none _ (stateOf status spill recv order)); queued = q }
+module _ (w h : ℕ) (hs : List Float) (limit c : ℕ) (status : List ℕ) (spill : List Float) (recv : List ℕ) where
+  pub reached-start :
+      (len : ℕ) (queue : List ℕ) → Queued hs limit status spill len queue → getD status c 0 ≡ 2
+      → ReachedTo w h hs limit c 0 status spill recv len status spill recv queue
+  reached-start len queue q e = record { left = e; level = refl; state = λ water order. sym (turns-none _ (stateOf status spill recv order)); queued = q }
 
   module _ (len₁ : ℕ) (status₁ : List ℕ) (spill₁ : List Float) (recv₁ queue₁ : List ℕ) where
     pub reached-more :
         (d m len₂ : ℕ) (status₂ : List ℕ) (spill₂ : List Float) (recv₂ queue₂ : List ℕ)
-        → ReachedTo w h hs c d status spill recv len₁ status₁ spill₁ recv₁ queue₁ → m ≡ neighbourOf w h (columnOf w c) (rowOf w c) (d + 1)
-        → Reached hs c m status₁ spill₁ recv₁ len₂ status₂ spill₂ recv₂ queue₂
-        → ReachedTo w h hs c (d + 1) status spill recv len₂ status₂ spill₂ recv₂ queue₂
+        → ReachedTo w h hs limit c d status spill recv len₁ status₁ spill₁ recv₁ queue₁ → m ≡ neighbourOf w h (columnOf w c) (rowOf w c) (d + 1)
+        → Reached hs limit c m status₁ spill₁ recv₁ len₂ status₂ spill₂ recv₂ queue₂
+        → ReachedTo w h hs limit c (d + 1) status spill recv len₂ status₂ spill₂ recv₂ queue₂
     reached-more d m len₂ status₂ spill₂ recv₂ queue₂ r e s = record {
+      left = s .left;
+      level = s .level ∙ r .level;
       state = λ water order.
           s .state (gridGround w h water hs) order
           ∙ ap₂ (λ m t. push floats (gridGround w h water hs) hs c m t) (e ∙ ap (neighbourAt w h c) (add-one d)) (r .state water order)
@@ -134,8 +204,8 @@ module _ (w h : ℕ) (hs : List Float) (c : ℕ) (status : List ℕ) (spill : Li
     }
 
     pub reached-done :
-        (d : ℕ) → d ≤ 8 → 8 ≤ d → ReachedTo w h hs c d status spill recv len₁ status₁ spill₁ recv₁ queue₁
-        → ReachedAll w h hs c status spill recv len₁ status₁ spill₁ recv₁ queue₁
+        (d : ℕ) → d ≤ 8 → 8 ≤ d → ReachedTo w h hs limit c d status spill recv len₁ status₁ spill₁ recv₁ queue₁
+        → ReachedAll w h hs limit c status spill recv len₁ status₁ spill₁ recv₁ queue₁
     unfolding pushAll
     reached-done d a b r = record {
       state = λ water order. r .state water order ∙ ap (λ d. pushedTo floats (gridGround w h water hs) hs c d (stateOf status spill recv order)) all;

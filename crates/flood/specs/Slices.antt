@@ -1,5 +1,5 @@
 -- How slices stand for the flood of document 01 as crates/drainage defines it: statuses, spill heights, finders and the order, each in a list of
--- its own, and the waiting cells in a queue.
+-- its own.
 use Prim.Native.Nat.{ℕ, _*_, _^_, _≤_, _<_}
 use mathlib.Core.Path.{_≡_}
 use mathlib.Core.Bool.{true, _||_, cond}
@@ -10,18 +10,13 @@ use Rattle.lists.specs.Loops.{turns}
 use Rattle.grid.specs.Sides.{cellOf, InRange}
 use Rattle.grid.specs.Base.{onBorder}
 use Rattle.grid.specs.Heights.{allFinite}
-use Rattle.drainage.specs.Ground.{Ground, floats, gridGround}
-use Rattle.drainage.specs.Flood.{Flood, start, push, pushAll, flooded}
+use Rattle.drainage.specs.Ground.{floats, gridGround}
+use Rattle.drainage.specs.Flood.{Flood, start, flooded}
 use Rattle.drainage.specs.Ways.{one}
 use Rattle.heap.specs.Queue.{placeOf, within, Heap}
 
 abbrev pub stateOf : List ℕ → List Float → List ℕ → List ℕ → Flood Float
 stateOf status spill recv order = record { status = status; spill = spill; finder = recv; order = order }
-
--- The queue holds the waiting cells, each once.
-pub record Queued (status : List ℕ) (spill : List Float) (len : ℕ) (queue : List ℕ) : Type 0 where
-  pub heap : Heap (placeOf spill) (length spill) len queue
-  pub cells : (c : ℕ) → within c len queue ≡ one (getD status c 0) 1
 
 -- Every list holds n cells, and the queue has room for as many.
 pub record Sizes (n : ℕ) (hs : List Float) (status : List ℕ) (spill : List Float) (recv queue : List ℕ) : Type 0 where
@@ -51,22 +46,8 @@ pub record Gathered (status : List ℕ) (spill : List Float) (i len : ℕ) (queu
   pub above : (c : ℕ) → i ≤ c → within c len queue ≡ 0
   pub few : len ≤ i
 
-pub record Started (w h : ℕ) (water : Float) (hs : List Float) (len : ℕ) (status : List ℕ) (spill : List Float) (recv queue : List ℕ) : Type 0 where
+pub record Started (w h : ℕ) (water : Float) (hs : List Float) (status : List ℕ) (spill : List Float) (recv : List ℕ) : Type 0 where
   pub state : stateOf status spill recv [] ≡ start floats (gridGround w h water hs) hs
-  pub queued : Queued status spill len queue
-
--- Cell c has reached cell m, on any ground and whatever the order so far.
-pub record Reached (hs : List Float) (c m : ℕ) (status : List ℕ) (spill : List Float) (recv : List ℕ) (len : ℕ) (status′ : List ℕ)
-    (spill′ : List Float) (recv′ queue′ : List ℕ) : Type 0 where
-  pub state : (g : Ground) (order : List ℕ) → stateOf status′ spill′ recv′ order ≡ push floats g hs c m (stateOf status spill recv order)
-  pub queued : Queued status′ spill′ len queue′
-
--- Cell c has reached all its neighbours.
-pub record ReachedAll (w h : ℕ) (hs : List Float) (c : ℕ) (status : List ℕ) (spill : List Float) (recv : List ℕ) (len : ℕ) (status′ : List ℕ)
-    (spill′ : List Float) (recv′ queue′ : List ℕ) : Type 0 where
-  pub state :
-      (water : Float) (order : List ℕ) → stateOf status′ spill′ recv′ order ≡ pushAll floats (gridGround w h water hs) hs c (stateOf status spill recv order)
-  pub queued : Queued status′ spill′ len queue′
 
 -- A grid that document 01 accepts.
 pub record Accepted (w h : ℕ) (hs : List Float) : Type 0 where

@@ -1,19 +1,29 @@
 // The flood of flow.rs on lent slices: base cells are pushed, then the least waiting cell leaves and pushes its neighbours, until all have left.
-// Each function does what specs/Slices.antt says of it, so that the whole is the flood that crates/drainage defines.
+// Most cells leave at their own height. So the cells are sorted by it once, and a scan of the sorted list finds those; only a waiting cell that
+// the scan has passed already, one that was raised, stands in a heap. Where there is no sorted list the scan begins at its end, and every waiting
+// cell stands in the heap. Each function does what specs/Slices.antt says of it, so that the whole is the flood that crates/drainage defines.
 use floats::max;
 use grid::Sides;
 use grid::is_base;
 use grid::neighbour;
+use heap::place;
 use heap::pop;
 use heap::push;
-ghost use Prim.Native.Nat.{_+_, _*_, _^_, _≤_, _<_};
+use sorted_cells::own_cells;
+use sorted_cells::sort_cells;
+ghost use Prim.Native.Nat.{ℕ, _+_, _*_, _^_, _≤_, _<_};
 ghost use mathlib.Core.Path.{_≡_};
-ghost use lib.ListN.{length};
+ghost use lib.ListN.{length, getD};
+ghost use lib.Dec.{ltb};
+ghost use lib.Ieee.{nan};
 ghost use Rattle.lists.specs.Loops.{tabulate};
 ghost use Rattle.grid.specs.Sides.{InRange};
 ghost use Rattle.grid.specs.Base.{baseOf};
-ghost use mathlib.Core.Bool.{cond};
-ghost use Rattle.flood.specs.Slices.{markOf, rowMarked, Sizes, Queued, Gathered, Started, Reached, ReachedAll, Accepted, Flooded};
+ghost use mathlib.Core.Bool.{_&&_, cond};
+ghost use Rattle.heap.specs.Queue.{placeOf, within, Heap};
+ghost use Rattle.sorted_cells.specs.Sorted.{isSorted};
+ghost use Rattle.flood.specs.Slices.{markOf, rowMarked, Sizes, Gathered, Started, Accepted, Flooded};
+ghost use Rattle.flood.specs.Scans.{limitOf, Queued, Level, Begins, Begun, Ready, Waits, Turned, Reached, ReachedAll, Leaver, Onward};
 
 // The status that a cell starts with: 1, waiting, if it is base level, else 0.
 fn mark(g: Sides, x: usize, y: usize, height: f32, water: f32) -> u8
@@ -69,17 +79,12 @@ fn copy_heights(h: &[f32], spill: &mut [f32])
     }
 }
 
-// Every cell starts as its own finder.
-fn own_cells(recv: &mut [u32])
-    requires { ⌜ length (now recv) ≤ 2 ^ 24 ⌝ }
-    ensures { λ _. ⌜ now (recv .exit) ≡ tabulate (length (now (recv .entry))) (λ c. c) ⌝ }
-{
-    let n = recv.len();
-    let mut c: usize = 0;
-    while c < n {
-        recv[c] = c as u32;
-        c += 1;
-    }
+// Where a scan stands: before entry `head` of the sorted list, whose cell's place is the limit. The heap holds `len` cells; `cell` leaves.
+pub struct Scan {
+    pub head: usize,
+    pub limit: u64,
+    pub len: usize,
+    pub cell: usize,
 }
 
 // Cell c joins the queue if it waits.
@@ -103,7 +108,7 @@ fn gather_all(status: &[u8], spill: &[f32], queue: &mut [u32]) -> usize
     requires { ⌜ length (now status) ≡ length (now spill) ⌝ }
     requires { ⌜ length (now status) ≤ length (now queue) ⌝ }
     requires { ⌜ length (now status) ≤ 2 ^ 24 ⌝ }
-    ensures { λ r. ⌜ Queued (now (status .entry)) (now (spill .entry)) r (now (queue .exit)) ⌝ }
+    ensures { λ r. ⌜ Gathered (now (status .entry)) (now (spill .entry)) (length (now (status .entry))) r (now (queue .exit)) ⌝ }
 {
     let n = status.len();
     let mut len: usize = 0;
@@ -115,28 +120,97 @@ fn gather_all(status: &[u8], spill: &[f32], queue: &mut [u32]) -> usize
     len
 }
 
-// The first state of the flood; the answer is the number of waiting cells.
-fn start(
-    g: Sides,
-    h: &[f32],
-    water: f32,
-    status: &mut [u8],
-    spill: &mut [f32],
-    recv: &mut [u32],
-    queue: &mut [u32],
-) -> usize
-    requires { ⌜ Sizes (g .w * g .h) (now h) (now status) (now spill) (now recv) (now queue) ⌝ }
-    ensures { λ r. ⌜ Started (g .w) (g .h) water (now (h .entry)) r (now (status .exit)) (now (spill .exit)) (now (recv .exit)) (now (queue .exit)) ⌝ }
+// The first state of the flood.
+fn start(g: Sides, h: &[f32], water: f32, status: &mut [u8], spill: &mut [f32], recv: &mut [u32])
+    requires { ⌜ g .w * g .h ≤ 2 ^ 24 ⌝ }
+    requires { ⌜ length (now h) ≡ g .w * g .h ⌝ }
+    requires { ⌜ length (now status) ≡ g .w * g .h ⌝ }
+    requires { ⌜ length (now spill) ≡ g .w * g .h ⌝ }
+    requires { ⌜ length (now recv) ≡ g .w * g .h ⌝ }
+    ensures { λ _. ⌜ Started (g .w) (g .h) water (now (h .entry)) (now (status .exit)) (now (spill .exit)) (now (recv .exit)) ⌝ }
 {
     mark_base(g, h, water, status);
     copy_heights(h, spill);
+    // every cell starts as its own finder
     own_cells(recv);
-    gather_all(status, spill, queue)
 }
 
-// Cell c reaches cell m: a cell not pushed yet gets its spill height and its finder and waits from now on. Outside the grid m is no cell.
+// The limit of a scan before entry head of the list: the place of its cell by its own height; behind the last entry, above all places.
+fn limit_at(h: &[f32], list: &[u32], head: usize) -> u64
+    requires { ⌜ (head < length (now list) → getD (now list) head 0 < length (now h)) ⌝ }
+    ensures { λ r. ⌜ r ≡ limitOf (now (h .entry)) (now (list .entry)) head ⌝ }
+{
+    if list.len() <= head {
+        return 0xffff_ffff_ffff_ffff;
+    }
+    place(list[head], h)
+}
+
+// Where the scan begins: before a sorted list with nothing in the heap; or behind a list that is not sorted, with every waiting cell in the heap.
+fn begin(sorted: bool, h: &[f32], list: &[u32], status: &[u8], spill: &[f32], queue: &mut [u32]) -> Scan
+    requires { ⌜ sorted ≡ isSorted (now h) (now list) ⌝ }
+    requires { ⌜ Begins (now h) (now list) (now status) (now spill) (now queue) ⌝ }
+    ensures { λ r. ⌜ Begun (now (h .entry)) (now (list .entry)) (now (status .entry)) (now (spill .entry)) r (now (queue .exit)) ⌝ }
+{
+    let n = h.len();
+    if sorted {
+        let limit = limit_at(h, list, 0);
+        return Scan { head: 0, limit: limit, len: 0, cell: n };
+    }
+    let len = gather_all(status, spill, queue);
+    Scan { head: n, limit: 0xffff_ffff_ffff_ffff, len: len, cell: n }
+}
+
+// Whether the heap's first cell comes before the limit.
+fn heap_first(queue: &[u32], len: usize, spill: &[f32], limit: u64) -> bool
+    requires { ⌜ Heap (placeOf (now spill)) (length (now spill)) len (now queue) ⌝ }
+    ensures { λ r. ⌜ r ≡ ltb 0 len && ltb (placeOf (now (spill .entry)) (getD (now (queue .entry)) 0 0)) limit ⌝ }
+{
+    if len == 0 {
+        return false;
+    }
+    place(queue[0], spill) < limit
+}
+
+// The scan goes past the list's first cell, which leaves if it waits. No cell is the number of cells.
+fn pass(h: &[f32], list: &[u32], s: Scan, spill: &[f32], queue: &[u32], status: &mut [u8]) -> Scan
+    requires { ⌜ Ready (now h) (now list) (now status) (now spill) s (now queue) ⌝ }
+    requires { ⌜ s .head < length (now list) ⌝ }
+    requires { ⌜ ((b : ℕ) → 0 < within b (s .len) (now queue) → s .limit ≤ placeOf (now spill) b) ⌝ }
+    ensures { λ r. ⌜ Turned (now (h .entry)) (now (list .entry)) (s .head) (now (status .entry)) (now (spill .entry)) r (now (status .exit)) (now (queue .entry)) ⌝ }
+{
+    let head = s.head;
+    let c = list[head];
+    let at = c as usize;
+    let limit = limit_at(h, list, head + 1);
+    if status[at] != 1 {
+        return Scan { head: head + 1, limit: limit, len: s.len, cell: h.len() };
+    }
+    status[at] = 2;
+    Scan { head: head + 1, limit: limit, len: s.len, cell: at }
+}
+
+// A turn of the scan: the heap's first cell leaves if it comes before the list's first; else the scan goes past that.
+fn turn(h: &[f32], list: &[u32], s: Scan, spill: &[f32], queue: &mut [u32], status: &mut [u8]) -> Scan
+    requires { ⌜ Ready (now h) (now list) (now status) (now spill) s (now queue) ⌝ }
+    requires { ⌜ Waits (now status) ⌝ }
+    ensures { λ r. ⌜ Turned (now (h .entry)) (now (list .entry)) (s .head) (now (status .entry)) (now (spill .entry)) r (now (status .exit)) (now (queue .exit)) ⌝ }
+{
+    let len = s.len;
+    if heap_first(queue, len, spill, s.limit) {
+        let c = pop(queue, len, spill);
+        let at = c as usize;
+        status[at] = 2;
+        return Scan { head: s.head, limit: s.limit, len: len - 1, cell: at };
+    }
+    pass(h, list, s, spill, queue, status)
+}
+
+// Cell c reaches cell m: a cell not pushed yet gets its spill height and its finder and waits from now on, in the heap if the scan has passed it,
+// else where it stands in the list. Outside the grid m is no cell.
 fn reach(
     h: &[f32],
+    limit: u64,
     c: usize,
     m: usize,
     len: usize,
@@ -146,9 +220,11 @@ fn reach(
     queue: &mut [u32],
 ) -> usize
     requires { ⌜ Sizes (length (now h)) (now h) (now status) (now spill) (now recv) (now queue) ⌝ }
-    requires { ⌜ Queued (now status) (now spill) len (now queue) ⌝ }
+    requires { ⌜ Queued (now h) limit (now status) (now spill) len (now queue) ⌝ }
     requires { ⌜ c < length (now h) ⌝ }
-    ensures { λ r. ⌜ Reached (now (h .entry)) c m (now (status .entry)) (now (spill .entry)) (now (recv .entry)) r (now (status .exit)) (now (spill .exit)) (now (recv .exit)) (now (queue .exit)) ⌝ }
+    requires { ⌜ getD (now status) c 0 ≡ 2 ⌝ }
+    requires { ⌜ Level (now h) limit (getD (now spill) c nan) ⌝ }
+    ensures { λ r. ⌜ Reached (now (h .entry)) limit c m (now (status .entry)) (now (spill .entry)) (now (recv .entry)) r (now (status .exit)) (now (spill .exit)) (now (recv .exit)) (now (queue .exit)) ⌝ }
 {
     if status.len() <= m {
         return len;
@@ -159,6 +235,9 @@ fn reach(
     status[m] = 1;
     spill[m] = max(h[m], spill[c]);
     recv[m] = c as u32;
+    if limit <= place(m as u32, h) {
+        return len;
+    }
     push(queue, len, spill, m as u32);
     len + 1
 }
@@ -167,6 +246,7 @@ fn reach(
 fn reach_all(
     g: Sides,
     h: &[f32],
+    limit: u64,
     c: usize,
     len: usize,
     status: &mut [u8],
@@ -176,9 +256,11 @@ fn reach_all(
 ) -> usize
     requires { ⌜ InRange (g .w) (g .h) ⌝ }
     requires { ⌜ Sizes (g .w * g .h) (now h) (now status) (now spill) (now recv) (now queue) ⌝ }
-    requires { ⌜ Queued (now status) (now spill) len (now queue) ⌝ }
+    requires { ⌜ Queued (now h) limit (now status) (now spill) len (now queue) ⌝ }
     requires { ⌜ c < g .w * g .h ⌝ }
-    ensures { λ r. ⌜ ReachedAll (g .w) (g .h) (now (h .entry)) c (now (status .entry)) (now (spill .entry)) (now (recv .entry)) r (now (status .exit)) (now (spill .exit)) (now (recv .exit)) (now (queue .exit)) ⌝ }
+    requires { ⌜ getD (now status) c 0 ≡ 2 ⌝ }
+    requires { ⌜ Level (now h) limit (getD (now spill) c nan) ⌝ }
+    ensures { λ r. ⌜ ReachedAll (g .w) (g .h) (now (h .entry)) limit c (now (status .entry)) (now (spill .entry)) (now (recv .entry)) r (now (status .exit)) (now (spill .exit)) (now (recv .exit)) (now (queue .exit)) ⌝ }
 {
     let x = c % g.w;
     let y = c / g.w;
@@ -186,10 +268,46 @@ fn reach_all(
     let mut d: usize = 0;
     while d < 8 {
         let m = neighbour(g, x, y, d + 1);
-        waiting = reach(h, c, m, waiting, status, spill, recv, queue);
+        waiting = reach(h, limit, c, m, waiting, status, spill, recv, queue);
         d += 1;
     }
     waiting
+}
+
+// The cell that has left, if there is one, joins the order as entry i and reaches its neighbours. The answer is the number of cells in the heap.
+fn leave(
+    g: Sides,
+    h: &[f32],
+    i: usize,
+    s: Scan,
+    order: &mut [u32],
+    recv: &mut [u32],
+    spill: &mut [f32],
+    queue: &mut [u32],
+    status: &mut [u8],
+) -> usize
+    requires { ⌜ InRange (g .w) (g .h) ⌝ }
+    requires { ⌜ Sizes (g .w * g .h) (now h) (now status) (now spill) (now recv) (now queue) ⌝ }
+    requires { ⌜ Queued (now h) (s .limit) (now status) (now spill) (s .len) (now queue) ⌝ }
+    requires { ⌜ (s .cell < length (now h) → Leaver (now h) (s .limit) (s .cell) i (now status) (now spill) (now order)) ⌝ }
+    ensures { λ r. ⌜ Onward (g .w) (g .h) (now (h .entry)) i s (now (order .entry)) (now (status .entry)) (now (spill .entry)) (now (recv .entry)) r (now (order .exit)) (now (status .exit)) (now (spill .exit)) (now (recv .exit)) (now (queue .exit)) ⌝ }
+{
+    let c = s.cell;
+    if h.len() <= c {
+        return s.len;
+    }
+    order[i] = c as u32;
+    reach_all(g, h, s.limit, c, s.len, status, spill, recv, queue)
+}
+
+// 1 if a cell has left, else 0.
+fn leavers(s: Scan, n: usize) -> usize
+    ensures { λ r. ⌜ r ≡ cond (ltb (s .cell) n) 1 0 ⌝ }
+{
+    if s.cell < n {
+        return 1;
+    }
+    0
 }
 
 // The whole flood: order, finders and spill heights. The queue and the statuses are scratch.
@@ -209,14 +327,13 @@ pub fn flood(
     ensures { λ _. ⌜ Flooded (g .w) (g .h) water (now (h .entry)) (now (order .exit)) (now (recv .exit)) (now (spill .exit)) ⌝ }
 {
     let n = h.len();
-    let mut len = start(g, h, water, status, spill, recv, queue);
+    let sorted = sort_cells(h, order, recv);
+    start(g, h, water, status, spill, recv);
+    let mut s = begin(sorted, h, order, status, spill, queue);
     let mut i: usize = 0;
     while i < n {
-        let c = pop(queue, len, spill);
-        let at = c as usize;
-        order[i] = c;
-        status[at] = 2;
-        len = reach_all(g, h, at, len - 1, status, spill, recv, queue);
-        i += 1;
+        s = turn(h, order, s, spill, queue, status);
+        s.len = leave(g, h, i, s, order, recv, spill, queue, status);
+        i += leavers(s, n);
     }
 }

@@ -1,0 +1,66 @@
+-- Laws of the scan's beginning: before a sorted list, or behind a list that is not sorted with every waiting cell in the heap.
+use Prim.Native.Nat.{ℕ, _^_, _≤_, _<_}
+use mathlib.Core.Path.{_≡_, refl, sym, ap, _∙_}
+use mathlib.Core.Bool.{true}
+use mathlib.Core.List.{List}
+use native.Mathlib.Decide.{decLt}
+use native.Mathlib.Omega.{arith}
+use lib.ListN.{length, getD, List·getD-eq-default}
+use lib.Ieee.{Float, nan}
+use Rattle.float_order.specs.Fit.{Fit}
+use Rattle.drainage.specs.Ways.{one, times}
+use Rattle.drainage.proofs.TallyLaws.{one-other}
+use Rattle.heap.specs.Queue.{placeOf, within}
+use Rattle.sorted_cells.specs.Sorted.{isSorted}
+use Rattle.sorted_cells.proofs.SortedLaws.{sorted}
+use Rattle.flood.specs.Slices.{Gathered}
+use Rattle.flood.specs.Scans.{endless, limitOf, Queued, Begins, Begun}
+use Rattle.flood.proofs.ScanLaws.{below-endless, waits-inside, first-least, listed-start, listed-end}
+
+within-none : (c : ℕ) (l : List ℕ) → within c 0 l ≡ 0
+unfolding times
+within-none c l = refl
+
+module _ (hs : List Float) (list status : List ℕ) (spill : List Float) (queue : List ℕ) (b : Begins hs list status spill queue) where
+  waiting-cell : (c : ℕ) → getD status c 0 ≡ 1 → c < length hs
+  waiting-cell c w = omega (arith, waits-inside status c w, b .statuses)
+
+  pub begun-sorted :
+      isSorted hs list ≡ true → (limit n : ℕ) → limit ≡ limitOf hs list 0 → Begun hs list status spill (record { head = 0; limit = limit; len = 0; cell = n }) queue
+  begun-sorted e limit n f = record {
+    listed = listed-start hs list (sorted hs list e) limit f;
+    queued = record {
+      heap = record {
+        room = omega arith;
+        cells = λ k l. let z : ⊥ = omega arith in absurd z;
+        ordered = λ k p l. let z : ⊥ = omega arith in absurd z;
+      };
+      below = λ c h. within-none c queue ∙ sym (one-other (getD status c 0) 1 (none c h));
+      above = λ c h. within-none c queue;
+      own = λ c h w. ap (λ t. getD t c nan) (b .spills);
+      gone = λ c w. absurd (b .fresh c w);
+    };
+  }
+    where
+      none : (c : ℕ) → placeOf hs c < limit → getD status c 0 ≡ 1 → ⊥
+      none c h w = omega (arith, first-least hs list (sorted hs list e) c (waiting-cell c w))
+
+  pub begun-gathered :
+      Fit hs → (len n : ℕ) (queue′ : List ℕ) → n ≡ length hs → Gathered status spill (length status) len queue′
+      → Begun hs list status spill (record { head = n; limit = endless; len = len; cell = n }) queue′
+  begun-gathered fit len n queue′ e g = record {
+    listed = mathlib.Core.Path.subst (λ n. Rattle.flood.specs.Scans.Listed hs n endless list) (sym e) (listed-end hs list fit (b .few) (b .lists));
+    queued = record {
+      heap = g .heap;
+      below = λ c h. elim (decLt c (length status)) [
+        | yes l ↦ g .below c l
+        | no l ↦ g .above c (omega arith) ∙ sym (one-other (getD status c 0) 1 (λ w. l (waits-inside status c w)))
+      ];
+      above = λ c h. elim (decLt c (length status)) [
+        | yes l ↦ let z : ⊥ = omega (arith, below-endless hs fit c (omega (arith, b .statuses, b .few))) in absurd z
+        | no l ↦ g .above c (omega arith)
+      ];
+      own = λ c h w. ap (λ t. getD t c nan) (b .spills);
+      gone = λ c w. absurd (b .fresh c w);
+    };
+  }
