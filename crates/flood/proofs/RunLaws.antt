@@ -32,6 +32,26 @@ pub record Running (w h : ℕ) (water : Float) (hs : List Float) (i : ℕ) (s : 
   pub state : stateOf status spill recv (take i order) ≡ floodAfter floats (gridGround w h water hs) hs i
   pub begun : Begun hs order status spill s queue
 
+module _ (w h : ℕ) (hs : List Float) (i : ℕ) (s : Scan) (order status : List ℕ) (spill : List Float) (recv queue : List ℕ) where
+  pub onward-none : length hs ≤ s .cell → Queued hs (s .limit) status spill (s .len) queue → Onward w h hs i s order status spill recv (s .len) order status spill recv queue
+  onward-none l q = record {
+    joins = λ m. let z : ⊥ = omega arith in absurd z;
+    reached = λ m. let z : ⊥ = omega arith in absurd z;
+    stays = λ _. refl;
+    queued = q;
+  }
+
+  pub onward-some :
+      s .cell < length hs → (len′ : ℕ) (order′ status′ : List ℕ) (spill′ : List Float) (recv′ queue′ : List ℕ) → order′ ≡ set order i (s .cell)
+      → ReachedAll w h hs (s .limit) (s .cell) status spill recv len′ status′ spill′ recv′ queue′
+      → Onward w h hs i s order status spill recv len′ order′ status′ spill′ recv′ queue′
+  onward-some l len′ order′ status′ spill′ recv′ queue′ e x = record {
+    joins = λ _. e;
+    reached = λ _. x;
+    stays = λ m. let z : ⊥ = omega arith in absurd z;
+    queued = x .queued;
+  }
+
 -- one turn more
 abbrev pub after : Scan → ℕ → Scan
 after s len = record { head = s .head; limit = s .limit; len = len; cell = s .cell }
@@ -97,9 +117,9 @@ module _ (w h : ℕ) (water : Float) (hs : List Float) where
               arith,
               left-count fit (omega arith),
               count-more (λ b. eqb (getD status b 0) 2) (λ b. eqb (getD status′ b 0) 2) (w * h) c inside
-              (ne-eqb (getD status c 0) 2 (λ z. unlike (v .waited) z)) (eq-eqb (getD status′ c 0) 2 left-now) (λ b d. ap (λ z. eqb z 2) (sym (other b d))),
+                  (ne-eqb (getD status c 0) 2 (λ z. unlike (v .waited) z)) (eq-eqb (getD status′ c 0) 2 left-now) (λ b d. ap (λ z. eqb z 2) (sym (other b d))),
               count-apart (λ b. eqb (getD status′ b 0) 2) (atLimit hs (t .limit)) (w * h)
-              (λ b k e. under-limit hs (t .limit) b (turned .queued .gone b (eqb-true (getD status′ b 0) 2 e))),
+                  (λ b k e. under-limit hs (t .limit) b (turned .queued .gone b (eqb-true (getD status′ b 0) 2 e))),
               ap (λ n. t .head + countBelow n (atLimit hs (t .limit))) (sym (a .cells)),
               turned .listed .many,
               a .cells,

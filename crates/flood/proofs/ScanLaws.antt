@@ -57,14 +57,11 @@ module _ (hs : List Float) (limit c : ℕ) where
   at-limit l h = ap₂ (λ a b. a && b) (lt-ltb c (length hs) l) (le-leb limit (placeOf hs c) h)
 
   pub under-limit : placeOf hs c < limit → atLimit hs limit c ≡ false
-  under-limit h = go (ltb c (length hs)) ∙ ap (λ b. ltb c (length hs) && b) refl
+  under-limit h = ap (λ t. ltb c (length hs) && t) (lt-leb limit (placeOf hs c) h) ∙ never (ltb c (length hs))
     where
-      go : (b : Bool) → atLimit hs limit c ≡ false
-      go b = ap (λ t. ltb c (length hs) && t) (lt-leb limit (placeOf hs c) h) ∙ last (ltb c (length hs))
-        where
-          last : (b : Bool) → (b && false) ≡ false
-          last true = refl
-          last false = refl
+      never : (b : Bool) → (b && false) ≡ false
+      never true = refl
+      never false = refl
 
   pub outside-limit : length hs ≤ c → atLimit hs limit c ≡ false
   outside-limit l = ap (λ b. b && leb limit (placeOf hs c)) (le-ltb c (length hs) l)
@@ -76,7 +73,7 @@ module _ (hs : List Float) (list : List ℕ) (s : Sorted hs list) where
   first = limitOf hs list 0
 
   pub first-least : (c : ℕ) → c < length hs → first ≤ placeOf hs c
-  first-least c l = go (s .every c l .0) (s .every c l .1 .0) (s .every c l .1 .1)
+  first-least c l = go (s .every c l .0) (s .every c l .1) (s .every c l .2)
     where
       go : (k : ℕ) → k < length list → getD list k 0 ≡ c → first ≤ placeOf hs c
       go zero h e = omega (arith, limit-inside hs list 0 h, ap (placeOf hs) e)
@@ -89,8 +86,8 @@ module _ (hs : List Float) (list : List ℕ) (s : Sorted hs list) where
     limit-is = e;
     cells = λ k _ l. s .cells k l;
     rising = λ j k _ l m. s .rising j k l m;
-    all = λ c l _. record { at = s .every c l .0; from = omega arith; inside = s .every c l .1 .0; is = s .every c l .1 .1 };
-    many = count-full (atLimit hs limit) (length hs) (λ c l. at-limit hs limit c l (omega (arith, first-least c l)));
+    all = λ c l _. record { at = s .every c l .0; from = omega arith; inside = s .every c l .1; is = s .every c l .2 };
+    many = omega (arith, count-full (atLimit hs limit) (length hs) (λ c l. at-limit hs limit c l (omega (arith, first-least c l))));
   }
 
 -- behind the last cell of a list that is not looked at
@@ -237,6 +234,18 @@ listed-set hs head limit list list′ ls i c h e = record {
     go b t = record { at = t .at; from = t .from; inside = omega (arith, size, t .inside); is = same (t .at) (t .from) ∙ t .is }
 
 -- ---- the heap
+-- whether the heap's first cell, of place q, comes before the limit
+pub first-none : (len q limit : ℕ) → len ≡ 0 → false ≡ (ltb 0 len && ltb q limit)
+first-none len q limit e = sym (ap (λ b. b && ltb q limit) (le-ltb 0 len (omega arith)))
+
+pub first-some : (len p q limit : ℕ) → (len ≡ 0 → ⊥) → p ≡ q → ltb p limit ≡ (ltb 0 len && ltb q limit)
+first-some len p q limit d e = ap (λ x. ltb x limit) e ∙ sym (ap (λ b. b && ltb q limit) (lt-ltb 0 len (omega arith)))
+
+none-within : (x : ℕ) (l : List ℕ) (m : ℕ) → m ≤ 0 → 0 < within x m l → ⊥
+unfolding times
+none-within x l zero h k = omega arith
+none-within x l (suc m) h k = omega arith
+
 module _ (hs : List Float) (limit : ℕ) (status : List ℕ) (spill : List Float) (len : ℕ) (queue : List ℕ) (q : Queued hs limit status spill len queue) where
   -- a waiting cell is no lower than the limit and every cell of the heap
   pub least-waiting :
@@ -297,15 +306,10 @@ module _ (hs : List Float) (limit : ℕ) (status : List ℕ) (spill : List Float
       (b : Bool) → b ≡ (ltb 0 len && ltb (placeOf spill (getD queue 0 0)) limit) → b ≡ false → (x : ℕ) → 0 < within x len queue → limit ≤ placeOf spill x
   heap-behind b e f x p = go (ltb 0 len) (ltb (placeOf spill (getD queue 0 0)) limit) refl refl (sym e ∙ f)
     where
-      none : (m : ℕ) → m ≤ 0 → 0 < within x m queue → ⊥
-      unfolding times
-      none zero h k = omega arith
-      none (suc m) h k = omega arith
-
       go : (s t : Bool) → ltb 0 len ≡ s → ltb (placeOf spill (getD queue 0 0)) limit ≡ t → (s && t) ≡ false → limit ≤ placeOf spill x
       go true true u v w = absurd (mathlib.Core.Bool.true≢false w)
       go true false u v w = omega (arith, ltb-false (placeOf spill (getD queue 0 0)) limit v, root-least (placeOf spill) (length spill) len queue (q .heap) x p)
-      go false t u v w = absurd (none len (ltb-false 0 len u) p)
+      go false t u v w = absurd (none-within x queue len (ltb-false 0 len u) p)
 
   -- and where it does, any least cell of the heap does
   pub heap-before :

@@ -87,9 +87,14 @@ started-fresh w h water hs status spill recv s c e = elim (native.Mathlib.Decide
     at : getD status c 0 ≡ getD (tabulate (w * h) (marks w h hs water)) c 0
     at = ap (λ (t : Flood Float). getD (t .status) c 0) (s .state)
 
-    marked : (b : Bool) → cond b 1 0 ≡ 2 → ⊥
+    marked : (b : Bool) → _≡_ {A = ℕ} (cond b 1 0) 2 → ⊥
     marked true z = omega arith
     marked false z = omega arith
 
-    unlike : 0 ≡ 2 → ⊥
+    unlike : _≡_ {A = ℕ} 0 2 → ⊥
     unlike z = omega arith
+
+pub started-spill :
+    (w h : ℕ) (water : Float) (hs : List Float) (status : List ℕ) (spill : List Float) (recv : List ℕ) → Started w h water hs status spill recv → spill ≡ hs
+unfolding start
+started-spill w h water hs status spill recv s = ap (λ (t : Flood Float). t .spill) (s .state)

@@ -147,7 +147,14 @@ fn limit_at(h: &[f32], list: &[u32], head: usize) -> u64
 }
 
 // Where the scan begins: before a sorted list with nothing in the heap; or behind a list that is not sorted, with every waiting cell in the heap.
-fn begin(sorted: bool, h: &[f32], list: &[u32], status: &[u8], spill: &[f32], queue: &mut [u32]) -> Scan
+fn begin(
+    sorted: bool,
+    h: &[f32],
+    list: &[u32],
+    status: &[u8],
+    spill: &[f32],
+    queue: &mut [u32],
+) -> Scan
     requires { ⌜ sorted ≡ isSorted (now h) (now list) ⌝ }
     requires { ⌜ Begins (now h) (now list) (now status) (now spill) (now queue) ⌝ }
     ensures { λ r. ⌜ Begun (now (h .entry)) (now (list .entry)) (now (status .entry)) (now (spill .entry)) r (now (queue .exit)) ⌝ }
@@ -155,10 +162,20 @@ fn begin(sorted: bool, h: &[f32], list: &[u32], status: &[u8], spill: &[f32], qu
     let n = h.len();
     if sorted {
         let limit = limit_at(h, list, 0);
-        return Scan { head: 0, limit: limit, len: 0, cell: n };
+        return Scan {
+            head: 0,
+            limit: limit,
+            len: 0,
+            cell: n,
+        };
     }
     let len = gather_all(status, spill, queue);
-    Scan { head: n, limit: 0xffff_ffff_ffff_ffff, len: len, cell: n }
+    Scan {
+        head: n,
+        limit: 0xffff_ffff_ffff_ffff,
+        len: len,
+        cell: n,
+    }
 }
 
 // Whether the heap's first cell comes before the limit.
@@ -184,14 +201,31 @@ fn pass(h: &[f32], list: &[u32], s: Scan, spill: &[f32], queue: &[u32], status: 
     let at = c as usize;
     let limit = limit_at(h, list, head + 1);
     if status[at] != 1 {
-        return Scan { head: head + 1, limit: limit, len: s.len, cell: h.len() };
+        return Scan {
+            head: head + 1,
+            limit: limit,
+            len: s.len,
+            cell: h.len(),
+        };
     }
     status[at] = 2;
-    Scan { head: head + 1, limit: limit, len: s.len, cell: at }
+    Scan {
+        head: head + 1,
+        limit: limit,
+        len: s.len,
+        cell: at,
+    }
 }
 
 // A turn of the scan: the heap's first cell leaves if it comes before the list's first; else the scan goes past that.
-fn turn(h: &[f32], list: &[u32], s: Scan, spill: &[f32], queue: &mut [u32], status: &mut [u8]) -> Scan
+fn turn(
+    h: &[f32],
+    list: &[u32],
+    s: Scan,
+    spill: &[f32],
+    queue: &mut [u32],
+    status: &mut [u8],
+) -> Scan
     requires { ⌜ Ready (now h) (now list) (now status) (now spill) s (now queue) ⌝ }
     requires { ⌜ Waits (now status) ⌝ }
     ensures { λ r. ⌜ Turned (now (h .entry)) (now (list .entry)) (s .head) (now (status .entry)) (now (spill .entry)) r (now (status .exit)) (now (queue .exit)) ⌝ }
@@ -201,7 +235,12 @@ fn turn(h: &[f32], list: &[u32], s: Scan, spill: &[f32], queue: &mut [u32], stat
         let c = pop(queue, len, spill);
         let at = c as usize;
         status[at] = 2;
-        return Scan { head: s.head, limit: s.limit, len: len - 1, cell: at };
+        return Scan {
+            head: s.head,
+            limit: s.limit,
+            len: len - 1,
+            cell: at,
+        };
     }
     pass(h, list, s, spill, queue, status)
 }
@@ -332,8 +371,14 @@ pub fn flood(
     let mut s = begin(sorted, h, order, status, spill, queue);
     let mut i: usize = 0;
     while i < n {
-        s = turn(h, order, s, spill, queue, status);
-        s.len = leave(g, h, i, s, order, recv, spill, queue, status);
-        i += leavers(s, n);
+        let t = turn(h, order, s, spill, queue, status);
+        let len = leave(g, h, i, t, order, recv, spill, queue, status);
+        i += leavers(t, n);
+        s = Scan {
+            head: t.head,
+            limit: t.limit,
+            len: len,
+            cell: t.cell,
+        };
     }
 }

@@ -1,9 +1,9 @@
 use Prim.Native.Nat.{_-_, _≤_}
 use native.Mathlib.Omega.{arith}
-use mathlib.Core.Path.{_≡_, refl, _∙_}
+use mathlib.Core.Path.{_≡_, refl, _∙_, subst}
 use lib.ListN.{length}
 use Rattle.flood.specs.Slices.{Gathered}
-use Rattle.flood.proofs.StartLaws.{gathered-none, gathered-done}
+use Rattle.flood.proofs.StartLaws.{gathered-none}
 use Rattle.flood.proofs.gather_all.Statement.{statement}
 use Rattle.flood.proofs.gather_all.Tie as tie
 
@@ -32,7 +32,9 @@ same-length : tie.Need-same-length Inv-loop μ-loop
 same-length c = c .before .loop .inv .1
 
 returns : tie.Need-returns Inv-loop μ-loop
-returns c = gathered-done _ _ _ _ _ (c .loop-test .left) (c .before .loop .inv .2)
+returns c =
+    let all : c .before .loop .c ≡ length (c .before .before .before .before .before .args .status .now) = omega arith in
+    subst (λ i. Gathered (c .before .before .before .before .before .args .status .now) (c .before .before .before .before .before .args .spill .now) i (c .before .loop .len) (c .before .loop .queue)) all (c .before .loop .inv .2)
 
 pub gather-all-spec : {M : Type 1} → statement M
 gather-all-spec =

@@ -14,9 +14,6 @@ copy-heights-requires c κs = search needs
 own-cells-requires : tie.Need-own-cells-requires
 own-cells-requires c κs = search needs
 
-gather-all-requires : tie.Need-gather-all-requires
-gather-all-requires c κs = search needs
-
 same-length : tie.Need-same-length
 same-length c = search needs
 
@@ -26,11 +23,8 @@ same-length-2 c = search needs
 same-length-3 : tie.Need-same-length-3
 same-length-3 c = search needs
 
-same-length-4 : tie.Need-same-length-4
-same-length-4 c = search needs
-
 returns : tie.Need-returns
-returns c = started _ _ _ _ _ _ _ _ _ (c .before .before .before .before .before .before .before .before .before .before .before .before .before .before .before .before .mark-base .ensures) (c .before .before .before .before .before .before .before .before .before .before .before .before .copy-heights .ensures) (c .before .before .before .before .before .before .before .before .own-cells .ensures ∙ ap (λ n. tabulate n (λ c. c)) (c .before .before .before .before .before .before .before .before .before .before .before .before .before .before .before .before .before .before .before .before .before .before .before .pre .finders)) (c .before .before .gather-all .ensures)
+returns c = started _ _ _ _ _ _ _ (c .before .before .before .before .before .before .before .before .before .before .mark-base .ensures) (c .before .before .before .before .before .before .copy-heights .ensures) (c .before .before .own-cells .ensures ∙ ap (λ n. tabulate n (λ c. c)) (c .before .before .before .before .before .before .before .before .before .before .before .before .before .before .before .before .pre .1 .1 .1 .1))
 
 pub start-spec : {M : Type 1} → statement M
 start-spec =
@@ -39,9 +33,7 @@ start-spec =
     mark-base-requires
     copy-heights-requires
     own-cells-requires
-    gather-all-requires
     same-length
     same-length-2
     same-length-3
-    same-length-4
     returns)
