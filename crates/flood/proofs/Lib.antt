@@ -1,7 +1,5 @@
 -- Laws of the flood on slices.
 pub mod RowLaws
 pub mod StartLaws
-pub mod ScanLaws
-pub mod BeginLaws
 pub mod StepLaws
 pub mod RunLaws

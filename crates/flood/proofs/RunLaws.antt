@@ -23,10 +23,11 @@ use Rattle.drainage.proofs.TallyLaws.{count-more, count-apart}
 use Rattle.drainage.proofs.FloodLaws.{step-leaves, leastWaiting-is, leastWaiting-found, floodAfter-none, floodAfter-more}
 use Rattle.drainage.proofs.StateLaws.{Stands, floodAfter-stands}
 use Rattle.drainage.proofs.GroundLaws.{grid-stage, grid-heights, gridGround-joined, finite-numbers}
-use Rattle.flood.specs.declared.Scan.{Scan}
+use Rattle.scan_queue.specs.declared.Scan.{Scan}
 use Rattle.flood.specs.Slices.{stateOf, Started, Accepted, Flooded}
-use Rattle.flood.specs.Scans.{atLimit, Listed, Queued, Begun, Waits, Turned, Leaves, Leaver, ReachedAll, Onward}
-use Rattle.flood.proofs.ScanLaws.{under-limit, listed-set, leaver-level}
+use Rattle.scan_queue.specs.Scans.{atLimit, Listed, Queued, Begun, Waits, Turned, Leaves}
+use Rattle.flood.specs.Steps.{Leaver, ReachedAll, Onward}
+use Rattle.scan_queue.proofs.ScanLaws.{under-limit, listed-set, leaver-level}
 
 pub record Running (w h : ℕ) (water : Float) (hs : List Float) (i : ℕ) (s : Scan) (status : List ℕ) (spill : List Float) (recv order queue : List ℕ) : Type 0 where
   pub state : stateOf status spill recv (take i order) ≡ floodAfter floats (gridGround w h water hs) hs i

@@ -1,11 +1,10 @@
--- Laws of the first state: rows of marks are the list of marks, and the waiting cells gathered are the queue.
-use Prim.Native.Nat.{ℕ, _+_, _*_, _≤_, _<_}
-use mathlib.Core.Path.{_≡_, refl, sym, ap, _∙_}
+-- Laws of the first state: rows of marks are the list of marks, spill heights are heights, and no cell has left.
+use Prim.Native.Nat.{ℕ, _*_, _<_}
+use mathlib.Core.Path.{_≡_, sym, ap, _∙_}
 use mathlib.Core.Bool.{Bool, true, false, cond}
-use mathlib.Core.Logic.{inl, inr}
 use mathlib.Core.List.{List, []}
 use native.Mathlib.Omega.{arith}
-use lib.ListN.{length, getD, List·getD-eq-default}
+use lib.ListN.{getD, List·getD-eq-default}
 use lib.Ieee.{Float, nan}
 use Rattle.lists.specs.Loops.{tabulate}
 use Rattle.lists.proofs.TableLaws.{length-tabulate, getD-tabulate}
@@ -13,10 +12,7 @@ use Rattle.grid.specs.Sides.{cellOf}
 use Rattle.grid.specs.Base.{baseOf}
 use Rattle.grid.proofs.BaseLaws.{base-cell}
 use Rattle.drainage.specs.Flood.{Flood, start}
-use Rattle.drainage.specs.Ways.{times}
-use Rattle.drainage.proofs.TallyLaws.{same-or-not, one-same, one-other}
-use Rattle.heap.specs.Queue.{placeOf, Pushed}
-use Rattle.flood.specs.Slices.{stateOf, markOf, Gathered, Started}
+use Rattle.flood.specs.Slices.{stateOf, markOf, Started}
 
 module _ (w h : ℕ) (hs : List Float) (water : Float) where
   -- the marks of all cells, and that of column x, row y
@@ -28,45 +24,6 @@ module _ (w h : ℕ) (hs : List Float) (water : Float) where
 
   pub mark-is : (x y : ℕ) → x < w → markOf w h x y (getD hs (cellOf w x y) nan) water ≡ marks (cellOf w x y)
   mark-is x y l = ap (λ b. cond b 1 0) (base-cell w h x y water hs l)
-
-module _ (status : List ℕ) (spill : List Float) where
-  pub gathered-none : (queue : List ℕ) → Gathered status spill 0 0 queue
-  unfolding times
-  gathered-none queue = record {
-    heap = record {
-      room = omega arith;
-      cells = λ k l. let z : ⊥ = omega arith in absurd z;
-      ordered = λ k p l. let z : ⊥ = omega arith in absurd z;
-    };
-    below = λ c l. let z : ⊥ = omega arith in absurd z;
-    above = λ c l. refl;
-    few = omega arith;
-  }
-
-  module _ (c len : ℕ) (queue queue′ : List ℕ) (g : Gathered status spill c len queue) where
-    -- a waiting cell joins
-    pub gathered-more : getD status c 0 ≡ 1 → Pushed (placeOf spill) (length spill) len queue c queue′ → Gathered status spill (c + 1) (len + 1) queue′
-    gathered-more e p = record {
-      heap = p .heap;
-      below = λ b l. p .cells b ∙ elim (same-or-not c b) [
-        | inl z ↦ omega (arith, g .above b (omega arith), one-same c b z, one-same (getD status b 0) 1 (ap (λ i. getD status i 0) (sym z) ∙ e))
-        | inr z ↦ omega (arith, g .below b (omega arith), one-other c b z)
-      ];
-      above = λ b l. p .cells b ∙ omega (arith, g .above b (omega arith), one-other c b (omega arith));
-      few = omega (arith, g .few);
-    }
-
-    -- another does not
-    pub gathered-less : (getD status c 0 ≡ 1 → ⊥) → Gathered status spill (c + 1) len queue
-    gathered-less d = record {
-      heap = g .heap;
-      below = λ b l. elim (same-or-not b c) [
-        | inl z ↦ g .above b (omega arith) ∙ sym (one-other (getD status b 0) 1 (λ e. d (ap (λ i. getD status i 0) (sym z) ∙ e)))
-        | inr z ↦ g .below b (omega arith)
-      ];
-      above = λ b l. g .above b (omega arith);
-      few = omega (arith, g .few);
-    }
 
 pub started :
     (w h : ℕ) (water : Float) (hs : List Float) (status : List ℕ) (spill : List Float) (recv : List ℕ) → status ≡ tabulate (w * h) (marks w h hs water)

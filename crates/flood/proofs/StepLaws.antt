@@ -24,7 +24,8 @@ use Rattle.drainage.proofs.KeptLaws.{getD-inside, pushedTo}
 use Rattle.heap.specs.Queue.{placeOf, within, Heap, Pushed}
 use Rattle.heap.proofs.RoomLaws.{heap-same, heap-room}
 use Rattle.flood.specs.Slices.{stateOf, Sizes}
-use Rattle.flood.specs.Scans.{Queued, Level, Reached, ReachedAll}
+use Rattle.scan_queue.specs.Scans.{Queued, Level}
+use Rattle.flood.specs.Steps.{Reached, ReachedAll}
 
 -- lists of the same lengths
 pub sizes-kept :

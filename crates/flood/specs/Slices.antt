@@ -1,6 +1,6 @@
 -- How slices stand for the flood of document 01 as crates/drainage defines it: statuses, spill heights, finders and the order, each in a list of
 -- its own.
-use Prim.Native.Nat.{ℕ, _*_, _^_, _≤_, _<_}
+use Prim.Native.Nat.{ℕ, _*_, _^_, _≤_}
 use mathlib.Core.Path.{_≡_}
 use mathlib.Core.Bool.{true, _||_, cond}
 use mathlib.Core.List.{List, []}
@@ -12,8 +12,6 @@ use Rattle.grid.specs.Base.{onBorder}
 use Rattle.grid.specs.Heights.{allFinite}
 use Rattle.drainage.specs.Ground.{floats, gridGround}
 use Rattle.drainage.specs.Flood.{Flood, start, flooded}
-use Rattle.drainage.specs.Ways.{one}
-use Rattle.heap.specs.Queue.{placeOf, within, Heap}
 
 abbrev pub stateOf : List ℕ → List Float → List ℕ → List ℕ → Flood Float
 stateOf status spill recv order = record { status = status; spill = spill; finder = recv; order = order }
@@ -39,13 +37,7 @@ rowBy w make y x = turns x (λ x l. set l (cellOf w x y) (make x y l))
 abbrev pub rowMarked : ℕ → ℕ → List Float → Float → ℕ → List ℕ → List ℕ
 rowMarked w h hs water y = rowBy w (λ x y l. markOf w h x y (getD hs (cellOf w x y) nan) water) y w
 
--- The queue holds those of the first i cells that wait.
-pub record Gathered (status : List ℕ) (spill : List Float) (i len : ℕ) (queue : List ℕ) : Type 0 where
-  pub heap : Heap (placeOf spill) (length spill) len queue
-  pub below : (c : ℕ) → c < i → within c len queue ≡ one (getD status c 0) 1
-  pub above : (c : ℕ) → i ≤ c → within c len queue ≡ 0
-  pub few : len ≤ i
-
+-- The slices hold the first state of the flood.
 pub record Started (w h : ℕ) (water : Float) (hs : List Float) (status : List ℕ) (spill : List Float) (recv : List ℕ) : Type 0 where
   pub state : stateOf status spill recv [] ≡ start floats (gridGround w h water hs) hs
 

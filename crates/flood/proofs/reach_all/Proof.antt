@@ -5,7 +5,7 @@ use mathlib.Core.Path.{_≡_, refl, sym, _∙_, subst}
 use lib.ListN.{length}
 use Rattle.grid.proofs.SidesLaws.{some-column, place-of}
 use Rattle.flood.specs.Slices.{Sizes}
-use Rattle.flood.specs.Scans.{Level}
+use Rattle.scan_queue.specs.Scans.{Level}
 use Rattle.flood.proofs.StepLaws.{ReachedTo, reached-start, reached-more, reached-done}
 use Rattle.flood.proofs.reach_all.Statement.{statement}
 use Rattle.flood.proofs.reach_all.Tie as tie

@@ -1,10 +1,10 @@
 use native.Mathlib.Omega.{arith}
 use lib.ListN.{getD}
 use Rattle.heap.specs.Queue.{placeOf}
-use Rattle.flood.proofs.ScanLaws.{first-none, first-some}
+use Rattle.scan_queue.proofs.ScanLaws.{first-none, first-some}
 use borrow.Author.Needs.{needs}
-use Rattle.flood.proofs.heap_first.Statement.{statement}
-use Rattle.flood.proofs.heap_first.Tie as tie
+use Rattle.scan_queue.proofs.heap_first.Statement.{statement}
+use Rattle.scan_queue.proofs.heap_first.Tie as tie
 
 returns : tie.Need-returns
 returns c = let a = c .before .before .before .args in first-none _ (placeOf (a .spill .now) (getD (a .queue .now) 0 0)) (a .limit) (c .if1 .taken)

@@ -1,9 +1,9 @@
 use native.Mathlib.Omega.{arith}
 use mathlib.Core.Path.{sym, _∙_}
-use Rattle.flood.proofs.ScanLaws.{limit-inside, limit-end}
+use Rattle.scan_queue.proofs.ScanLaws.{limit-inside, limit-end}
 use borrow.Author.Needs.{needs}
-use Rattle.flood.proofs.limit_at.Statement.{statement}
-use Rattle.flood.proofs.limit_at.Tie as tie
+use Rattle.scan_queue.proofs.limit_at.Statement.{statement}
+use Rattle.scan_queue.proofs.limit_at.Tie as tie
 
 returns : tie.Need-returns
 returns c = let a = c .before .before .before .args in sym (limit-end (a .h .now) (a .list .now) (a .head) (c .if1 .taken))

@@ -1,5 +1,5 @@
 -- The queue of the flood: a scan of the cells in the order of their own heights, and a heap of the waiting cells that it has passed.
-use Prim.Native.Nat.{ℕ, _+_, _*_, _^_, _≤_, _<_}
+use Prim.Native.Nat.{ℕ, _+_, _^_, _≤_, _<_}
 use mathlib.Core.Path.{_≡_}
 use mathlib.Core.Bool.{Bool, _&&_, cond}
 use mathlib.Core.List.{List}
@@ -7,12 +7,9 @@ use lib.ListN.{length, getD, set}
 use lib.Dec.{ltb, leb}
 use lib.Ieee.{Float, nan}
 use Rattle.floats.specs.Stand.{maxOf}
-use Rattle.drainage.specs.Ground.{Ground, floats, gridGround}
-use Rattle.drainage.specs.Flood.{push, pushAll}
 use Rattle.drainage.specs.Ways.{one, countBelow}
 use Rattle.heap.specs.Queue.{placeOf, within, Heap}
-use Rattle.flood.specs.Slices.{stateOf}
-use Rattle.flood.specs.declared.Scan.{Scan}
+use Rattle.scan_queue.specs.declared.Scan.{Scan}
 
 -- above the place of every cell
 abbrev pub endless : ℕ
@@ -56,6 +53,13 @@ pub record Listed (hs : List Float) (head limit : ℕ) (list : List ℕ) : Type 
 pub record Level (hs : List Float) (limit : ℕ) (x : Float) : Type 0 where
   pub keeps : (m : ℕ) → m < length hs → limit ≤ placeOf hs m → maxOf (getD hs m nan) x ≡ getD hs m nan
 
+-- The queue holds those of the first i cells that wait.
+pub record Gathered (status : List ℕ) (spill : List Float) (i len : ℕ) (queue : List ℕ) : Type 0 where
+  pub heap : Heap (placeOf spill) (length spill) len queue
+  pub below : (c : ℕ) → c < i → within c len queue ≡ one (getD status c 0) 1
+  pub above : (c : ℕ) → i ≤ c → within c len queue ≡ 0
+  pub few : len ≤ i
+
 -- Before the scan begins no cell has left, and spill heights are heights.
 pub record Begins (hs : List Float) (list status : List ℕ) (spill : List Float) (queue : List ℕ) : Type 0 where
   pub few : length hs ≤ 2 ^ 24
@@ -97,32 +101,3 @@ pub record Turned (hs : List Float) (list : List ℕ) (head : ℕ) (status : Lis
   pub leaves : r .cell < length hs → Leaves hs (r .limit) (r .cell) status spill status′
   pub passes : length hs ≤ r .cell → head < r .head
   pub same : length hs ≤ r .cell → status′ ≡ status
-
--- Cell c, which has left, has reached cell m, on any ground and whatever the order so far.
-pub record Reached (hs : List Float) (limit c m : ℕ) (status : List ℕ) (spill : List Float) (recv : List ℕ) (len : ℕ) (status′ : List ℕ)
-    (spill′ : List Float) (recv′ queue′ : List ℕ) : Type 0 where
-  pub left : getD status′ c 0 ≡ 2
-  pub level : getD spill′ c nan ≡ getD spill c nan
-  pub state : (g : Ground) (order : List ℕ) → stateOf status′ spill′ recv′ order ≡ push floats g hs c m (stateOf status spill recv order)
-  pub queued : Queued hs limit status′ spill′ len queue′
-
--- Cell c has reached all its neighbours.
-pub record ReachedAll (w h : ℕ) (hs : List Float) (limit c : ℕ) (status : List ℕ) (spill : List Float) (recv : List ℕ) (len : ℕ) (status′ : List ℕ)
-    (spill′ : List Float) (recv′ queue′ : List ℕ) : Type 0 where
-  pub state :
-      (water : Float) (order : List ℕ) → stateOf status′ spill′ recv′ order ≡ pushAll floats (gridGround w h water hs) hs c (stateOf status spill recv order)
-  pub queued : Queued hs limit status′ spill′ len queue′
-
--- Cell c has just left, and there is room for it in the order.
-pub record Leaver (hs : List Float) (limit c i : ℕ) (status : List ℕ) (spill : List Float) (order : List ℕ) : Type 0 where
-  pub left : getD status c 0 ≡ 2
-  pub level : Level hs limit (getD spill c nan)
-  pub room : i < length order
-
--- The leaver of a turn has joined the order and reached its neighbours; where there is none nothing has changed.
-pub record Onward (w h : ℕ) (hs : List Float) (i : ℕ) (s : Scan) (order status : List ℕ) (spill : List Float) (recv : List ℕ) (len : ℕ)
-    (order′ status′ : List ℕ) (spill′ : List Float) (recv′ queue′ : List ℕ) : Type 0 where
-  pub joins : s .cell < length hs → order′ ≡ set order i (s .cell)
-  pub reached : s .cell < length hs → ReachedAll w h hs (s .limit) (s .cell) status spill recv len status′ spill′ recv′ queue′
-  pub stays : length hs ≤ s .cell → stateOf status′ spill′ recv′ order′ ≡ stateOf status spill recv order
-  pub queued : Queued hs (s .limit) status′ spill′ len queue′

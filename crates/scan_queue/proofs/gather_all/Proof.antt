@@ -2,10 +2,10 @@ use Prim.Native.Nat.{_-_, _≤_}
 use native.Mathlib.Omega.{arith}
 use mathlib.Core.Path.{_≡_, refl, _∙_, subst}
 use lib.ListN.{length}
-use Rattle.flood.specs.Slices.{Gathered}
-use Rattle.flood.proofs.StartLaws.{gathered-none}
-use Rattle.flood.proofs.gather_all.Statement.{statement}
-use Rattle.flood.proofs.gather_all.Tie as tie
+use Rattle.scan_queue.specs.Scans.{Gathered}
+use Rattle.scan_queue.proofs.BeginLaws.{gathered-none}
+use Rattle.scan_queue.proofs.gather_all.Statement.{statement}
+use Rattle.scan_queue.proofs.gather_all.Tie as tie
 
 abbrev Inv-loop : tie.InvT-loop
 Inv-loop status spill queue₀ n len₀ c₀ queue len c = (c ≤ length status) × (length queue ≡ length queue₀) × Gathered status spill c len queue

@@ -1,8 +1,8 @@
 use native.Mathlib.Omega.{arith}
-use Rattle.flood.proofs.ScanLaws.{turned-past, turned-leaves}
+use Rattle.scan_queue.proofs.ScanLaws.{turned-past, turned-leaves}
 use borrow.Author.Needs.{needs}
-use Rattle.flood.proofs.pass.Statement.{statement}
-use Rattle.flood.proofs.pass.Tie as tie
+use Rattle.scan_queue.proofs.pass.Statement.{statement}
+use Rattle.scan_queue.proofs.pass.Tie as tie
 
 mul-c : tie.Need-mul-c
 mul-c c = search needs

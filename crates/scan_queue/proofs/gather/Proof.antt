@@ -1,8 +1,8 @@
 use native.Mathlib.Omega.{arith}
-use Rattle.flood.proofs.StartLaws.{gathered-more, gathered-less}
+use Rattle.scan_queue.proofs.BeginLaws.{gathered-more, gathered-less}
 use borrow.Author.Needs.{needs}
-use Rattle.flood.proofs.gather.Statement.{statement}
-use Rattle.flood.proofs.gather.Tie as tie
+use Rattle.scan_queue.proofs.gather.Statement.{statement}
+use Rattle.scan_queue.proofs.gather.Tie as tie
 
 shared-slice-read-if1 : tie.Need-shared-slice-read-if1
 shared-slice-read-if1 c = search needs

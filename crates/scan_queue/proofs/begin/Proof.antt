@@ -2,10 +2,10 @@ use native.Mathlib.Omega.{arith}
 use mathlib.Core.Path.{refl, sym, ap, _∙_}
 use lib.ListN.{length}
 use Rattle.sorted_cells.proofs.SortedLaws.{sorted}
-use Rattle.flood.proofs.BeginLaws.{begun-sorted, begun-gathered}
+use Rattle.scan_queue.proofs.BeginLaws.{begun-sorted, begun-gathered}
 use borrow.Author.Needs.{needs}
-use Rattle.flood.proofs.begin.Statement.{statement}
-use Rattle.flood.proofs.begin.Tie as tie
+use Rattle.scan_queue.proofs.begin.Statement.{statement}
+use Rattle.scan_queue.proofs.begin.Tie as tie
 
 limit-at-requires : tie.Need-limit-at-requires
 limit-at-requires c κs = λ l. sorted (c .before .before .before .before .before .before .args .h .now) (c .before .before .before .before .before .before .args .list .now) (sym (c .before .before .before .before .before .before .pre .0) ∙ c .if1 .taken) .cells 0 l

@@ -1,35 +1,32 @@
 -- Laws of the scan: the list from the scan's place on, the limit, and the heap of the waiting cells that the scan has passed.
 use Prim.Native.Nat.{ℕ, zero, suc, _+_, _-_, _*_, _^_, _≤_, _<_}
 use mathlib.Core.Path.{_≡_, refl, sym, ap, ap₂, _∙_, subst}
-use mathlib.Core.Bool.{Bool, true, false, _&&_, cond}
+use mathlib.Core.Bool.{Bool, true, false, _&&_, cond, true≢false}
 use mathlib.Core.Logic.{inl, inr}
-use mathlib.Core.List.{List, []}
-use native.Mathlib.Nat.{le-trans}
+use mathlib.Core.List.{List}
 use native.Mathlib.Decide.{decLt}
 use native.Mathlib.Omega.{arith}
 use lib.ListN.{length, getD, set, length-set, List·getD-eq-default}
 use lib.Seq.{getD-set-same, getD-set-other}
-use lib.Dec.{T, ltb, leb}
-use lib.Ieee.{Float, nan, binary32, fits, le}
+use lib.Dec.{ltb, leb}
+use lib.Ieee.{Float, nan}
 use borrow.Author.Tests.{lt-ltb, le-ltb, le-leb, lt-leb, ltb-true, ltb-false}
-use Rattle.floats.specs.Stand.{maxOf}
 use Rattle.floats.specs.Key.{keyOf}
 use Rattle.float_order.specs.Fit.{Fit}
 use Rattle.float_order.specs.Order.{Number}
 use Rattle.float_order.proofs.KeyLaws.{key-narrow, key-le}
 use Rattle.float_order.proofs.RankLaws.{finite-number, rank-le}
-use Rattle.drainage.specs.Ways.{one, times, countBelow}
+use Rattle.drainage.specs.Ways.{one, times}
 use Rattle.drainage.specs.Grids.{Height}
-use Rattle.drainage.proofs.TallyLaws.{same-or-not, one-same, one-other, one-bound, one-eq, count-more, count-full}
+use Rattle.drainage.proofs.TallyLaws.{same-or-not, one-same, one-other, one-eq, count-more, count-full}
 use Rattle.drainage.proofs.CountLaws.{count-none}
 use Rattle.drainage.proofs.LeastLaws.{place-key}
 use Rattle.heap.specs.Queue.{placeOf, within, Heap, Popped}
 use Rattle.heap.proofs.HeapLaws.{root-least}
 use Rattle.heap.proofs.RoomLaws.{times-at}
 use Rattle.sorted_cells.specs.Sorted.{Sorted}
-use Rattle.flood.specs.declared.Scan.{Scan}
-use Rattle.flood.specs.Slices.{Gathered}
-use Rattle.flood.specs.Scans.{endless, limitOf, atLimit, StandsIn, Listed, Queued, Level, Leaves, Turned, Begins, Begun, Ready, Waits}
+use Rattle.scan_queue.specs.declared.Scan.{Scan}
+use Rattle.scan_queue.specs.Scans.{endless, limitOf, atLimit, StandsIn, Listed, Queued, Level, Turned, Ready, Waits}
 
 -- places of 32-bit keys and cells
 narrow-place : (k c : ℕ) → k < 2 ^ 32 → c < 2 ^ 24 → k * 2 ^ 32 + c < endless
@@ -307,7 +304,7 @@ module _ (hs : List Float) (limit : ℕ) (status : List ℕ) (spill : List Float
   heap-behind b e f x p = go (ltb 0 len) (ltb (placeOf spill (getD queue 0 0)) limit) refl refl (sym e ∙ f)
     where
       go : (s t : Bool) → ltb 0 len ≡ s → ltb (placeOf spill (getD queue 0 0)) limit ≡ t → (s && t) ≡ false → limit ≤ placeOf spill x
-      go true true u v w = absurd (mathlib.Core.Bool.true≢false w)
+      go true true u v w = absurd (true≢false w)
       go true false u v w = omega (arith, ltb-false (placeOf spill (getD queue 0 0)) limit v, root-least (placeOf spill) (length spill) len queue (q .heap) x p)
       go false t u v w = absurd (none-within x queue len (ltb-false 0 len u) p)
 
@@ -322,8 +319,8 @@ module _ (hs : List Float) (limit : ℕ) (status : List ℕ) (spill : List Float
           → (0 < len) × ((c : ℕ) → ((x : ℕ) → 0 < within x len queue → placeOf spill c ≤ placeOf spill x) → placeOf spill c < limit)
       go true true u v w =
           (ltb-true 0 len u, λ c low. omega (arith, low (getD queue 0 0) (times-at queue len 0 (ltb-true 0 len u) (q .heap .room)), ltb-true (placeOf spill (getD queue 0 0)) limit v))
-      go true false u v w = absurd (mathlib.Core.Bool.true≢false (sym w))
-      go false t u v w = absurd (mathlib.Core.Bool.true≢false (sym w))
+      go true false u v w = absurd (true≢false (sym w))
+      go false t u v w = absurd (true≢false (sym w))
 
 -- ---- turns
 module _ (hs : List Float) (list status : List ℕ) (spill : List Float) (s : Scan) (queue : List ℕ) (r : Ready hs list status spill s queue) where

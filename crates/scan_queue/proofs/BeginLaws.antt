@@ -1,22 +1,63 @@
 -- Laws of the scan's beginning: before a sorted list, or behind a list that is not sorted with every waiting cell in the heap.
-use Prim.Native.Nat.{ℕ, _^_, _≤_, _<_}
-use mathlib.Core.Path.{_≡_, refl, sym, ap, _∙_}
+use Prim.Native.Nat.{ℕ, _+_, _≤_, _<_}
+use mathlib.Core.Path.{_≡_, refl, sym, ap, _∙_, subst}
 use mathlib.Core.Bool.{true}
+use mathlib.Core.Logic.{inl, inr}
 use mathlib.Core.List.{List}
 use native.Mathlib.Decide.{decLt}
 use native.Mathlib.Omega.{arith}
-use lib.ListN.{length, getD, List·getD-eq-default}
+use lib.ListN.{length, getD}
 use lib.Ieee.{Float, nan}
 use Rattle.float_order.specs.Fit.{Fit}
 use Rattle.drainage.specs.Ways.{one, times}
-use Rattle.drainage.proofs.TallyLaws.{one-other}
-use Rattle.heap.specs.Queue.{placeOf, within}
+use Rattle.drainage.proofs.TallyLaws.{same-or-not, one-same, one-other}
+use Rattle.heap.specs.Queue.{placeOf, within, Pushed}
 use Rattle.sorted_cells.specs.Sorted.{isSorted}
 use Rattle.sorted_cells.proofs.SortedLaws.{sorted}
-use Rattle.flood.specs.Slices.{Gathered}
-use Rattle.flood.specs.Scans.{endless, limitOf, Queued, Begins, Begun}
-use Rattle.flood.proofs.ScanLaws.{below-endless, waits-inside, first-least, listed-start, listed-end}
+use Rattle.scan_queue.specs.Scans.{endless, limitOf, Queued, Listed, Gathered, Begins, Begun}
+use Rattle.scan_queue.proofs.ScanLaws.{below-endless, waits-inside, first-least, listed-start, listed-end}
 
+-- ---- the waiting cells join the heap
+module _ (status : List ℕ) (spill : List Float) where
+  pub gathered-none : (queue : List ℕ) → Gathered status spill 0 0 queue
+  unfolding times
+  gathered-none queue = record {
+    heap = record {
+      room = omega arith;
+      cells = λ k l. let z : ⊥ = omega arith in absurd z;
+      ordered = λ k p l. let z : ⊥ = omega arith in absurd z;
+    };
+    below = λ c l. let z : ⊥ = omega arith in absurd z;
+    above = λ c l. refl;
+    few = omega arith;
+  }
+
+  module _ (c len : ℕ) (queue queue′ : List ℕ) (g : Gathered status spill c len queue) where
+    -- a waiting cell joins
+    pub gathered-more : getD status c 0 ≡ 1 → Pushed (placeOf spill) (length spill) len queue c queue′ → Gathered status spill (c + 1) (len + 1) queue′
+    gathered-more e p = record {
+      heap = p .heap;
+      below = λ b l. p .cells b ∙ elim (same-or-not c b) [
+        | inl z ↦ omega (arith, g .above b (omega arith), one-same c b z, one-same (getD status b 0) 1 (ap (λ i. getD status i 0) (sym z) ∙ e))
+        | inr z ↦ omega (arith, g .below b (omega arith), one-other c b z)
+      ];
+      above = λ b l. p .cells b ∙ omega (arith, g .above b (omega arith), one-other c b (omega arith));
+      few = omega (arith, g .few);
+    }
+
+    -- another does not
+    pub gathered-less : (getD status c 0 ≡ 1 → ⊥) → Gathered status spill (c + 1) len queue
+    gathered-less d = record {
+      heap = g .heap;
+      below = λ b l. elim (same-or-not b c) [
+        | inl z ↦ g .above b (omega arith) ∙ sym (one-other (getD status b 0) 1 (λ e. d (ap (λ i. getD status i 0) (sym z) ∙ e)))
+        | inr z ↦ g .below b (omega arith)
+      ];
+      above = λ b l. g .above b (omega arith);
+      few = omega (arith, g .few);
+    }
+
+-- ---- the scan begins
 within-none : (c : ℕ) (l : List ℕ) → within c 0 l ≡ 0
 unfolding times
 within-none c l = refl
@@ -49,7 +90,7 @@ module _ (hs : List Float) (list status : List ℕ) (spill : List Float) (queue 
       Fit hs → (len n : ℕ) (queue′ : List ℕ) → n ≡ length hs → Gathered status spill (length status) len queue′
       → Begun hs list status spill (record { head = n; limit = endless; len = len; cell = n }) queue′
   begun-gathered fit len n queue′ e g = record {
-    listed = mathlib.Core.Path.subst (λ n. Rattle.flood.specs.Scans.Listed hs n endless list) (sym e) (listed-end hs list fit (b .few) (b .lists));
+    listed = subst (λ n. Listed hs n endless list) (sym e) (listed-end hs list fit (b .few) (b .lists));
     queued = record {
       heap = g .heap;
       below = λ c h. elim (decLt c (length status)) [

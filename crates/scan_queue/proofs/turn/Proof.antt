@@ -1,8 +1,8 @@
 use native.Mathlib.Omega.{arith}
-use Rattle.flood.proofs.ScanLaws.{heap-before, heap-behind, head-inside, turned-heap}
+use Rattle.scan_queue.proofs.ScanLaws.{heap-before, heap-behind, head-inside, turned-heap}
 use borrow.Author.Needs.{needs}
-use Rattle.flood.proofs.turn.Statement.{statement}
-use Rattle.flood.proofs.turn.Tie as tie
+use Rattle.scan_queue.proofs.turn.Statement.{statement}
+use Rattle.scan_queue.proofs.turn.Tie as tie
 
 heap-first-requires : tie.Need-heap-first-requires
 heap-first-requires c κs = search needs

@@ -1,0 +1,3 @@
+-- Laws of the scan and its heap.
+pub mod ScanLaws
+pub mod BeginLaws

@@ -1,0 +1,165 @@
+// The queue of the flood: the cells sorted by their own heights, which a scan goes through, and a heap of the waiting cells that the scan has
+// passed, those that were raised. A waiting cell that the scan has not passed leaves at its own height, where it stands in the list. Where the
+// list is not sorted the scan begins at its end, and every waiting cell stands in the heap.
+use heap::place;
+use heap::pop;
+use heap::push;
+ghost use Prim.Native.Nat.{ℕ, _+_, _^_, _≤_, _<_};
+ghost use mathlib.Core.Path.{_≡_};
+ghost use mathlib.Core.Bool.{_&&_};
+ghost use lib.ListN.{length, getD};
+ghost use lib.Dec.{ltb};
+ghost use Rattle.heap.specs.Queue.{placeOf, within, Heap};
+ghost use Rattle.sorted_cells.specs.Sorted.{isSorted};
+ghost use Rattle.scan_queue.specs.Scans.{limitOf, Gathered, Begins, Begun, Ready, Waits, Turned};
+
+// Where a scan stands: before entry `head` of the sorted list, whose cell's place is the limit. The heap holds `len` cells; `cell` leaves.
+pub struct Scan {
+    pub head: usize,
+    pub limit: u64,
+    pub len: usize,
+    pub cell: usize,
+}
+
+// Cell c joins the queue if it waits.
+fn gather(status: &[u8], spill: &[f32], queue: &mut [u32], len: usize, c: usize) -> usize
+    requires { ⌜ Gathered (now status) (now spill) c len (now queue) ⌝ }
+    requires { ⌜ c < length (now status) ⌝ }
+    requires { ⌜ length (now status) ≡ length (now spill) ⌝ }
+    requires { ⌜ length (now status) ≤ length (now queue) ⌝ }
+    requires { ⌜ length (now status) ≤ 2 ^ 24 ⌝ }
+    ensures { λ r. ⌜ Gathered (now (status .entry)) (now (spill .entry)) (c + 1) r (now (queue .exit)) ⌝ }
+{
+    if status[c] == 1 {
+        push(queue, len, spill, c as u32);
+        return len + 1;
+    }
+    len
+}
+
+// The waiting cells join the queue; the number of them is the answer.
+fn gather_all(status: &[u8], spill: &[f32], queue: &mut [u32]) -> usize
+    requires { ⌜ length (now status) ≡ length (now spill) ⌝ }
+    requires { ⌜ length (now status) ≤ length (now queue) ⌝ }
+    requires { ⌜ length (now status) ≤ 2 ^ 24 ⌝ }
+    ensures { λ r. ⌜ Gathered (now (status .entry)) (now (spill .entry)) (length (now (status .entry))) r (now (queue .exit)) ⌝ }
+{
+    let n = status.len();
+    let mut len: usize = 0;
+    let mut c: usize = 0;
+    while c < n {
+        len = gather(status, spill, queue, len, c);
+        c += 1;
+    }
+    len
+}
+
+// The limit of a scan before entry head of the list: the place of its cell by its own height; behind the last entry, above all places.
+fn limit_at(h: &[f32], list: &[u32], head: usize) -> u64
+    requires { ⌜ (head < length (now list) → getD (now list) head 0 < length (now h)) ⌝ }
+    ensures { λ r. ⌜ r ≡ limitOf (now (h .entry)) (now (list .entry)) head ⌝ }
+{
+    if list.len() <= head {
+        return 0xffff_ffff_ffff_ffff;
+    }
+    place(list[head], h)
+}
+
+// Where the scan begins: before a sorted list with nothing in the heap; or behind a list that is not sorted, with every waiting cell in the heap.
+pub fn begin(
+    sorted: bool,
+    h: &[f32],
+    list: &[u32],
+    status: &[u8],
+    spill: &[f32],
+    queue: &mut [u32],
+) -> Scan
+    requires { ⌜ sorted ≡ isSorted (now h) (now list) ⌝ }
+    requires { ⌜ Begins (now h) (now list) (now status) (now spill) (now queue) ⌝ }
+    ensures { λ r. ⌜ Begun (now (h .entry)) (now (list .entry)) (now (status .entry)) (now (spill .entry)) r (now (queue .exit)) ⌝ }
+{
+    let n = h.len();
+    if sorted {
+        let limit = limit_at(h, list, 0);
+        return Scan {
+            head: 0,
+            limit: limit,
+            len: 0,
+            cell: n,
+        };
+    }
+    let len = gather_all(status, spill, queue);
+    Scan {
+        head: n,
+        limit: 0xffff_ffff_ffff_ffff,
+        len: len,
+        cell: n,
+    }
+}
+
+// Whether the heap's first cell comes before the limit.
+fn heap_first(queue: &[u32], len: usize, spill: &[f32], limit: u64) -> bool
+    requires { ⌜ Heap (placeOf (now spill)) (length (now spill)) len (now queue) ⌝ }
+    ensures { λ r. ⌜ r ≡ ltb 0 len && ltb (placeOf (now (spill .entry)) (getD (now (queue .entry)) 0 0)) limit ⌝ }
+{
+    if len == 0 {
+        return false;
+    }
+    place(queue[0], spill) < limit
+}
+
+// The scan goes past the list's first cell, which leaves if it waits. No cell is the number of cells.
+fn pass(h: &[f32], list: &[u32], s: Scan, spill: &[f32], queue: &[u32], status: &mut [u8]) -> Scan
+    requires { ⌜ Ready (now h) (now list) (now status) (now spill) s (now queue) ⌝ }
+    requires { ⌜ s .head < length (now list) ⌝ }
+    requires { ⌜ ((b : ℕ) → 0 < within b (s .len) (now queue) → s .limit ≤ placeOf (now spill) b) ⌝ }
+    ensures { λ r. ⌜ Turned (now (h .entry)) (now (list .entry)) (s .head) (now (status .entry)) (now (spill .entry)) r (now (status .exit)) (now (queue .entry)) ⌝ }
+{
+    let head = s.head;
+    let c = list[head];
+    let at = c as usize;
+    let limit = limit_at(h, list, head + 1);
+    if status[at] != 1 {
+        return Scan {
+            head: head + 1,
+            limit: limit,
+            len: s.len,
+            cell: h.len(),
+        };
+    }
+    status[at] = 2;
+    Scan {
+        head: head + 1,
+        limit: limit,
+        len: s.len,
+        cell: at,
+    }
+}
+
+// A turn of the scan: the heap's first cell leaves if it comes before the list's first; else the scan goes past that.
+pub fn turn(
+    h: &[f32],
+    list: &[u32],
+    s: Scan,
+    spill: &[f32],
+    queue: &mut [u32],
+    status: &mut [u8],
+) -> Scan
+    requires { ⌜ Ready (now h) (now list) (now status) (now spill) s (now queue) ⌝ }
+    requires { ⌜ Waits (now status) ⌝ }
+    ensures { λ r. ⌜ Turned (now (h .entry)) (now (list .entry)) (s .head) (now (status .entry)) (now (spill .entry)) r (now (status .exit)) (now (queue .exit)) ⌝ }
+{
+    let len = s.len;
+    if heap_first(queue, len, spill, s.limit) {
+        let c = pop(queue, len, spill);
+        let at = c as usize;
+        status[at] = 2;
+        return Scan {
+            head: s.head,
+            limit: s.limit,
+            len: len - 1,
+            cell: at,
+        };
+    }
+    pass(h, list, s, spill, queue, status)
+}
