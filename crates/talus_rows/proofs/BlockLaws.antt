@@ -9,7 +9,7 @@ use lib.Seq.{getD-set-same, getD-set-other}
 use lib.Ieee.{Float, nan}
 use Rattle.talus.specs.Talus.{shedOf}
 use Rattle.talus.specs.declared.Shed.{Shed}
-use Rattle.talus_rows.specs.Inner.{Sheds}
+use Rattle.talus_rows.specs.Blocks.{Sheds}
 
 -- the sheds of the first i cells of n stand in two lists of 64
 pub record Shedding (w h : ℕ) (ts hs : List Float) (y x n i : ℕ) (totals greatest : List Float) : Type 0 where

@@ -1,4 +1,4 @@
 -- Laws of talus rows.
-pub mod InnerLaws
+pub mod PartLaws
 pub mod RowLaws
 pub mod BlockLaws

@@ -1,2 +1,2 @@
 -- Rows of a talus pass.
-pub mod Inner
+pub mod Blocks

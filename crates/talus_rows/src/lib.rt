@@ -1,11 +1,10 @@
 // Rows of a talus pass. The neighbours of an inner cell lie at eight offsets from it, prepared from the direction tables once for each row,
 // and need no test; they are slid in blocks, first the sheds of all, then the gains of those that shed. The cells on the sides of the map are
 // slid as any cell.
-use grid::DIRX;
-use grid::DIRY;
 use grid::Sides;
-use grid::at_end;
-use grid::shifted;
+use inner_cells::beside;
+use inner_cells::inner_cells;
+use inner_cells::offsets;
 use talus::Shed;
 use talus::gain_at;
 use talus::shed_at;
@@ -13,35 +12,10 @@ use talus::slide_cells;
 ghost use mathlib.Core.Path.{_≡_};
 ghost use Prim.Native.Nat.{_*_, min, _<_, _≤_};
 ghost use lib.ListN.{length};
-ghost use Rattle.grid.specs.Directions.{neighbourAt};
 ghost use Rattle.talus.specs.Talus.{shedOf, gainsOf, slideCell, slideCells, slideRow};
 ghost use Rattle.talus.specs.Places.{InRow};
-ghost use Rattle.talus_rows.specs.Inner.{Inner, innerOf, offsetsOf, InnerRow, Sheds};
-
-// The index offsets of the directions on a grid of w columns.
-fn offsets(w: usize) -> [usize; 9]
-    requires { ⌜ w ≤ 4096 ⌝ }
-    ensures { λ r. ⌜ r ≡ offsetsOf w ⌝ }
-{
-    let mut os = [0; 9];
-    let mut d: usize = 0;
-    while d < 9 {
-        os[d] = shifted(1, DIRX[d], 3) + shifted(1, DIRY[d], 3) * w;
-        d += 1;
-    }
-    os
-}
-
-// The neighbour of an inner cell.
-fn beside(size: Sides, os: &[usize; 9], c: usize, d: usize) -> usize
-    requires { ⌜ Inner (size .w) (size .h) c ⌝ }
-    requires { ⌜ now os ≡ offsetsOf (size .w) ⌝ }
-    requires { ⌜ 1 ≤ d ⌝ }
-    requires { ⌜ d < 9 ⌝ }
-    ensures { λ r. ⌜ r ≡ neighbourAt (size .w) (size .h) c d ⌝ }
-{
-    c + os[d] - (size.w + 1)
-}
+ghost use Rattle.inner_cells.specs.Inner.{Inner, offsetsOf};
+ghost use Rattle.talus_rows.specs.Blocks.{InnerRow, Sheds};
 
 // The shed of an inner cell.
 fn shed_inside(size: Sides, os: &[usize; 9], ts: &[f32; 9], hmap: &[f32], c: usize) -> Shed
@@ -212,20 +186,6 @@ fn slide_inner_cells(
         slide_block(size, os, ts, hmap, out, strength, water, y, 1 + i, some);
         i += some;
     }
-}
-
-// The number of inner cells of row y.
-fn inner_cells(size: Sides, y: usize) -> usize
-    ensures { λ r. ⌜ r ≡ innerOf (size .w) (size .h) y ⌝ }
-{
-    let w = size.w;
-    if w < 3 {
-        return 0;
-    }
-    if at_end(y, size.h) {
-        return 0;
-    }
-    w - 2
 }
 
 // One row, from the west: its first cell, the inner ones, and the rest.

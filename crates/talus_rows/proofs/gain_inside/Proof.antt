@@ -5,7 +5,7 @@ use borrow.Author.Needs.{needs}
 use lib.ListN.{length}
 use Rattle.talus.specs.Talus.{gainStep, gainsOf}
 use Rattle.talus.proofs.StepLaws.{gain-inside, Around, around-none, around-more, around-done}
-use Rattle.talus_rows.proofs.InnerLaws.{inner-below}
+use Rattle.inner_cells.proofs.InnerLaws.{inner-below}
 use Rattle.talus_rows.proofs.gain_inside.Statement.{statement}
 use Rattle.talus_rows.proofs.gain_inside.Tie as tie
 

@@ -6,7 +6,7 @@ use lib.ListN.{length}
 use lib.Ieee.{binary32, ofBits}
 use Rattle.talus.specs.Talus.{shedStep, shedOf}
 use Rattle.talus.proofs.StepLaws.{shed-inside, Around, around-none, around-more, around-done}
-use Rattle.talus_rows.proofs.InnerLaws.{inner-below}
+use Rattle.inner_cells.proofs.InnerLaws.{inner-below}
 use Rattle.talus_rows.proofs.shed_inside.Statement.{statement}
 use Rattle.talus_rows.proofs.shed_inside.Tie as tie
 

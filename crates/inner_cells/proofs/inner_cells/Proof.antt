@@ -1,9 +1,9 @@
 use mathlib.Core.Path.{sym, _∙_}
-use Rattle.talus_rows.specs.Inner.{innerOf}
+use Rattle.inner_cells.specs.Inner.{innerOf}
 use borrow.Author.Tests.{lt-ltb, le-ltb}
 use borrow.Author.Needs.{needs}
-use Rattle.talus_rows.proofs.inner_cells.Statement.{statement}
-use Rattle.talus_rows.proofs.inner_cells.Tie as tie
+use Rattle.inner_cells.proofs.inner_cells.Statement.{statement}
+use Rattle.inner_cells.proofs.inner_cells.Tie as tie
 
 returns : tie.Need-returns
 unfolding innerOf

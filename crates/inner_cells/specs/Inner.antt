@@ -1,17 +1,13 @@
 -- The inner cells of a map, whose neighbours need no test.
 use Prim.Native.Nat.{ℕ, _+_, _-_, _*_, _≤_, _<_}
-use mathlib.Core.Path.{_≡_}
 use mathlib.Core.Bool.{_||_, cond}
 use mathlib.Core.List.{List}
 use lib.Dec.{eqb, ltb}
 use lib.IntN.{pos}
 use lib.ListN.{getD}
-use lib.Ieee.{Float, nan}
 use Rattle.lists.specs.Loops.{tabulate}
 use Rattle.grid.specs.Sides.{columnOf, rowOf}
 use Rattle.grid.specs.Directions.{dirX, dirY, shiftedOf}
-use Rattle.talus.specs.Talus.{shedOf}
-use Rattle.talus.specs.Places.{InRow}
 
 -- cell c of a w × h map lies on none of its sides
 pub record Inner (w h c : ℕ) : Type 0 where
@@ -33,13 +29,3 @@ offsetOf w d = shiftedOf 1 (getD dirX d (pos 0)) 3 + shiftedOf 1 (getD dirY d (p
 unfoldable pub offsetsOf : ℕ → List ℕ
 unfolding tabulate
 offsetsOf w = tabulate 9 (offsetOf w)
-
--- the n cells from column x on, in row y, are inner cells of a w × h map of `cells` heights
-pub record InnerRow (w h cells y x n : ℕ) : Type 0 where
-  pub inner : (i : ℕ) → i < n → Inner w h (x + i + y * w)
-  pub row : InRow w h cells y x n
-
--- the sheds of the n cells from column x on, in row y
-pub record Sheds (w h : ℕ) (ts hs : List Float) (y x n : ℕ) (totals greatest : List Float) : Type 0 where
-  pub total : (i : ℕ) → i < n → getD totals i nan ≡ shedOf w h ts hs (x + i + y * w) .total
-  pub most : (i : ℕ) → i < n → getD greatest i nan ≡ shedOf w h ts hs (x + i + y * w) .greatest

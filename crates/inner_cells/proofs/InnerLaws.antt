@@ -1,6 +1,6 @@
 -- Inner cells: their neighbours are all in the grid, at the same eight offsets.
 use Prim.Native.Nat.{ℕ, zero, suc, _+_, _-_, _*_, _^_, _≤_, _<_}
-use mathlib.Core.Path.{_≡_, refl, sym, ap, ap₂, _∙_, subst}
+use mathlib.Core.Path.{_≡_, refl, sym, ap, ap₂, _∙_}
 use mathlib.Core.Bool.{Bool, true, false, cond, _||_}
 use mathlib.Core.List.{List}
 use native.Mathlib.Nat.{mul-le-mul}
@@ -14,8 +14,7 @@ use Rattle.grid.specs.Sides.{cellOf, columnOf, rowOf}
 use Rattle.grid.specs.Directions.{shiftedOf, neighbourOf, neighbourAt}
 use Rattle.grid.proofs.SidesLaws.{cell-lt, cell-back, column-cell, row-cell, cells-bound}
 use Rattle.grid.proofs.NeighbourLaws.{stepX, stepY, within, shift-ahead, each-direction}
-use Rattle.talus.specs.Places.{InRow}
-use Rattle.talus_rows.specs.Inner.{Inner, innerOf, offsetOf, offsetsOf, InnerRow}
+use Rattle.inner_cells.specs.Inner.{Inner, innerOf, offsetOf, offsetsOf}
 
 -- a step of at most one from an inner place stays inside, and goes as far as from place 1
 near : (z : ℤ) (x side : ℕ) → natAbs z ≤ 1 → 1 ≤ x → x + 1 < side → (shiftedOf x z side + 1 ≡ shiftedOf 1 z 3 + x) × (shiftedOf x z side < side)
@@ -126,36 +125,20 @@ module _ (w h y n : ℕ) (e : n ≡ innerOf w h y) where
       go false e true = omega arith
       go false e false = omega (arith, ltb-false w 3 e)
 
-  pub inner-row : {cells : ℕ} → 1 ≤ w → InRow w h cells y 0 w → InnerRow w h cells y 1 n
+  -- they are inner cells
+  pub inner-each : y < h → w ≤ 4096 → h ≤ 4096 → (i : ℕ) → i < n → Inner w h (1 + i + y * w)
   unfolding innerOf
-  inner-row some r =
-      record {
-        inner = λ i l. go i (ltb w 3) refl (eqb y 0) refl (eqb y (h - 1)) refl (rw e at l);
-        row = record { columns = inner-most some; row = r .row; wide = r .wide; high = r .high; size = r .size };
-      }
+  inner-each below wide high i l = go (ltb w 3) refl (eqb y 0) refl (eqb y (h - 1)) refl (rw e at l)
     where
-      go : (i : ℕ) (a : Bool) → ltb w 3 ≡ a → (b : Bool) → eqb y 0 ≡ b → (c : Bool) → eqb y (h - 1) ≡ c → i < cond a 0 (cond (b || c) 0 (w - 2)) → Inner w h (1 + i + y * w)
-      go i true _ b _ c _ l = absurd (omega arith)
-      go i false _ true _ c _ l = absurd (omega arith)
-      go i false _ false _ true _ l = absurd (omega arith)
-      go i false e false f false g l =
+      go : (a : Bool) → ltb w 3 ≡ a → (b : Bool) → eqb y 0 ≡ b → (c : Bool) → eqb y (h - 1) ≡ c → i < cond a 0 (cond (b || c) 0 (w - 2)) → Inner w h (1 + i + y * w)
+      go true _ b _ c _ l = absurd (omega arith)
+      go false _ true _ c _ l = absurd (omega arith)
+      go false _ false _ true _ l = absurd (omega arith)
+      go false e false f false g l =
           let first : y ≡ 0 → ⊥ = eqb-false y 0 f in
           let last : y ≡ h - 1 → ⊥ = eqb-false y (h - 1) g in
-          let below : y < h = r .row in
-          inner-at w h (1 + i) y (omega arith) (omega arith) (omega arith) (omega arith) (r .wide) (r .high)
-
-  -- the cells after them
-  pub inner-rest : {cells : ℕ} → 1 ≤ w → InRow w h cells y 0 w → InRow w h cells y (1 + n) (w - (1 + n))
-  inner-rest some r = record { columns = omega (arith, inner-most some); row = r .row; wide = r .wide; high = r .high; size = r .size }
+          inner-at w h (1 + i) y (omega arith) (omega arith) (omega arith) (omega arith) wide high
 
 pub offsets-done : (w : ℕ) (old new : List ℕ) (d : ℕ) → new ≡ filled (offsetOf w) d old → length old ≡ 9 → d ≡ 9 → new ≡ offsetsOf w
 unfolding offsetsOf
 offsets-done w old new d h n e = h ∙ ap (λ (k : ℕ). filled (offsetOf w) k old) e ∙ filled-done (offsetOf w) 9 old n
-
--- some of them
-pub inner-part : {w h cells y n : ℕ} (i b : ℕ) → InnerRow w h cells y 1 n → i + b ≤ n → InnerRow w h cells y (1 + i) b
-inner-part {w} {h} {cells} {y} {n} i b a l =
-    record {
-      inner = λ j k. let e : 1 + (i + j) + y * w ≡ 1 + i + j + y * w = omega arith in subst (Inner w h) e (a .inner (i + j) (omega arith));
-      row = record { columns = omega (arith, a .row .columns); row = a .row .row; wide = a .row .wide; high = a .row .high; size = a .row .size };
-    }

@@ -1,8 +1,8 @@
 use native.Mathlib.Omega.{arith}
-use Rattle.talus_rows.proofs.InnerLaws.{inner-sum, inner-sum-most, inner-beside}
+use Rattle.inner_cells.proofs.InnerLaws.{inner-sum, inner-sum-most, inner-beside}
 use borrow.Author.Needs.{needs}
-use Rattle.talus_rows.proofs.beside.Statement.{statement}
-use Rattle.talus_rows.proofs.beside.Tie as tie
+use Rattle.inner_cells.proofs.beside.Statement.{statement}
+use Rattle.inner_cells.proofs.beside.Tie as tie
 
 mul-result : tie.Need-mul-result
 mul-result c = search needs

@@ -8,10 +8,10 @@ use Rattle.lists.proofs.TableLaws.{filled, filled-none}
 use Rattle.grid.specs.Directions.{dirX, dirY, shiftedOf}
 use Rattle.grid.proofs.NeighbourLaws.{stepX, stepY}
 use Rattle.grid.proofs.ShiftedLaws.{entry-steps, entry-shifts}
-use Rattle.talus_rows.specs.Inner.{offsetOf}
-use Rattle.talus_rows.proofs.InnerLaws.{offset-fits, offsets-more, offsets-done}
-use Rattle.talus_rows.proofs.offsets.Statement.{statement}
-use Rattle.talus_rows.proofs.offsets.Tie as tie
+use Rattle.inner_cells.specs.Inner.{offsetOf}
+use Rattle.inner_cells.proofs.InnerLaws.{offset-fits, offsets-more, offsets-done}
+use Rattle.inner_cells.proofs.offsets.Statement.{statement}
+use Rattle.inner_cells.proofs.offsets.Tie as tie
 
 abbrev Inv-loop : tie.InvT-loop
 Inv-loop w os₀ d₀ os d = (os ≡ filled (offsetOf w) d os₀) × ((d ≤ 9) × (length os₀ ≡ 9))

@@ -1,0 +1,2 @@
+-- Laws of inner cells.
+pub mod InnerLaws

@@ -1,0 +1,2 @@
+-- The inner cells of a map.
+pub mod Inner
