@@ -1,5 +1,2 @@
 -- Laws of the flood on slices.
-pub mod RowLaws
-pub mod StartLaws
-pub mod StepLaws
 pub mod RunLaws

@@ -24,9 +24,11 @@ use Rattle.drainage.proofs.FloodLaws.{step-leaves, leastWaiting-is, leastWaitin
 use Rattle.drainage.proofs.StateLaws.{Stands, floodAfter-stands}
 use Rattle.drainage.proofs.GroundLaws.{grid-stage, grid-heights, gridGround-joined, finite-numbers}
 use Rattle.scan_queue.specs.declared.Scan.{Scan}
-use Rattle.flood.specs.Slices.{stateOf, Started, Accepted, Flooded}
+use Rattle.flood_start.specs.Slices.{stateOf, Started}
+use Rattle.flood.specs.Slices.{Accepted, Flooded}
 use Rattle.scan_queue.specs.Scans.{atLimit, Listed, Queued, Begun, Waits, Turned, Leaves}
-use Rattle.flood.specs.Steps.{Leaver, ReachedAll, Onward}
+use Rattle.reaches.specs.Reaches.{ReachedAll}
+use Rattle.flood.specs.Steps.{Leaver, Onward}
 use Rattle.scan_queue.proofs.ScanLaws.{under-limit, listed-set, leaver-level}
 
 pub record Running (w h : ℕ) (water : Float) (hs : List Float) (i : ℕ) (s : Scan) (status : List ℕ) (spill : List Float) (recv order queue : List ℕ) : Type 0 where

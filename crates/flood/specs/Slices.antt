@@ -1,45 +1,14 @@
--- How slices stand for the flood of document 01 as crates/drainage defines it: statuses, spill heights, finders and the order, each in a list of
--- its own.
-use Prim.Native.Nat.{ℕ, _*_, _^_, _≤_}
+-- The whole flood of document 01, as crates/drainage defines it, on slices.
+use Prim.Native.Nat.{ℕ, _*_}
 use mathlib.Core.Path.{_≡_}
-use mathlib.Core.Bool.{true, _||_, cond}
-use mathlib.Core.List.{List, []}
-use lib.ListN.{length, getD, set}
-use lib.Ieee.{Float, nan, le}
-use Rattle.lists.specs.Loops.{turns}
-use Rattle.grid.specs.Sides.{cellOf, InRange}
-use Rattle.grid.specs.Base.{onBorder}
+use mathlib.Core.Bool.{true}
+use mathlib.Core.List.{List}
+use lib.ListN.{length}
+use lib.Ieee.{Float}
+use Rattle.grid.specs.Sides.{InRange}
 use Rattle.grid.specs.Heights.{allFinite}
 use Rattle.drainage.specs.Ground.{floats, gridGround}
-use Rattle.drainage.specs.Flood.{Flood, start, flooded}
-
-abbrev pub stateOf : List ℕ → List Float → List ℕ → List ℕ → Flood Float
-stateOf status spill recv order = record { status = status; spill = spill; finder = recv; order = order }
-
--- Every list holds n cells, and the queue has room for as many.
-pub record Sizes (n : ℕ) (hs : List Float) (status : List ℕ) (spill : List Float) (recv queue : List ℕ) : Type 0 where
-  pub few : n ≤ 2 ^ 24
-  pub heights : length hs ≡ n
-  pub statuses : length status ≡ n
-  pub spills : length spill ≡ n
-  pub finders : length recv ≡ n
-  pub room : n ≤ length queue
-
--- the status that a cell starts with: base cells wait
-abbrev pub markOf : ℕ → ℕ → ℕ → ℕ → Float → Float → ℕ
-markOf w h x y height water = cond (onBorder w h x y || le height water) 1 0
-
--- the first x cells of row y stored, each made from the list so far
-abbrev pub rowBy : {A : Type 0} → ℕ → (ℕ → ℕ → List A → A) → ℕ → ℕ → List A → List A
-rowBy w make y x = turns x (λ x l. set l (cellOf w x y) (make x y l))
-
--- a row of marks
-abbrev pub rowMarked : ℕ → ℕ → List Float → Float → ℕ → List ℕ → List ℕ
-rowMarked w h hs water y = rowBy w (λ x y l. markOf w h x y (getD hs (cellOf w x y) nan) water) y w
-
--- The slices hold the first state of the flood.
-pub record Started (w h : ℕ) (water : Float) (hs : List Float) (status : List ℕ) (spill : List Float) (recv : List ℕ) : Type 0 where
-  pub state : stateOf status spill recv [] ≡ start floats (gridGround w h water hs) hs
+use Rattle.drainage.specs.Flood.{flooded}
 
 -- A grid that document 01 accepts.
 pub record Accepted (w h : ℕ) (hs : List Float) : Type 0 where

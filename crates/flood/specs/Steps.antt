@@ -4,26 +4,10 @@ use mathlib.Core.Path.{_≡_}
 use mathlib.Core.List.{List}
 use lib.ListN.{length, getD, set}
 use lib.Ieee.{Float, nan}
-use Rattle.drainage.specs.Ground.{Ground, floats, gridGround}
-use Rattle.drainage.specs.Flood.{push, pushAll}
 use Rattle.scan_queue.specs.declared.Scan.{Scan}
 use Rattle.scan_queue.specs.Scans.{Queued, Level}
-use Rattle.flood.specs.Slices.{stateOf}
-
--- Cell c, which has left, has reached cell m, on any ground and whatever the order so far.
-pub record Reached (hs : List Float) (limit c m : ℕ) (status : List ℕ) (spill : List Float) (recv : List ℕ) (len : ℕ) (status′ : List ℕ)
-    (spill′ : List Float) (recv′ queue′ : List ℕ) : Type 0 where
-  pub left : getD status′ c 0 ≡ 2
-  pub level : getD spill′ c nan ≡ getD spill c nan
-  pub state : (g : Ground) (order : List ℕ) → stateOf status′ spill′ recv′ order ≡ push floats g hs c m (stateOf status spill recv order)
-  pub queued : Queued hs limit status′ spill′ len queue′
-
--- Cell c has reached all its neighbours.
-pub record ReachedAll (w h : ℕ) (hs : List Float) (limit c : ℕ) (status : List ℕ) (spill : List Float) (recv : List ℕ) (len : ℕ) (status′ : List ℕ)
-    (spill′ : List Float) (recv′ queue′ : List ℕ) : Type 0 where
-  pub state :
-      (water : Float) (order : List ℕ) → stateOf status′ spill′ recv′ order ≡ pushAll floats (gridGround w h water hs) hs c (stateOf status spill recv order)
-  pub queued : Queued hs limit status′ spill′ len queue′
+use Rattle.flood_start.specs.Slices.{stateOf}
+use Rattle.reaches.specs.Reaches.{ReachedAll}
 
 -- Cell c has just left, and there is room for it in the order.
 pub record Leaver (hs : List Float) (limit c i : ℕ) (status : List ℕ) (spill : List Float) (order : List ℕ) : Type 0 where

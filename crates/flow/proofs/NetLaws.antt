@@ -25,7 +25,8 @@ use Rattle.drainage.proofs.StateLaws.{Stands, floodAfter-stands, flooded-left, 
 use Rattle.drainage.proofs.GroundLaws.{gridGround-joined, finite-numbers, grid-heights, grid-networks}
 use Rattle.drainage.proofs.WorkListLaws.{in-lt}
 use Rattle.heap.proofs.RoomLaws.{times-at}
-use Rattle.flood.specs.Slices.{Accepted, Sizes, Flooded}
+use Rattle.flood_start.specs.Slices.{Sizes}
+use Rattle.flood.specs.Slices.{Accepted, Flooded}
 use Rattle.network.specs.Passes.{Finders}
 use Rattle.ways.specs.Apart.{Along}
 use Rattle.flow.specs.Route.{floodOf, orderOf, receiversOf, lentOf, Enough, Holding}

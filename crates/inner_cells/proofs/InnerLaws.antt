@@ -1,7 +1,7 @@
 -- Inner cells: their neighbours are all in the grid, at the same eight offsets.
 use Prim.Native.Nat.{ℕ, zero, suc, _+_, _-_, _*_, _^_, _≤_, _<_}
 use mathlib.Core.Path.{_≡_, refl, sym, ap, ap₂, _∙_}
-use mathlib.Core.Bool.{Bool, true, false, cond, _||_}
+use mathlib.Core.Bool.{Bool, true, false, cond, _||_, not, true≢false}
 use mathlib.Core.List.{List}
 use native.Mathlib.Nat.{mul-le-mul}
 use native.Mathlib.Omega.{arith}
@@ -11,8 +11,10 @@ use lib.ListN.{length, getD, set}
 use borrow.Author.Tests.{lt-ltb, ltb-true, ltb-false, eqb-false}
 use Rattle.lists.proofs.TableLaws.{getD-tabulate, filled, filled-more, filled-done}
 use Rattle.grid.specs.Sides.{cellOf, columnOf, rowOf}
+use Rattle.grid.specs.Base.{borderAt}
 use Rattle.grid.specs.Directions.{shiftedOf, neighbourOf, neighbourAt}
-use Rattle.grid.proofs.SidesLaws.{cell-lt, cell-back, column-cell, row-cell, cells-bound}
+use Rattle.grid.proofs.SidesLaws.{cell-lt, cell-back, column-cell, row-cell, column-lt, row-lt, cells-bound}
+use Rattle.grid.proofs.BaseLaws.{border-ends}
 use Rattle.grid.proofs.NeighbourLaws.{stepX, stepY, within, shift-ahead, each-direction}
 use Rattle.inner_cells.specs.Inner.{Inner, innerOf, offsetOf, offsetsOf}
 
@@ -107,6 +109,32 @@ module _ (w h c d : ℕ) (lo : 1 ≤ d) (hi : d ≤ 8) (a : Inner w h c) where
 
     pub inner-beside : c + getD os d 0 - (w + 1) ≡ neighbourAt w h c d
     inner-beside = omega (arith, inner-sum)
+
+-- a cell that is not on the border is an inner one
+module _ (w h c : ℕ) (a : Bool) (e : a ≡ (eqb (columnOf w c) 0 || eqb (columnOf w c) (w - 1))) where
+  pub inner-columns : a ≡ true → false ≡ not (borderAt w h c)
+  inner-columns t = ap (λ (z : Bool). not (z || (eqb (rowOf w c) 0 || eqb (rowOf w c) (h - 1)))) (sym t ∙ e) ∙ ap not (sym (border-ends w h (columnOf w c) (rowOf w c)))
+
+  pub inner-rows : (b : Bool) → b ≡ (eqb (rowOf w c) 0 || eqb (rowOf w c) (h - 1)) → a ≡ false → not b ≡ not (borderAt w h c)
+  inner-rows b f t = ap not (f ∙ ap (λ (z : Bool). z || (eqb (rowOf w c) 0 || eqb (rowOf w c) (h - 1))) (sym t ∙ e)) ∙ ap not (sym (border-ends w h (columnOf w c) (rowOf w c)))
+
+pub is-inner : (w h c : ℕ) → c < w * h → w ≤ 4096 → h ≤ 4096 → not (borderAt w h c) ≡ true → Inner w h c
+is-inner w h c l wide high e = go (eqb (columnOf w c) 0) refl (eqb (rowOf w c) 0) refl (eqb (columnOf w c) (w - 1)) refl (eqb (rowOf w c) (h - 1)) refl e
+  where
+    go : (a : Bool) → eqb (columnOf w c) 0 ≡ a → (b : Bool) → eqb (rowOf w c) 0 ≡ b → (d : Bool) → eqb (columnOf w c) (w - 1) ≡ d
+        → (f : Bool) → eqb (rowOf w c) (h - 1) ≡ f → not (a || b || d || f) ≡ true → Inner w h c
+    go true a b b′ d d′ f f′ t = absurd (true≢false (sym t))
+    go false a true b d d′ f f′ t = absurd (true≢false (sym t))
+    go false a false b true d f f′ t = absurd (true≢false (sym t))
+    go false a false b false d true f t = absurd (true≢false (sym t))
+    go false a false b false d false f t =
+        let west : columnOf w c ≡ 0 → ⊥ = eqb-false (columnOf w c) 0 a in
+        let north : rowOf w c ≡ 0 → ⊥ = eqb-false (rowOf w c) 0 b in
+        let east : columnOf w c ≡ w - 1 → ⊥ = eqb-false (columnOf w c) (w - 1) d in
+        let south : rowOf w c ≡ h - 1 → ⊥ = eqb-false (rowOf w c) (h - 1) f in
+        let column = column-lt w h c l in
+        let row = row-lt w h c l in
+        record { west = omega arith; east = omega arith; north = omega arith; south = omega arith; wide = wide; high = high }
 
 -- the inner cells of a row
 pub inner-at : (w h x y : ℕ) → 1 ≤ x → x + 1 < w → 1 ≤ y → y + 1 < h → w ≤ 4096 → h ≤ 4096 → Inner w h (x + y * w)

@@ -6,7 +6,9 @@ use grid::Sides;
 use grid::at_end;
 use grid::shifted;
 ghost use mathlib.Core.Path.{_≡_};
+ghost use mathlib.Core.Bool.{not};
 ghost use Prim.Native.Nat.{_≤_, _<_};
+ghost use Rattle.grid.specs.Base.{borderAt};
 ghost use Rattle.grid.specs.Directions.{neighbourAt};
 ghost use Rattle.inner_cells.specs.Inner.{Inner, innerOf, offsetsOf};
 
@@ -47,4 +49,16 @@ pub fn inner_cells(size: Sides, y: usize) -> usize
         return 0;
     }
     w - 2
+}
+
+// Whether cell c lies on no side of its map.
+pub fn is_inner(size: Sides, c: usize) -> bool
+    requires { ⌜ 0 < size .w ⌝ }
+    ensures { λ r. ⌜ r ≡ not (borderAt (size .w) (size .h) c) ⌝ }
+{
+    let w = size.w;
+    if at_end(c % w, w) {
+        return false;
+    }
+    !at_end(c / w, size.h)
 }

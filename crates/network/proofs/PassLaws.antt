@@ -12,8 +12,8 @@ use Rattle.grid.specs.Directions.{Adjacent}
 use Rattle.grid.proofs.SidesLaws.{cell-lt}
 use Rattle.drainage.specs.Ground.{floats, gridGround}
 use Rattle.drainage.specs.Receivers.{receiverOf, receivers}
-use Rattle.flood.specs.Slices.{rowBy}
-use Rattle.flood.proofs.RowLaws.{rows-none, rows-more, rows-done, row-more}
+use Rattle.flood_start.specs.Slices.{rowBy}
+use Rattle.flood_start.proofs.RowLaws.{rows-none, rows-more, rows-done, row-more}
 use Rattle.network.specs.Passes.{Finders, Received, RowReceived}
 
 module _ (w h : ℕ) (spill : List Float) where

@@ -8,7 +8,7 @@ use Rattle.grid.specs.Sides.{cellOf}
 use Rattle.grid.specs.Directions.{Adjacent}
 use Rattle.drainage.specs.Ground.{floats, gridGround}
 use Rattle.drainage.specs.Receivers.{Steepest, compared, receiverOf}
-use Rattle.flood.specs.Slices.{rowBy}
+use Rattle.flood_start.specs.Slices.{rowBy}
 use Rattle.network.specs.declared.Best.{Best}
 
 abbrev pub steepestAs : Best → Steepest

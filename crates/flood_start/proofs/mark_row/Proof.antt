@@ -1,6 +1,6 @@
-use Rattle.flood.specs.Slices.{rowBy}
-use Rattle.flood.proofs.StartLaws.{markAt}
-use Rattle.flood.proofs.RowLaws.{row-more}
+use Rattle.flood_start.specs.Slices.{rowBy}
+use Rattle.flood_start.proofs.StartLaws.{markAt}
+use Rattle.flood_start.proofs.RowLaws.{row-more}
 use Rattle.grid.specs.Sides.{cellOf}
 use Prim.Native.Nat.{_-_, _*_, _≤_, _<_}
 use native.Mathlib.Nat.{mul-le-mul-right, mul-comm}
@@ -9,8 +9,8 @@ use mathlib.Core.Path.{_≡_, refl, sym, ap, _∙_}
 use lib.ListN.{length, length-set}
 use Rattle.grid.proofs.SidesLaws.{cell-lt}
 use Rattle.lists.proofs.TurnLaws.{turns-none}
-use Rattle.flood.proofs.mark_row.Statement.{statement}
-use Rattle.flood.proofs.mark_row.Tie as tie
+use Rattle.flood_start.proofs.mark_row.Statement.{statement}
+use Rattle.flood_start.proofs.mark_row.Tie as tie
 
 abbrev Inv-loop : tie.InvT-loop
 Inv-loop g y h water status₀ w row x₀ status x = (x ≤ w) × (length status ≡ length status₀) × (status ≡ rowBy (g .w) (markAt (g .w) (g .h) h water) y x status₀)

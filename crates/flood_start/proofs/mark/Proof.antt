@@ -1,8 +1,8 @@
 use mathlib.Core.Path.{sym, ap, _∙_}
 use mathlib.Core.Bool.{cond}
 use borrow.Author.Needs.{needs}
-use Rattle.flood.proofs.mark.Statement.{statement}
-use Rattle.flood.proofs.mark.Tie as tie
+use Rattle.flood_start.proofs.mark.Statement.{statement}
+use Rattle.flood_start.proofs.mark.Tie as tie
 
 is-base-requires : tie.Need-is-base-requires
 is-base-requires c κs = search needs

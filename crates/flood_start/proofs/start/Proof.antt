@@ -1,9 +1,9 @@
 use mathlib.Core.Path.{ap, _∙_}
 use Rattle.lists.specs.Loops.{tabulate}
-use Rattle.flood.proofs.StartLaws.{started}
+use Rattle.flood_start.proofs.StartLaws.{started}
 use borrow.Author.Needs.{needs}
-use Rattle.flood.proofs.start.Statement.{statement}
-use Rattle.flood.proofs.start.Tie as tie
+use Rattle.flood_start.proofs.start.Statement.{statement}
+use Rattle.flood_start.proofs.start.Tie as tie
 
 mark-base-requires : tie.Need-mark-base-requires
 mark-base-requires c κs = search needs

@@ -1,10 +1,10 @@
 use native.Mathlib.Omega.{arith}
 use mathlib.Core.Path.{refl}
 use lib.ListN.{length-set}
-use Rattle.flood.proofs.StepLaws.{has-room, respilled, reached-none, reached-old, reached-listed, reached-heaped}
+use Rattle.reaches.proofs.ReachLaws.{has-room, respilled, reached-none, reached-old, reached-listed, reached-heaped}
 use borrow.Author.Needs.{needs}
-use Rattle.flood.proofs.reach.Statement.{statement}
-use Rattle.flood.proofs.reach.Tie as tie
+use Rattle.reaches.proofs.reach.Statement.{statement}
+use Rattle.reaches.proofs.reach.Tie as tie
 
 returns : tie.Need-returns
 returns c = let a = c .before .before .before .before .before .before .args in let p = c .before .before .before .before .before .before .pre in reached-none (a .h .now) (a .limit) (a .c) (a .m) (a .status .now) (a .spill .now) (a .recv .now) (a .len) (a .queue .now) (p .1 .0) (p .1 .1 .1 .0) (c .if1 .taken)

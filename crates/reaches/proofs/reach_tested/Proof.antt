@@ -1,14 +1,14 @@
-use Rattle.flood.proofs.StepLaws.{sizes-kept, sizes-whole}
+use Rattle.reaches.proofs.ReachLaws.{sizes-kept, sizes-whole}
 use native.Mathlib.Omega.{arith}
 use Prim.Native.Nat.{_*_, _-_, _≤_}
 use mathlib.Core.Path.{_≡_, refl, sym, _∙_, subst}
 use lib.ListN.{length}
 use Rattle.grid.proofs.SidesLaws.{some-column, place-of}
-use Rattle.flood.specs.Slices.{Sizes}
+use Rattle.flood_start.specs.Slices.{Sizes}
 use Rattle.scan_queue.specs.Scans.{Level}
-use Rattle.flood.proofs.StepLaws.{ReachedTo, reached-start, reached-more, reached-done}
-use Rattle.flood.proofs.reach_all.Statement.{statement}
-use Rattle.flood.proofs.reach_all.Tie as tie
+use Rattle.reaches.proofs.ReachLaws.{ReachedTo, reached-start, reached-more, reached-done}
+use Rattle.reaches.proofs.reach_tested.Statement.{statement}
+use Rattle.reaches.proofs.reach_tested.Tie as tie
 
 abbrev Inv-loop : tie.InvT-loop
 Inv-loop g h limit c len status₀ spill₀ recv₀ queue₀ x y waiting₀ d₀ status spill recv queue waiting d =
@@ -65,8 +65,8 @@ same-length-4 c = c .before .loop .inv .1
 returns : tie.Need-returns Inv-loop μ-loop
 returns c = reached-done _ _ _ _ _ _ _ _ _ _ _ _ _ _ (c .before .loop .inv .0) (c .loop-test .left) (c .before .loop .inv .3)
 
-pub reach-all-spec : {M : Type 1} → statement M
-reach-all-spec =
+pub reach-tested-spec : {M : Type 1} → statement M
+reach-tested-spec =
     tie.close
     (tie.spec
     Inv-loop

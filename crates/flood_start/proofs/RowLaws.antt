@@ -10,7 +10,7 @@ use Rattle.lists.proofs.TurnLaws.{turns-more}
 use Rattle.lists.proofs.TableLaws.{filled, filled-none, filled-more, filled-done}
 use Rattle.grid.specs.Sides.{cellOf}
 use Rattle.grid.proofs.SidesLaws.{cell-lt}
-use Rattle.flood.specs.Slices.{rowBy}
+use Rattle.flood_start.specs.Slices.{rowBy}
 
 -- one store more, and all
 module _ {A : Type 0} (f : ℕ → A) (old l : List A) (i : ℕ) (e : l ≡ filled f i old) where

@@ -1,4 +1,4 @@
-use Rattle.flood.proofs.RowLaws.{stored-more, stored-done}
+use Rattle.flood_start.proofs.RowLaws.{stored-more, stored-done}
 use Prim.Native.Nat.{ℕ}
 use lib.Ieee.{Float}
 use Rattle.lists.specs.Loops.{tabulate}
@@ -8,8 +8,8 @@ use mathlib.Core.Path.{_≡_, refl, ap, _∙_}
 use lib.ListN.{length, getD, length-set}
 use lib.Ieee.{nan}
 use Rattle.lists.proofs.TableLaws.{filled, filled-none, tabulate-getD}
-use Rattle.flood.proofs.copy_heights.Statement.{statement}
-use Rattle.flood.proofs.copy_heights.Tie as tie
+use Rattle.flood_start.proofs.copy_heights.Statement.{statement}
+use Rattle.flood_start.proofs.copy_heights.Tie as tie
 
 abbrev Inv-loop : tie.InvT-loop
 Inv-loop h spill₀ n c₀ spill c = (c ≤ length h) × (length spill ≡ length spill₀) × (spill ≡ filled (λ i. getD h i nan) c spill₀)

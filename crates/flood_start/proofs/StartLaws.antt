@@ -12,7 +12,7 @@ use Rattle.grid.specs.Sides.{cellOf}
 use Rattle.grid.specs.Base.{baseOf}
 use Rattle.grid.proofs.BaseLaws.{base-cell}
 use Rattle.drainage.specs.Flood.{Flood, start}
-use Rattle.flood.specs.Slices.{stateOf, markOf, Started}
+use Rattle.flood_start.specs.Slices.{stateOf, markOf, Started}
 
 module _ (w h : ℕ) (hs : List Float) (water : Float) where
   -- the marks of all cells, and that of column x, row y

@@ -23,9 +23,9 @@ use Rattle.drainage.proofs.TallyLaws.{same-or-not, one-same, one-other, one-bou
 use Rattle.drainage.proofs.KeptLaws.{getD-inside, pushedTo}
 use Rattle.heap.specs.Queue.{placeOf, within, Heap, Pushed}
 use Rattle.heap.proofs.RoomLaws.{heap-same, heap-room}
-use Rattle.flood.specs.Slices.{stateOf, Sizes}
+use Rattle.flood_start.specs.Slices.{stateOf, Sizes}
 use Rattle.scan_queue.specs.Scans.{Queued, Level}
-use Rattle.flood.specs.Steps.{Reached, ReachedAll}
+use Rattle.reaches.specs.Reaches.{Reached, ReachedAll}
 
 -- lists of the same lengths
 pub sizes-kept :

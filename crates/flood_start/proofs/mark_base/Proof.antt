@@ -1,12 +1,12 @@
-use Rattle.flood.proofs.StartLaws.{marks, markAt, mark-is}
-use Rattle.flood.proofs.RowLaws.{rows-none, rows-more, rows-done}
+use Rattle.flood_start.proofs.StartLaws.{marks, markAt, mark-is}
+use Rattle.flood_start.proofs.RowLaws.{rows-none, rows-more, rows-done}
 use Prim.Native.Nat.{_-_, _*_, _≤_}
 use native.Mathlib.Omega.{arith}
 use mathlib.Core.Path.{_≡_, refl, _∙_}
 use lib.ListN.{length}
 use Rattle.lists.proofs.TableLaws.{filled}
-use Rattle.flood.proofs.mark_base.Statement.{statement}
-use Rattle.flood.proofs.mark_base.Tie as tie
+use Rattle.flood_start.proofs.mark_base.Statement.{statement}
+use Rattle.flood_start.proofs.mark_base.Tie as tie
 
 abbrev Inv-loop : tie.InvT-loop
 Inv-loop g h water status₀ rows y₀ status y = (y ≤ g .h) × (length status ≡ length status₀) × (status ≡ filled (marks (g .w) (g .h) h water) (y * g .w) status₀)

@@ -1,0 +1,3 @@
+-- Laws of the first state of the flood.
+pub mod RowLaws
+pub mod StartLaws

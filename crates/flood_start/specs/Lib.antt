@@ -1,0 +1,2 @@
+-- The flood on slices.
+pub mod Slices

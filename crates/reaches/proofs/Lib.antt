@@ -1,0 +1,2 @@
+-- Laws of reaching.
+pub mod ReachLaws

@@ -1,0 +1,2 @@
+-- What a cell that leaves does to its neighbours.
+pub mod Reaches
