@@ -1,2 +1,4 @@
 -- Laws of reaching.
 pub mod ReachLaws
+pub mod FoundLaws
+pub mod ByLaws

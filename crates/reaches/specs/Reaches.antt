@@ -1,8 +1,10 @@
 -- What a cell that leaves does to its neighbours, on the slices.
-use Prim.Native.Nat.{ℕ}
+use Prim.Native.Nat.{ℕ, zero, suc, _≤_}
 use mathlib.Core.Path.{_≡_}
-use mathlib.Core.List.{List}
-use lib.ListN.{getD}
+use mathlib.Core.Bool.{cond}
+use mathlib.Core.List.{List, [], _∷_, _++_}
+use lib.Dec.{eqb}
+use lib.ListN.{length, getD, take}
 use lib.Ieee.{Float, nan}
 use Rattle.drainage.specs.Ground.{Ground, floats, gridGround}
 use Rattle.drainage.specs.Flood.{push, pushAll}
@@ -23,3 +25,14 @@ pub record ReachedAll (w h : ℕ) (hs : List Float) (limit c : ℕ) (status : Li
   pub state :
       (water : Float) (order : List ℕ) → stateOf status′ spill′ recv′ order ≡ pushAll floats (gridGround w h water hs) hs c (stateOf status spill recv order)
   pub queued : Queued hs limit status′ spill′ len queue′
+
+-- the cells among near 1, … near d that have not been pushed
+unfoldable pub unpushedTo : (ℕ → ℕ) → List ℕ → ℕ → List ℕ
+unpushedTo near status zero = []
+unpushedTo near status (suc d) = unpushedTo near status d ++ cond (eqb (getD status (near (suc d)) 1) 0) (near (suc d) ∷ []) []
+
+-- They stand in front of `found`, which has eight entries, and there are `some` of them.
+pub record Found (near : ℕ → ℕ) (status : List ℕ) (d some : ℕ) (found : List ℕ) : Type 0 where
+  pub few : some ≤ d
+  pub long : length found ≡ 8
+  pub cells : take some found ≡ unpushedTo near status d

@@ -8,13 +8,16 @@ use inner_cells::beside;
 use inner_cells::is_inner;
 ghost use Prim.Native.Nat.{_*_, _<_};
 ghost use mathlib.Core.Path.{_≡_};
+ghost use mathlib.Core.Bool.{cond};
+ghost use lib.Dec.{eqb};
 ghost use lib.ListN.{length, getD};
 ghost use lib.Ieee.{nan};
 ghost use Rattle.grid.specs.Sides.{InRange};
+ghost use Rattle.grid.specs.Directions.{neighbourAt};
 ghost use Rattle.inner_cells.specs.Inner.{Inner, offsetsOf};
 ghost use Rattle.scan_queue.specs.Scans.{Queued, Level};
 ghost use Rattle.flood_start.specs.Slices.{Sizes};
-ghost use Rattle.reaches.specs.Reaches.{Reached, ReachedAll};
+ghost use Rattle.reaches.specs.Reaches.{Reached, ReachedAll, Found};
 
 // Cell c reaches cell m: a cell not pushed yet gets its spill height and its finder and waits from now on, in the heap if the scan has passed it,
 // else where it stands in the list. Outside the grid m is no cell.
@@ -84,7 +87,40 @@ fn reach_tested(
     waiting
 }
 
-// The same of an inner cell, all of whose neighbours are cells.
+// 1 if a cell with this status has not been pushed, else 0.
+fn unpushed(status: u8) -> usize
+    ensures { λ r. ⌜ r ≡ cond (eqb status 0) 1 0 ⌝ }
+{
+    if status == 0 { 1 } else { 0 }
+}
+
+// Finds the neighbours of an inner cell that have not been pushed, in scan order; the answer is how many. Which they are cannot be foreseen, so all
+// eight are stored and the next one stored takes the place of a pushed one.
+fn find_unpushed(
+    g: Sides,
+    os: &[usize; 9],
+    c: usize,
+    status: &[u8],
+    found: &mut [usize; 8],
+) -> usize
+    requires { ⌜ Inner (g .w) (g .h) c ⌝ }
+    requires { ⌜ now os ≡ offsetsOf (g .w) ⌝ }
+    requires { ⌜ length (now status) ≡ g .w * g .h ⌝ }
+    requires { ⌜ length (now found) ≡ 8 ⌝ }
+    ensures { λ r. ⌜ Found (neighbourAt (g .w) (g .h) c) (now (status .entry)) 8 r (now (found .exit)) ⌝ }
+{
+    let mut some: usize = 0;
+    let mut d: usize = 0;
+    while d < 8 {
+        let m = beside(g, os, c, d + 1);
+        found[some] = m;
+        some += unpushed(status[m]);
+        d += 1;
+    }
+    some
+}
+
+// The same of an inner cell, all of whose neighbours are cells: it reaches those that have not been pushed.
 fn reach_inner(
     g: Sides,
     os: &[usize; 9],
@@ -106,12 +142,13 @@ fn reach_inner(
     requires { ⌜ Level (now h) limit (getD (now spill) c nan) ⌝ }
     ensures { λ r. ⌜ ReachedAll (g .w) (g .h) (now (h .entry)) limit c (now (status .entry)) (now (spill .entry)) (now (recv .entry)) r (now (status .exit)) (now (spill .exit)) (now (recv .exit)) (now (queue .exit)) ⌝ }
 {
+    let mut found: [usize; 8] = [0; 8];
+    let some = find_unpushed(g, os, c, status, &mut found);
     let mut waiting = len;
-    let mut d: usize = 0;
-    while d < 8 {
-        let m = beside(g, os, c, d + 1);
-        waiting = reach(h, limit, c, m, waiting, status, spill, recv, queue);
-        d += 1;
+    let mut i: usize = 0;
+    while i < some {
+        waiting = reach(h, limit, c, found[i], waiting, status, spill, recv, queue);
+        i += 1;
     }
     waiting
 }

@@ -1,18 +1,20 @@
 use Rattle.reaches.proofs.ReachLaws.{sizes-kept, sizes-whole}
 use native.Mathlib.Omega.{arith}
-use Prim.Native.Nat.{_*_, _-_, _≤_}
+use Prim.Native.Nat.{suc, _*_, _-_, _≤_}
 use mathlib.Core.Path.{_≡_, refl, sym, _∙_, subst}
 use lib.ListN.{length}
 use Rattle.grid.proofs.SidesLaws.{some-column, place-of}
 use Rattle.flood_start.specs.Slices.{Sizes}
 use Rattle.scan_queue.specs.Scans.{Level}
-use Rattle.reaches.proofs.ReachLaws.{ReachedTo, reached-start, reached-more, reached-done}
+use Rattle.lists.specs.Loops.{tabulate}
+use Rattle.grid.specs.Directions.{neighbourAt}
+use Rattle.reaches.proofs.ByLaws.{ReachedBy, reached-start, reached-near, reached-done}
 use Rattle.reaches.proofs.reach_tested.Statement.{statement}
 use Rattle.reaches.proofs.reach_tested.Tie as tie
 
 abbrev Inv-loop : tie.InvT-loop
 Inv-loop g h limit c len status₀ spill₀ recv₀ queue₀ x y waiting₀ d₀ status spill recv queue waiting d =
-    (d ≤ 8) × (length queue ≡ length queue₀) × Sizes (g .w * g .h) h status spill recv queue × ReachedTo (g .w) (g .h) h limit c d status₀ spill₀ recv₀ waiting status spill recv queue
+    (d ≤ 8) × (length queue ≡ length queue₀) × Sizes (g .w * g .h) h status spill recv queue × ReachedBy h limit c (tabulate d (λ i. neighbourAt (g .w) (g .h) c (suc i))) status₀ spill₀ recv₀ waiting status spill recv queue
 
 abbrev μ-loop : tie.MeasureT-loop
 μ-loop g h limit c len status₀ spill₀ recv₀ queue₀ x y waiting₀ d₀ status spill recv queue waiting d = 8 - d
@@ -24,7 +26,8 @@ div-y : tie.Need-div-y Inv-loop μ-loop
 div-y c = omega (arith, some-column _ _ _ (c .before .before .before .before .before .before .before .pre .1 .1 .1 .0))
 
 loop-holds : tie.Need-loop-holds Inv-loop μ-loop
-loop-holds c = (omega arith, refl, c .before .before .before .before .before .before .before .pre .1 .0, reached-start _ _ _ _ _ _ _ _ _ _ (c .before .before .before .before .before .before .before .pre .1 .1 .0) (c .before .before .before .before .before .before .before .pre .1 .1 .1 .1 .0))
+unfolding tabulate
+loop-holds c = (omega arith, refl, c .before .before .before .before .before .before .before .pre .1 .0, reached-start _ _ _ _ _ _ _ _ (c .before .before .before .before .before .before .before .pre .1 .1 .0) (c .before .before .before .before .before .before .before .pre .1 .1 .1 .1 .0))
 
 add-neighbour : tie.Need-add-neighbour Inv-loop μ-loop
 add-neighbour c = omega arith
@@ -47,7 +50,7 @@ loop-again c =
       omega arith,
       k .1 .1 .1 .1 .1 .1 .1 .1 .0 ∙ c .before .before .before .before .before .before .before .before .before .before .before .before .before .before .before .loop .inv .1,
       sizes-kept (c .before .before .before .before .before .before .before .before .before .before .before .before .before .before .before .loop .inv .2) (k .1 .1 .1 .1 .1 .0) (k .1 .1 .1 .1 .1 .1 .0) (k .1 .1 .1 .1 .1 .1 .1 .0) (k .1 .1 .1 .1 .1 .1 .1 .1 .0),
-      reached-more _ _ _ _ _ _ _ _ _ _ _ _ _ _ _ _ _ _ _ _ (c .before .before .before .before .before .before .before .before .before .before .before .before .before .before .before .loop .inv .3) (c .before .before .before .before .before .before .before .before .before .before .before .before .before .neighbour .ensures) (c .before .before .before .before .before .before .before .before .reach .ensures),
+      reached-near _ _ _ _ _ _ _ _ _ _ _ _ (c .before .before .before .before .before .before .before .before .before .before .before .before .before .before .before .loop .inv .3) _ _ _ _ _ _ _ _ _ refl (c .before .before .before .before .before .before .before .before .before .before .before .before .before .neighbour .ensures) (c .before .before .before .before .before .before .before .before .reach .ensures),
     )
 
 same-length : tie.Need-same-length Inv-loop μ-loop
@@ -63,7 +66,7 @@ same-length-4 : tie.Need-same-length-4 Inv-loop μ-loop
 same-length-4 c = c .before .loop .inv .1
 
 returns : tie.Need-returns Inv-loop μ-loop
-returns c = reached-done _ _ _ _ _ _ _ _ _ _ _ _ _ _ (c .before .loop .inv .0) (c .loop-test .left) (c .before .loop .inv .3)
+returns c = reached-done _ _ _ _ _ _ _ _ _ _ _ _ (c .before .loop .inv .3) _ _ _ (c .before .loop .inv .0) (c .loop-test .left) refl
 
 pub reach-tested-spec : {M : Type 1} → statement M
 reach-tested-spec =
