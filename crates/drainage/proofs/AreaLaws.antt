@@ -1,8 +1,8 @@
 -- Along any work list the areas, added as floats, are the numbers of cells whose way down passes through, and the areas of the cells that are
 -- their own receiver total the cells: the theorem `Areas` of specs/Theorems.antt.
-use Prim.Native.Nat.{ℕ, zero, suc, _+_, _^_, _≤_, _<_}
+use Prim.Native.Nat.{ℕ, _+_, _^_, _≤_, _<_}
 use mathlib.Core.Path.{_≡_, refl, sym, ap, ap₂, _∙_, subst}
-use mathlib.Core.Bool.{Bool, true, false, _&&_, _||_, cond}
+use mathlib.Core.Bool.{Bool, true, false, _&&_, _||_, cond, and-true, and-false, or-false, or-self}
 use mathlib.Core.List.{List, [], _∷_, _++_}
 use native.Mathlib.Omega.{arith}
 use lib.Dec.{eqb}
@@ -18,6 +18,9 @@ use Rattle.drainage.proofs.CountLaws.{count-same, count-le, count-or, c
 use Rattle.drainage.proofs.TrailLaws.{home, trail, Downstream, downstream-tail, trail-home, home-own, trail-stays}
 use Rattle.drainage.proofs.WorkListLaws.{entry-lt, receiver-lt, downstream}
 use Rattle.drainage.proofs.WayLaws.{home-down, down-lt, trail-passes}
+
+or-none : (a b : Bool) → a || (b && false) ≡ a
+or-none a b = ap (λ (c : Bool). a || c) (and-false b) ∙ or-false a
 
 module _ (n : ℕ) (small : n ≤ 2 ^ 24) (recv : List ℕ) where
   -- how many units have been at x once the suffix s has passed its units on
@@ -43,10 +46,6 @@ module _ (n : ℕ) (small : n ≤ 2 ^ 24) (recv : List ℕ) where
       r : ℕ → ℕ
       r c = getD recv c 0
 
-      and-true : (b : Bool) → b && true ≡ b
-      and-true true = refl
-      and-true false = refl
-
       same : (j : ℕ) → eqb (home r s j) c && eqb (r c) (r c) ≡ trail r s j c
       same j = ap (λ (b : Bool). eqb (home r s j) c && b) (eq-eqb (r c) (r c) refl) ∙ and-true (eqb (home r s j) c) ∙ sym (trail-home r s j c once)
 
@@ -60,15 +59,10 @@ module _ (n : ℕ) (small : n ≤ 2 ^ 24) (recv : List ℕ) where
   -- elsewhere nothing changes
   been-other : (c x : ℕ) (s : List ℕ) → (getD recv c 0 ≡ x → ⊥) → been (c ∷ s) x ≡ been s x
   unfolding trail
-  been-other c x s other = count-same n (λ j. trail r s j x || (eqb (home r s j) c && eqb (r c) x)) (λ j. trail r s j x) (λ j h. ap (λ (b : Bool). trail r s j x || (eqb (home r s j) c && b)) (ne-eqb (r c) x other) ∙ none (trail r s j x) (eqb (home r s j) c))
+  been-other c x s other = count-same n (λ j. trail r s j x || (eqb (home r s j) c && eqb (r c) x)) (λ j. trail r s j x) (λ j h. ap (λ (b : Bool). trail r s j x || (eqb (home r s j) c && b)) (ne-eqb (r c) x other) ∙ or-none (trail r s j x) (eqb (home r s j) c))
     where
       r : ℕ → ℕ
       r c = getD recv c 0
-
-      none : (a b : Bool) → a || (b && false) ≡ a
-      none true b = refl
-      none false true = refl
-      none false false = refl
 
   -- nor does it at a cell that is its own receiver
   been-own : (c x : ℕ) (s : List ℕ) → times c s ≡ 0 → getD recv c 0 ≡ c → been (c ∷ s) x ≡ been s x
@@ -78,21 +72,12 @@ module _ (n : ℕ) (small : n ≤ 2 ^ 24) (recv : List ℕ) where
       r : ℕ → ℕ
       r c = getD recv c 0
 
-      again : (a : Bool) → a || (a && true) ≡ a
-      again true = refl
-      again false = refl
-
-      none : (a b : Bool) → a || (b && false) ≡ a
-      none true b = refl
-      none false true = refl
-      none false false = refl
-
       go : (j : ℕ) (b : Bool) → eqb (r c) x ≡ b → trail r s j x || (eqb (home r s j) c && eqb (r c) x) ≡ trail r s j x
       go j true e =
           let same : c ≡ x = sym own ∙ eqb-true (r c) x e in
           let here : eqb (home r s j) c ≡ trail r s j x = sym (trail-home r s j c once) ∙ ap (trail r s j) same in
-          ap₂ (λ (a b : Bool). trail r s j x || (a && b)) here e ∙ again (trail r s j x)
-      go j false e = ap (λ (b : Bool). trail r s j x || (eqb (home r s j) c && b)) e ∙ none (trail r s j x) (eqb (home r s j) c)
+          ap₂ (λ (a b : Bool). trail r s j x || (a && b)) here e ∙ ap (λ (b : Bool). trail r s j x || b) (and-true (trail r s j x)) ∙ or-self (trail r s j x)
+      go j false e = ap (λ (b : Bool). trail r s j x || (eqb (home r s j) c && b)) e ∙ or-none (trail r s j x) (eqb (home r s j) c)
 
   -- the areas of the definition are these counts
   areas-are : (s : List ℕ) → Downstream (λ c. getD recv c 0) s → ((before : List ℕ) (c : ℕ) (rest : List ℕ) → s ≡ before ++ (c ∷ rest) → (c < n) × (getD recv c 0 < n))

@@ -1,13 +1,14 @@
 -- The scan for the waiting cell with the least place: what it finds, and that it is the only such cell.
 use Prim.Native.Nat.{ℕ, zero, suc, _+_, _*_, _^_, _≤_, _<_}
-use mathlib.Core.Path.{_≡_, refl, sym, _∙_, subst}
+use mathlib.Core.Path.{_≡_, refl}
 use mathlib.Core.Bool.{Bool, true, false, not, _&&_, _||_, cond}
 use mathlib.Core.Logic.{inl, inr}
 use mathlib.Core.List.{List}
 use native.Mathlib.Nat.{eq-or-lt-of-le}
 use native.Mathlib.Omega.{arith}
 use borrow.Author.Tests.{ltb-true, ltb-false}
-use lib.Dec.{T, ltb}
+use lib.Dec.{ltb}
+use Rattle.lists.proofs.TestLaws.{clash}
 use Rattle.lists.specs.Loops.{turns}
 use Rattle.drainage.specs.Ground.{Ground, Kind}
 use Rattle.drainage.specs.Flood.{Flood, place, waits, leastWaiting}
@@ -19,9 +20,6 @@ pub record Least (n : ℕ) (waits : ℕ → Bool) (place : ℕ → ℕ) (i best 
   pub nobody : n ≤ best → (c : ℕ) → c < i → waits c ≡ true → ⊥
   pub one-waits : best < n → waits best ≡ true
   pub least : best < n → (c : ℕ) → c < i → waits c ≡ true → place best ≤ place c
-
-clash : {b : Bool} → b ≡ true → b ≡ false → ⊥
-clash t f = subst T (sym t ∙ f) tt
 
 module _ (n : ℕ) (waits : ℕ → Bool) (place : ℕ → ℕ) where
   abbrev taken : ℕ → ℕ → ℕ

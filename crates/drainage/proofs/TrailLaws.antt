@@ -1,14 +1,15 @@
 -- The unit that each cell puts into a backward pass along a work list, followed through the pass: `home` is where it lies after the cells of a
 -- suffix of the list have passed theirs on, `trail` the cells where it has been. A cell that has not passed yet stands in the trail exactly if
 -- the unit lies there.
-use Prim.Native.Nat.{ℕ, zero, suc, _+_, _≤_, _<_}
+use Prim.Native.Nat.{ℕ, zero, suc, _<_}
 use mathlib.Core.Path.{_≡_, refl, sym, ap, ap₂, _∙_, subst}
-use mathlib.Core.Bool.{Bool, true, false, _&&_, _||_, cond}
-use mathlib.Core.List.{List, [], _∷_, _++_, append-assoc}
+use mathlib.Core.Bool.{Bool, true, false, _&&_, _||_, cond, or-true, or-false}
+use mathlib.Core.List.{List, [], _∷_, _++_}
 use native.Mathlib.Omega.{arith}
 use lib.Dec.{eqb}
 use borrow.Author.Tests.{eq-eqb, ne-eqb, eqb-true, eqb-false}
-use Rattle.drainage.specs.Ways.{one, times}
+use Rattle.lists.proofs.TestLaws.{both, alike}
+use Rattle.drainage.specs.Ways.{times}
 use Rattle.drainage.proofs.CountLaws.{bit}
 
 module _ (r : ℕ → ℕ) where
@@ -56,10 +57,6 @@ module _ (r : ℕ → ℕ) where
           ap (λ (b : Bool). trail r s j (cond b (r c) (home r s j)) || (b && eqb (r c) (cond b (r c) (home r s j)))) e
           ∙ ap (λ (b : Bool). trail r s j (r c) || b) (eq-eqb (r c) (r c) refl)
           ∙ or-true (trail r s j (r c))
-        where
-          or-true : (b : Bool) → b || true ≡ true
-          or-true true = refl
-          or-true false = refl
       go ih false e =
           ap (λ (b : Bool). trail r s j (cond b (r c) (home r s j)) || (b && eqb (r c) (cond b (r c) (home r s j)))) e
           ∙ ap (λ (b : Bool). b || false) ih
@@ -70,10 +67,6 @@ module _ (r : ℕ → ℕ) where
   trail-home [] j x n = refl
   trail-home (c ∷ s) j x n = go (trail-home s j x (not-tail x c s n)) (eqb (home r s j) c) refl
     where
-      or-false : (b : Bool) → b || false ≡ b
-      or-false true = refl
-      or-false false = refl
-
       go : trail r s j x ≡ eqb (home r s j) x → (b : Bool) → eqb (home r s j) c ≡ b
           → trail r s j x || (eqb (home r s j) c && eqb (r c) x) ≡ eqb (cond (eqb (home r s j) c) (r c) (home r s j)) x
       go ih true e =
@@ -86,14 +79,6 @@ module _ (r : ℕ → ℕ) where
 or-split : (a b : Bool) → a || b ≡ true → (P : Type 0) → (a ≡ true → P) → (b ≡ true → P) → P
 or-split true b e P f g = f refl
 or-split false b e P f g = g e
-
-and-l : (a b : Bool) → a && b ≡ true → a ≡ true
-and-l true b e = refl
-and-l false b e = e
-
-and-r : (a b : Bool) → a && b ≡ true → b ≡ true
-and-r true b e = e
-and-r false b e = let z : _≡_ {A = ℕ} 0 1 = ap bit e in let w : ⊥ = omega arith in absurd w
 
 or-l : (a b : Bool) → a ≡ true → a || b ≡ true
 or-l a b e = ap (λ (x : Bool). x || b) e
@@ -147,10 +132,10 @@ module _ (r : ℕ → ℕ) where
           subst (λ (x : ℕ). trail r (c ∷ s) j (r x) ≡ true) same (passed (at ∙ sym same)))
           (λ some. trail-more c s j (r y) (ih some old)))
           (λ new.
-          let moved : r c ≡ y = eqb-true (r c) y (and-r (eqb (home r s j) c) (eqb (r c) y) new) in
+          let moved : r c ≡ y = eqb-true (r c) y (both (eqb (home r s j) c) (eqb (r c) y) new .1) in
           let none : times y s ≡ 0 = subst (λ (x : ℕ). times x s ≡ 0) moved behind in
           let same : c ≡ y = head-is y c s p none in
-          subst (λ (x : ℕ). trail r (c ∷ s) j x ≡ true) (ap r same) (passed (eqb-true (home r s j) c (and-l (eqb (home r s j) c) (eqb (r c) y) new))))
+          subst (λ (x : ℕ). trail r (c ∷ s) j x ≡ true) (ap r same) (passed (eqb-true (home r s j) c (both (eqb (home r s j) c) (eqb (r c) y) new .0))))
 
   -- a unit that lies at a cell which has passed: the cell is its own receiver
   pub home-own : (s : List ℕ) → Downstream r s → (j : ℕ) → 0 < times (home r s j) s → r (home r s j) ≡ home r s j
@@ -173,13 +158,8 @@ module _ (r : ℕ → ℕ) where
   -- at a cell that is its own receiver a unit stays
   pub trail-stays : (s : List ℕ) (j c : ℕ) → r c ≡ c → trail r s j c ≡ eqb (home r s j) c
   unfolding home trail
-  trail-stays s j c own = both (trail r s j c) (eqb (home r s j) c) (stays s) (λ e. subst (λ (x : ℕ). trail r s j x ≡ true) (eqb-true (home r s j) c e) (home-in r s j))
+  trail-stays s j c own = alike (trail r s j c) (eqb (home r s j) c) (stays s) (λ e. subst (λ (x : ℕ). trail r s j x ≡ true) (eqb-true (home r s j) c e) (home-in r s j))
     where
-      both : (a b : Bool) → (a ≡ true → b ≡ true) → (b ≡ true → a ≡ true) → a ≡ b
-      both true b f g = sym (f refl)
-      both false true f g = g refl
-      both false false f g = refl
-
       stays : (s : List ℕ) → trail r s j c ≡ true → eqb (home r s j) c ≡ true
       stays [] e = e
       stays (a ∷ s) e = go (stays s) (eqb (home r s j) a) refl
@@ -189,8 +169,8 @@ module _ (r : ℕ → ℕ) where
               ap (λ (b : Bool). eqb (cond b (r a) (home r s j)) c) t
               ∙ or-split (trail r s j c) (eqb (home r s j) a && eqb (r a) c) e (eqb (r a) c ≡ true)
               (λ old. ap (λ (x : ℕ). eqb (r x) c) (sym (eqb-true (home r s j) a t) ∙ eqb-true (home r s j) c (ih old)) ∙ eq-eqb (r c) c own)
-              (λ new. and-r (eqb (home r s j) a) (eqb (r a) c) new)
+              (λ new. both (eqb (home r s j) a) (eqb (r a) c) new .1)
           go ih false t =
               ap (λ (b : Bool). eqb (cond b (r a) (home r s j)) c) t
               ∙ or-split (trail r s j c) (eqb (home r s j) a && eqb (r a) c) e (eqb (home r s j) c ≡ true) ih
-              (λ new. let z : eqb (home r s j) a ≡ true = and-l (eqb (home r s j) a) (eqb (r a) c) new in let w : _≡_ {A = ℕ} 0 1 = ap bit (sym t ∙ z) in let v : ⊥ = omega arith in absurd v)
+              (λ new. let z : eqb (home r s j) a ≡ true = both (eqb (home r s j) a) (eqb (r a) c) new .0 in let w : _≡_ {A = ℕ} 0 1 = ap bit (sym t ∙ z) in let v : ⊥ = omega arith in absurd v)

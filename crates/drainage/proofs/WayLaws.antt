@@ -2,13 +2,14 @@
 use Prim.Native.Nat.{ℕ, zero, suc, _+_, _≤_, _<_}
 use mathlib.Core.Path.{_≡_, refl, sym, ap, _∙_, subst}
 use mathlib.Core.Logic.{inl, inr}
-use mathlib.Core.Bool.{Bool, true, false, _&&_, _||_, cond}
+use mathlib.Core.Bool.{Bool, true, false, _&&_, _||_, cond, or-true}
 use mathlib.Core.List.{List, [], _∷_, _++_, append-assoc}
 use native.Mathlib.Nat.{eq-or-lt-of-le, le-of-suc-le-suc}
 use native.Mathlib.Omega.{arith}
 use lib.Dec.{eqb}
 use lib.ListN.{length, getD, length-append}
 use borrow.Author.Tests.{eq-eqb, eqb-true}
+use Rattle.lists.proofs.TestLaws.{both, alike}
 use Rattle.drainage.specs.Ways.{WorkList, down, passes}
 use Rattle.drainage.proofs.CountLaws.{bit}
 use Rattle.drainage.proofs.TrailLaws.{home, trail, trail-own, trail-closed}
@@ -32,10 +33,6 @@ module _ (recv : List ℕ) where
     | inl q ↦ ap (λ (b : Bool). b || passes recv m j x) (eq-eqb (down recv m j) x (ap (λ (i : ℕ). down recv i j) (sym q) ∙ e))
     | inr l ↦ ap (λ (b : Bool). eqb (down recv m j) x || b) (passes-at m k j x l e) ∙ or-true (eqb (down recv m j) x)
   ]
-    where
-      or-true : (b : Bool) → b || true ≡ true
-      or-true true = refl
-      or-true false = refl
 
   -- a cell on the way is some number of receivers down
   pub passes-down : (m j x : ℕ) → passes recv m j x ≡ true → (k : ℕ) × (down recv k j ≡ x)
@@ -68,15 +65,11 @@ module _ (recv : List ℕ) where
       r : ℕ → ℕ
       r c = getD recv c 0
 
-      and-both : (a b : Bool) → a && b ≡ true → (a ≡ true) × (b ≡ true)
-      and-both true b e = (refl, e)
-      and-both false b e = let z : _≡_ {A = ℕ} 0 1 = ap bit e in let v : ⊥ = omega arith in absurd v
-
       go : (trail (λ c. getD recv c 0) s j x ≡ true → (k : ℕ) × (down recv k j ≡ x)) → (k : ℕ) × (home (λ c. getD recv c 0) s j ≡ down recv k j) → (b : Bool) → trail (λ c. getD recv c 0) s j x ≡ b
           → trail (λ c. getD recv c 0) s j x || (eqb (home (λ c. getD recv c 0) s j) c && eqb (getD recv c 0) x) ≡ true → (k : ℕ) × (down recv k j ≡ x)
       go ih p true e t = ih e
       go ih p false e t =
-          let q : (eqb (home (λ c. getD recv c 0) s j) c ≡ true) × (eqb (getD recv c 0) x ≡ true) = and-both (eqb (home (λ c. getD recv c 0) s j) c) (eqb (getD recv c 0) x) (sym (ap (λ (b : Bool). b || (eqb (home (λ c. getD recv c 0) s j) c && eqb (getD recv c 0) x)) e) ∙ t) in
+          let q : (eqb (home (λ c. getD recv c 0) s j) c ≡ true) × (eqb (getD recv c 0) x ≡ true) = both (eqb (home (λ c. getD recv c 0) s j) c) (eqb (getD recv c 0) x) (sym (ap (λ (b : Bool). b || (eqb (home (λ c. getD recv c 0) s j) c && eqb (getD recv c 0) x)) e) ∙ t) in
           (suc (p .0), ap (λ (y : ℕ). getD recv y 0) (sym (p .1) ∙ eqb-true (home (λ c. getD recv c 0) s j) c (q .0)) ∙ eqb-true (getD recv c 0) x (q .1))
 
 module _ {n : ℕ} {recv list : List ℕ} (w : WorkList n recv list) where
@@ -105,13 +98,8 @@ module _ {n : ℕ} {recv list : List ℕ} (w : WorkList n recv list) where
   -- the trail of a cell's unit along the whole list is its way down
   pub trail-passes : (j x : ℕ) → j < n → trail (λ c. getD recv c 0) list j x ≡ passes recv n j x
   unfolding down
-  trail-passes j x h = both (trail (λ c. getD recv c 0) list j x) (passes recv n j x) there back
+  trail-passes j x h = alike (trail (λ c. getD recv c 0) list j x) (passes recv n j x) there back
     where
-      both : (a b : Bool) → (a ≡ true → b ≡ true) → (b ≡ true → a ≡ true) → a ≡ b
-      both true b f g = sym (f refl)
-      both false true f g = g refl
-      both false false f g = refl
-
       s : Stands j list
       s = entry-of w j h
 

@@ -9,7 +9,7 @@ use lib.Dec.{eqb}
 use lib.ListN.{length, getD}
 use borrow.Author.Tests.{eqb-true, eqb-false}
 use Rattle.drainage.specs.Ways.{times, WorkList, sumBelow}
-use Rattle.drainage.proofs.CountLaws.{bit, sum-same, sum-on, sum-zero, times-append, times-here}
+use Rattle.drainage.proofs.CountLaws.{bit, sum-same, sum-on, sum-zero, times-append, times-here, one-more}
 use Rattle.drainage.proofs.TrailLaws.{Downstream}
 
 -- where a cell stands in a list
@@ -41,9 +41,6 @@ length-is n (a ∷ l) below =
     sum-on n (λ c. true) a (λ c. times c l) (below [] a l refl) refl
     ∙ ap (λ (x : ℕ). 1 + x) (length-is n l (λ b c t e. below (a ∷ b) c t (ap (λ x. a ∷ x) e)))
     ∙ one-more (length l)
-  where
-    one-more : (k : ℕ) → 1 + k ≡ suc k
-    one-more k = omega arith
 
 sum-ones : (n : ℕ) → sumBelow n (λ c. true) (λ c. 1) ≡ n
 unfolding sumBelow

@@ -2,7 +2,7 @@
 -- base-level cell alone is a chain.
 use Prim.Native.Nat.{ℕ, _≤_, _<_, max}
 use mathlib.Core.Path.{_≡_}
-use mathlib.Core.Bool.{Bool, true}
+use mathlib.Core.Bool.{true}
 use Rattle.drainage.specs.Ground.{Ground}
 
 -- m is a neighbour of c

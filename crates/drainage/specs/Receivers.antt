@@ -1,7 +1,7 @@
 -- Receivers, document 01, 'Network': each non-base cell takes the neighbour of strictly lower spill and greatest slope (spill difference /
 -- distance) if that slope is strictly greater than the present receiver's; the first in scan order wins.
 use Prim.Native.Nat.{ℕ, suc}
-use mathlib.Core.Bool.{Bool, _&&_, cond}
+use mathlib.Core.Bool.{_&&_, cond}
 use mathlib.Core.List.{List}
 use lib.ListN.{getD}
 use lib.Dec.{eqb, ltb}

@@ -1,12 +1,12 @@
 -- What is proved of every routing, in plain words. Premises: the ground is connected and has a base cell, and heights of the kind compare as
 -- numbers do. Sides 1 to 4,096 with finite binary32 heights are one case.
-use Prim.Native.Nat.{ℕ, _+_, _^_, _≤_, _<_, max}
+use Prim.Native.Nat.{ℕ, _^_, _≤_, _<_, max}
 use mathlib.Core.Path.{_≡_}
-use mathlib.Core.Bool.{Bool, true}
+use mathlib.Core.Bool.{true}
 use mathlib.Core.List.{List}
-use lib.ListN.{length, getD}
+use lib.ListN.{getD}
 use lib.Dec.{eqb, ltb}
-use lib.Ieee.{Float, nan, binary32, ofInt}
+use lib.Ieee.{nan, binary32, ofInt}
 use lib.IntN.{pos}
 use Rattle.drainage.specs.Ground.{Ground, Kind}
 use Rattle.drainage.specs.Flood.{flooded}

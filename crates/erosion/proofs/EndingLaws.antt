@@ -1,14 +1,11 @@
 -- The endings of a whole-run call.
 use Prim.Native.Nat.{ℕ}
 use mathlib.Core.Path.{_≡_, refl, sym, ap, _∙_}
-use mathlib.Core.Bool.{Bool, true, false, _&&_, cond}
-use mathlib.Core.Logic.{_⊎_, inl, inr, ⊎-elim}
+use mathlib.Core.Bool.{Bool, true, false, _&&_}
+use mathlib.Core.Logic.{⊎-elim}
 use mathlib.Core.List.{List}
-use native.Mathlib.Omega.{arith}
-use borrow.Author.Tests.{ne-eqb}
-use lib.Dec.{eqb}
 use lib.Ieee.{Float}
-use Rattle.answers.specs.Outcome.{Outcome, gives, refused, refusedAt, refusalOf, answerOf}
+use Rattle.answers.specs.Outcome.{Outcome, gives, refused, refusalOf, answerOf}
 use Rattle.answers.specs.declared.Answer.{Answer}
 use Rattle.answers.specs.declared.Refusal.{Refusal}
 use Rattle.answers.specs.declared.Refusal.the-variants.{Side, ReducedSide, Length, Setting, Height, Receiver, List as LentList, Stream, Cells, Stopped, RunOff}
@@ -17,7 +14,7 @@ use Rattle.runs.specs.Run.{Ran, differenceOf}
 use Rattle.upsample.specs.Samples.{asSource}
 use Rattle.upsample.specs.Samples.{addedOf}
 use Rattle.erosion.specs.Reached.{halted, ranBy, addedTo}
-use Rattle.erosion.specs.Ending.{Ending, outcomeOf, ranTo, endingOf, endedWith, accepted, refusedTo, Numbered, Answered}
+use Rattle.erosion.specs.Ending.{outcomeOf, ranTo, endingOf, endedWith, refusedTo, Numbered, Answered}
 use Rattle.erosion.specs.declared.RunAnswer.{RunAnswer}
 use Rattle.erosion.specs.declared.Reached.{Reached}
 

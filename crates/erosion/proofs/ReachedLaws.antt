@@ -5,10 +5,10 @@ use mathlib.Core.Bool.{Bool, true, false, _&&_, cond}
 use mathlib.Core.Logic.{inl, inr}
 use mathlib.Core.List.{List}
 use native.Mathlib.Numerals.{add-one}
-use native.Mathlib.Omega.{arith}
 use lib.ListN.{length, getD, set}
 use lib.Dec.{eqb}
 use lib.Ieee.{Float, nan, binary32, sub}
+use Rattle.lists.proofs.TestLaws.{chosen, passed}
 use Rattle.lists.proofs.TurnLaws.{turns-keep}
 use Rattle.lists.proofs.FillLaws.{Filling, filling-more, filling-next, filling-done}
 use Rattle.grid.specs.Heights.{allFinite}
@@ -90,26 +90,20 @@ opening-seen c it s map r x t d e f =
     ∙ ap (λ (it : ℕ). openedBy c it (s .heights) (reachedIn s) (reportOf (s .marks) (c .opening it) (c .stop))) (sym (d .iteration))
     ∙ sym (ap seen (opening-is c s t (d .number)) ∙ seen-opened c s)
 
-first : {A : Type 0} (b : Bool) (x y : A) → b ≡ true → x ≡ cond b x y
-first b x y e = sym (ap (λ (b : Bool). cond b x y) e)
-
-second : {A : Type 0} (b : Bool) (x y : A) → b ≡ false → y ≡ cond b x y
-second b x y e = sym (ap (λ (b : Bool). cond b x y) e)
-
 -- the three ends of an incision or a pass, with what the code has reached after it
 module _ (hs : List Float) (r : Reached) (m : Progress) (new : List Float) (completed x : Reached) where
   pub made-stopped : m .stopped ≡ true → x ≡ halted 21 m r → worked hs x ≡ afterMade hs r m new completed
   made-stopped t e =
-      ap (worked hs) e ∙ first (m .stopped) _ (cond (allFinite new) (worked new completed) (worked hs (halted 22 m r))) t
+      ap (worked hs) e ∙ chosen (m .stopped) _ (cond (allFinite new) (worked new completed) (worked hs (halted 22 m r))) t
 
   module _ (on : m .stopped ≡ false) (all : Bool) (a : all ≡ allFinite new) where
     pub made-done : all ≡ true → (map : List Float) → map ≡ new → worked map completed ≡ afterMade hs r m new completed
     made-done t map e =
-        ap (λ (l : List Float). worked l completed) e ∙ first (allFinite new) _ (worked hs (halted 22 m r)) (sym a ∙ t) ∙ second (m .stopped) (worked hs (halted 21 m r)) _ on
+        ap (λ (l : List Float). worked l completed) e ∙ chosen (allFinite new) _ (worked hs (halted 22 m r)) (sym a ∙ t) ∙ passed (m .stopped) (worked hs (halted 21 m r)) _ on
 
     pub made-off : all ≡ false → x ≡ halted 22 m r → worked hs x ≡ afterMade hs r m new completed
     made-off t e =
-        ap (worked hs) e ∙ second (allFinite new) (worked new completed) _ (sym a ∙ t) ∙ second (m .stopped) (worked hs (halted 21 m r)) _ on
+        ap (worked hs) e ∙ passed (allFinite new) (worked new completed) _ (sym a ∙ t) ∙ passed (m .stopped) (worked hs (halted 21 m r)) _ on
 
 module _ (hs : List Float) (r : Reached) {new : List Float} {m : Progress} {p : Pass} (e : _≡_ {A = Pass} (record { out = new; marks = m }) p) where
   abbrev completed : Reached
@@ -138,10 +132,10 @@ module _ (old small : List Float) {new : List Float} {i : ℕ} (s : Filling (sub
 
 -- every state of a run has one of the three numbers
 module _ (c : Course) where
-  chosen : (a b : Bool) (x y z : State) → Numbered (x .number) → Numbered (y .number) → Numbered (z .number) → Numbered (cond a x (cond b y z) .number)
-  chosen true b x y z p q r = p
-  chosen false true x y z p q r = q
-  chosen false false x y z p q r = r
+  each-numbered : (a b : Bool) (x y z : State) → Numbered (x .number) → Numbered (y .number) → Numbered (z .number) → Numbered (cond a x (cond b y z) .number)
+  each-numbered true b x y z p q r = p
+  each-numbered false true x y z p q r = q
+  each-numbered false false x y z p q r = r
 
   pass-numbered : (s : State) → Numbered (s .number) → Numbered (onePass c s .number)
   unfolding onePass
@@ -152,7 +146,7 @@ module _ (c : Course) where
 
       go : (b : Bool) → Numbered (cond b (passDone c s (rowsFrom c (c .h) s)) s .number)
       go true =
-          chosen (rowsFrom c (c .h) s .marks .stopped) (allFinite (rowsFrom c (c .h) s .out)) (endedBy c 21 _ s) (closed c _ _ s) (endedBy c 22 _ s) (inr (inl refl)) (inl refl)
+          each-numbered (rowsFrom c (c .h) s .marks .stopped) (allFinite (rowsFrom c (c .h) s .out)) (endedBy c 21 _ s) (closed c _ _ s) (endedBy c 22 _ s) (inr (inl refl)) (inl refl)
           (inr (inr refl))
       go false = n
 
@@ -162,7 +156,7 @@ module _ (c : Course) where
     where
       go : (b : Bool) → Numbered (cond b (openStep c s) s .number)
       go true =
-          chosen (reportOf (s .marks) (c .opening (s .iteration)) (c .stop) .stopped) (allFinite (c .incision (s .iteration) (s .heights))) (endedBy c 21 _ s) (cut c _ _ s)
+          each-numbered (reportOf (s .marks) (c .opening (s .iteration)) (c .stop) .stopped) (allFinite (c .incision (s .iteration) (s .heights))) (endedBy c 21 _ s) (cut c _ _ s)
           (endedBy c 22 _ s) (inr (inl refl)) (inl refl) (inr (inr refl))
       go false = n
 

@@ -7,12 +7,8 @@ use lib.ListN.{set, take, drop, replicate}
 use lib.Ieee.{Float, binary32, fits}
 use lib.Ieee.Bits.{ofBits-fits}
 use lib.Ieee.Fits.{nan-fits, add-fits, sub-fits, mul-fits, div-fits, neg-fits, ofInt-fits}
-use Rattle.floats.specs.Stand.{maxOf}
+use Rattle.floats.proofs.FiniteLaws.{maxOf-fits}
 use Rattle.float_order.specs.Fit.{Fit}
-use Rattle.float_order.proofs.RankLaws.{max-keeps}
-
-pub max-fits : (a b : Float) → T (fits binary32 a) → T (fits binary32 b) → T (fits binary32 (maxOf a b))
-max-fits a b p q = max-keeps (λ (x : Float). T (fits binary32 x)) a b p q
 
 pub fit-nil : Fit []
 fit-nil i = nan-fits binary32
@@ -48,4 +44,4 @@ pub fit-append : (hs ks : List Float) → Fit hs → Fit ks → Fit (hs ++ ks)
 fit-append [] ks p q = q
 fit-append (x ∷ xs) ks p q = fit-cons x (xs ++ ks) (p zero) (fit-append xs ks (λ i. p (suc i)) q)
 
-pub ruleset fitting = (fit-set, fit-replicate, fit-take, fit-drop, fit-append, max-fits, add-fits, sub-fits, mul-fits, div-fits, neg-fits, ofInt-fits, ofBits-fits, nan-fits)
+pub ruleset fitting = (fit-set, fit-replicate, fit-take, fit-drop, fit-append, maxOf-fits, add-fits, sub-fits, mul-fits, div-fits, neg-fits, ofInt-fits, ofBits-fits, nan-fits)

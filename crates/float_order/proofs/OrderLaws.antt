@@ -10,20 +10,15 @@ use lib.IntN.{ℤ}
 use lib.Pow.{pow-pos}
 use lib.Ieee.{Float, nan, inf, fin, binary32, up, down, below, level, lt, le, eq, fits, isNan}
 use lib.Ieee.Fits.{down-pos, eq→eqb, and-i, and-l, and-r}
+use Rattle.floats.proofs.ValueLaws.{same-test}
 use Rattle.float_order.specs.Order.{Number, signOf, unitsOf, signed, rank}
 use Rattle.float_order.proofs.SizeLaws.{rank-is, units-exact, units-lt, units-le}
 
-tests-agree : (a b : Bool) → (T a → T b) → (T b → T a) → a ≡ b
-tests-agree true true p q = refl
-tests-agree true false p q = absurd (p tt)
-tests-agree false true p q = absurd (q tt)
-tests-agree false false p q = refl
-
 pub same-lt : (a b u v : ℕ) → (a < b → u < v) → (u < v → a < b) → ltb a b ≡ ltb u v
-same-lt a b u v f g = tests-agree (ltb a b) (ltb u v) (λ t. lt→ltb u v (f (ltb→lt a b t))) (λ t. lt→ltb a b (g (ltb→lt u v t)))
+same-lt a b u v f g = same-test (ltb a b) (ltb u v) (λ t. lt→ltb u v (f (ltb→lt a b t))) (λ t. lt→ltb a b (g (ltb→lt u v t)))
 
 same-eq : (a b u v : ℕ) → (a ≡ b → u ≡ v) → (u ≡ v → a ≡ b) → eqb a b ≡ eqb u v
-same-eq a b u v f g = tests-agree (eqb a b) (eqb u v) (λ t. eq→eqb (f (eqb→eq a b t))) (λ t. eq→eqb (g (eqb→eq u v t)))
+same-eq a b u v f g = same-test (eqb a b) (eqb u v) (λ t. eq→eqb (f (eqb→eq a b t))) (λ t. eq→eqb (g (eqb→eq u v t)))
 
 -- ---- A and B are a and b in another unit: they compare alike
 
@@ -124,7 +119,7 @@ below-ranked B a b true true h k = same-lt b a (signed B true a) (signed B true 
 -- with opposite signs only zeros are equal
 opposite : (a b u v : ℕ) → (a ≡ b → a ≡ 0 → u ≡ v) → (u ≡ v → (a ≡ 0) × (b ≡ 0)) → (eqb a b && eqb a 0) ≡ eqb u v
 opposite a b u v f g =
-    tests-agree (eqb a b && eqb a 0) (eqb u v)
+    same-test (eqb a b && eqb a 0) (eqb u v)
     (λ t. eq→eqb (f (eqb→eq a b (and-l (eqb a b) (eqb a 0) t)) (eqb→eq a 0 (and-r (eqb a b) (eqb a 0) t))))
     (λ t. let z = g (eqb→eq u v t) in and-i (eqb a b) (eqb a 0) (eq→eqb (z .0 ∙ sym (z .1))) (eq→eqb (z .0)))
 

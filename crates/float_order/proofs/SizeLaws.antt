@@ -2,13 +2,14 @@
 use mathlib.Core.Path.{_≡_, refl, sym, ap, ap₂, _∙_, subst}
 use mathlib.Core.Bool.{Bool, true, false, _&&_}
 use Prim.Native.Nat.{ℕ, zero, suc, _-_, _*_, _/_, _%_, _^_, _≤_, _<_}
-use native.Mathlib.Nat.{le-of-lt, le-of-eq, le-of-suc-le-suc, le-trans, lt-of-lt-of-le, lt-of-not-le, lt-irrefl, mul-right-comm, mul-comm, mul-one, zero-mul, div-one, mul-pos, mul-lt-mul-of-pos-right, le-mul-of-pos-right, div-lt-iff-lt-mul, mul-assoc, mul-div-cancel}
+use native.Mathlib.Nat.{le-of-lt, le-of-eq, le-trans, mul-right-comm, mul-comm, mul-one, zero-mul, div-one, mul-pos, mul-lt-mul-of-pos-right, le-mul-of-pos-right, div-lt-iff-lt-mul, mul-assoc, mul-div-cancel}
 use lib.Dec.{T, ltb, leb, eqb, ltb→lt, leb→le, eqb→eq, lit≤}
 use lib.IntN.{ℤ, pos, negsuc}
-use lib.Pow.{pow-pos, pow-add, pow-lt}
+use lib.Pow.{pow-pos, pow-add}
 use lib.Ieee.{Float, nan, inf, fin, binary32, up, down, size, fits, isNan, toBits}
 use lib.Ieee.Digits.{back}
 use lib.Ieee.Fits.{up-pos, down-pos, and-l, and-r}
+use Rattle.floats.proofs.ValueLaws.{pow-back}
 use Rattle.float_order.proofs.ValueLaws.{bitsOf, bits-unique}
 use Rattle.float_order.specs.Order.{Number, signOf, unitsOf, signed, rank}
 
@@ -30,16 +31,13 @@ fine s (suc m) e t =
     let C = ltb (suc m * up e) (2 ^ 128 * down e) in
     (leb→le (down e) (2 ^ 149) (and-r A B (and-l (A && B) C t)), ltb→lt (suc m * up e) (2 ^ 128 * down e) (and-r (A && B) C t))
 
-pow-le-back : (a l : ℕ) → 2 ^ a ≤ 2 ^ l → a ≤ l
-pow-le-back a l h = le-of-suc-le-suc (lt-of-not-le (λ (g : suc l ≤ a). lt-irrefl (2 ^ l) (lt-of-lt-of-le (pow-lt g) h)))
-
 -- so its size is a whole number of units
 whole-units : (l : ℕ) (e : ℤ) (u : ℕ) → down e ≤ 2 ^ l → u * 2 ^ l / down e * down e ≡ u * 2 ^ l
 whole-units l (pos k) u h = mul-one (u * 2 ^ l / 1) ∙ div-one (u * 2 ^ l)
 whole-units l (negsuc k) u h =
     let j = l - suc k in
     let r : u * 2 ^ j * 2 ^ suc k ≡ u * 2 ^ l =
-    mul-assoc u (2 ^ j) (2 ^ suc k) ∙ ap (λ (x : ℕ). u * x) (sym (pow-add 2 j (suc k)) ∙ ap (λ (x : ℕ). 2 ^ x) (back l (suc k) (pow-le-back (suc k) l h))) in
+    mul-assoc u (2 ^ j) (2 ^ suc k) ∙ ap (λ (x : ℕ). u * x) (sym (pow-add 2 j (suc k)) ∙ ap (λ (x : ℕ). 2 ^ x) (back l (suc k) (pow-back (suc k) l h))) in
     subst (λ (x : ℕ). x / 2 ^ suc k * 2 ^ suc k ≡ x) r (ap (λ (x : ℕ). x * 2 ^ suc k) (mul-div-cancel (u * 2 ^ j) (pow-pos (suc k))))
 
 pub units-exact : (s : Bool) (m : ℕ) (e : ℤ) → T (fits binary32 (fin s m e)) → unitsOf (fin s m e) * down e ≡ m * up e * 2 ^ 149

@@ -68,7 +68,7 @@ held f s (suc m) e t =
       within = ltb→lt (suc m * up e) (2 ^ suc (emax f) * down e) (and-r (a && b && c) d t);
     }
 
-pow-back : (a l : ℕ) → 2 ^ a ≤ 2 ^ l → a ≤ l
+pub pow-back : (a l : ℕ) → 2 ^ a ≤ 2 ^ l → a ≤ l
 pow-back a l h = le-of-suc-le-suc (lt-of-not-le (λ (g : suc l ≤ a). lt-irrefl (2 ^ l) (lt-of-lt-of-le (pow-lt g) h)))
 
 back : (a l : ℕ) → a ≤ l → l - a + a ≡ l

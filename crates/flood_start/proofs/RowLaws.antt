@@ -1,6 +1,6 @@
 -- A list over a grid's cells that loops fill from the front, cell by cell or row by row, the value of each cell made from the list so far.
 use Prim.Native.Nat.{ℕ, zero, suc, _+_, _*_, _≤_, _<_}
-use mathlib.Core.Path.{_≡_, refl, sym, ap, ap₂, _∙_}
+use mathlib.Core.Path.{_≡_, sym, ap, ap₂, _∙_}
 use mathlib.Core.List.{List}
 use native.Mathlib.Nat.{mul-comm}
 use native.Mathlib.Omega.{arith}
@@ -11,16 +11,6 @@ use Rattle.lists.proofs.TableLaws.{filled, filled-none, filled-more, filled-don
 use Rattle.grid.specs.Sides.{cellOf}
 use Rattle.grid.proofs.SidesLaws.{cell-lt}
 use Rattle.flood_start.specs.Slices.{rowBy}
-
--- one store more, and all
-module _ {A : Type 0} (f : ℕ → A) (old l : List A) (i : ℕ) (e : l ≡ filled f i old) where
-  pub stored-more : (v : A) → i < length old → v ≡ f i → set l i v ≡ filled f (i + 1) old
-  stored-more v h s = ap₂ (λ t x. set t i x) e s ∙ filled-more f i old h
-
-  pub stored-done : i ≤ length old → length old ≤ i → l ≡ tabulate (length old) f
-  stored-done a b =
-      let all : i ≡ length old = omega arith in
-      e ∙ ap (λ i. filled f i old) all ∙ filled-done f (length old) old refl
 
 -- one cell of a row more
 pub row-more :

@@ -1,6 +1,6 @@
 -- How slices stand for the flood of document 01 as crates/drainage defines it: statuses, spill heights, finders and the order, each in a list of
 -- its own.
-use Prim.Native.Nat.{ℕ, _*_, _^_, _≤_}
+use Prim.Native.Nat.{ℕ, _^_, _≤_}
 use mathlib.Core.Path.{_≡_}
 use mathlib.Core.Bool.{_||_, cond}
 use mathlib.Core.List.{List, []}

@@ -1,18 +1,19 @@
 -- Laws of the public call: which answer the tests give, what is accepted, and what the slices hold then.
 use Prim.Native.Nat.{ℕ, _*_}
 use mathlib.Core.Path.{_≡_, refl, sym, ap, _∙_}
-use mathlib.Core.Bool.{Bool, true, false, not, _&&_, _||_, cond, true≢false}
+use mathlib.Core.Bool.{Bool, true, false, not, _&&_, cond, true≢false}
 use mathlib.Core.List.{List}
 use lib.ListN.{length}
 use lib.Ieee.{Float}
 use lib.Ieee.Scale.{finite}
 use borrow.Author.Tests.{eqb-true, ltb-false, not-true, not-false}
+use Rattle.lists.proofs.TestLaws.{neither, both, chosen, passed}
 use Rattle.answers.specs.Outcome.{Outcome, gives, refused, refusedAt, answerOf}
 use Rattle.answers.specs.declared.Answer.{Answer}
 use Rattle.grid.specs.Sides.{badSides}
 use Rattle.grid.specs.Heights.{firstNotFinite, allFinite}
 use Rattle.answers.proofs.OutcomeLaws.{given}
-use Rattle.grid.proofs.SidesLaws.{good-sides, neither}
+use Rattle.grid.proofs.SidesLaws.{good-sides}
 use Rattle.flood.specs.Slices.{Accepted}
 use Rattle.flow.specs.declared.Lent.{Lent}
 use Rattle.flow.specs.Route.{floodOf, orderOf, receiversOf, areasOf, lentOf, badLengths, routeAnswer, accepted, Enough, Holding, Routed}
@@ -26,10 +27,6 @@ given-is false true f a k = refl
 given-is false false true true k = refl
 given-is false false true false k = refl
 given-is false false false a k = refl
-
-both : (a b : Bool) → (a && b) ≡ true → (a ≡ true) × (b ≡ true)
-both true b e = (refl, e)
-both false b e = absurd (true≢false (sym e))
 
 pub enough : (w h : ℕ) (l : Lent) → badLengths (w * h) l ≡ false → Enough (w * h) l
 enough w h l e =
@@ -79,12 +76,6 @@ module _ (w h : ℕ) (hs : List Float) (water : Float) (l : Lent) (e : accepted 
     cells = sym n ∙ accepted-enough .heights;
     finites = both (finite water) (allFinite hs) (past-lengths .1) .1;
   }
-
-chosen : {A : Type 0} (b : Bool) (x y : A) → b ≡ true → x ≡ cond b x y
-chosen b x y e = sym (ap (λ t. cond t x y) e)
-
-passed : {A : Type 0} (b : Bool) (x y : A) → b ≡ false → y ≡ cond b x y
-passed b x y e = sym (ap (λ t. cond t x y) e)
 
 module _ (w h : ℕ) (hs : List Float) (water : Float) (order recv : List ℕ) (spill area : List Float) (queue status : List ℕ) where
   abbrev lent : Lent

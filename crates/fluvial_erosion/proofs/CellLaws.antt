@@ -1,23 +1,20 @@
 -- One cell's incision as the code does it, and along the list.
-use Prim.Native.Nat.{ℕ, suc, _+_, _*_, _^_, _≤_, _<_}
+use Prim.Native.Nat.{ℕ, suc, _+_, _*_, _≤_, _<_}
 use native.Mathlib.Numerals.{add-one}
 use native.Mathlib.Omega.{arith}
 use mathlib.Core.Path.{_≡_, refl, sym, ap, _∙_}
-use mathlib.Core.Bool.{true, false, cond}
-use mathlib.Core.List.{List, []}
+use mathlib.Core.List.{List}
 use lib.IntN.{pos}
 use lib.ListN.{length, getD, set, drop, length-set}
-use lib.Seq.{set-getD, drop-cons, drop-length}
+use lib.Seq.{drop-cons, drop-length}
 use lib.Dec.{T, le→leb}
-use lib.Ieee.{Float, nan, binary32, inFloat, ofInt, div, le}
+use lib.Ieee.{Float, nan, binary32, inFloat, ofInt}
 use Rattle.grid.specs.Sides.{InRange}
 use Rattle.grid.proofs.SidesLaws.{cells-bound, some-column}
 use Rattle.drainage.specs.Ground.{gridGround}
-use Rattle.drainage.specs.Receivers.{distanceTo}
 use Rattle.drainage.specs.Ways.{areasAlong}
-use Rattle.ways.specs.Apart.{apart}
 use Rattle.ways.proofs.DistanceLaws.{distance-is}
-use Rattle.lent.proofs.ReceiverLaws.{good-is}
+use Rattle.lent_receivers.proofs.ReceiverLaws.{good-is}
 use Rattle.cuts.specs.Cut.{drainedTo, cutAt, CellOf}
 use Rattle.steps.proofs.PlaceLaws.{near-of}
 use Rattle.fluvial_erosion.specs.Incision.{incisedHeight, incisedAt, inciseAlong, incisedBy}

@@ -14,7 +14,7 @@ use Rattle.drainage.specs.Receivers.{distanceTo}
 use Rattle.drainage.specs.Ways.{WorkList, areasAlong}
 use Rattle.drainage.proofs.AreaLaws.{length-areas, areas}
 use Rattle.fluvial_erosion.specs.Incision.{incisedHeight, incisedAt, inciseAlong, incisedBy}
-use Rattle.fluvial_erosion.specs.Independence.{madeAlong, SameIncision, Independence}
+use Rattle.fluvial_erosion.specs.Independence.{madeAlong, Independence}
 use Rattle.fluvial_erosion.specs.declared.FluvialParams.{FluvialParams}
 use Rattle.fluvial_erosion.proofs.SettleLaws.{along-same}
 

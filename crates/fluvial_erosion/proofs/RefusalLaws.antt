@@ -2,27 +2,28 @@
 use Prim.Native.Nat.{ℕ, _*_, _≤_, _<_}
 use native.Mathlib.Omega.{arith}
 use mathlib.Core.Path.{_≡_, refl, sym, ap, _∙_}
-use mathlib.Core.Bool.{Bool, true, false, not, cond, _||_, true≢false}
+use mathlib.Core.Bool.{Bool, true, false, not, cond, true≢false}
 use mathlib.Core.List.{List, _++_}
 use lib.ListN.{length, getD, drop}
 use lib.Dec.{eqb, ltb}
 use lib.Ieee.{Float}
 use borrow.Author.Tests.{lt-ltb, le-ltb, ltb-false, eqb-true, not-false}
+use Rattle.lists.proofs.TestLaws.{neither}
 use Rattle.answers.specs.Outcome.{Outcome, gives, refused, refusedAt, answerOf}
 use Rattle.answers.specs.declared.Answer.{Answer}
 use Rattle.answers.specs.declared.Refusal.{Refusal}
-use Rattle.grid.specs.Sides.{badSides, InRange}
+use Rattle.grid.specs.Sides.{badSides}
 use Rattle.grid.specs.Heights.{firstNotFinite, allFinite}
 use Rattle.answers.proofs.OutcomeLaws.{given, refusal-given}
-use Rattle.grid.proofs.SidesLaws.{good-sides, neither}
+use Rattle.grid.proofs.SidesLaws.{good-sides}
 use Rattle.grid.proofs.HeightsLaws.{all-finite, not-all-finite}
-use Rattle.drainage.specs.Ways.{areasAlong}
-use Rattle.lent.specs.Lent.{firstBadReceiver, firstBadEntry, receiverTest, goodEntry}
-use Rattle.lent.specs.Seen.{Lengths}
-use Rattle.lent.proofs.FirstLaws.{first-of, all-first}
-use Rattle.lent.proofs.ListLaws.{good-at}
-use Rattle.lent.proofs.ReceiverLaws.{good-cell}
-use Rattle.fluvial_erosion.specs.Incise.{badLengths, badIncision, inciseRefusal, incised, inciseAnswer, InciseMade}
+use Rattle.lent_receivers.specs.Receivers.{firstBadReceiver, receiverTest}
+use Rattle.lent_list.specs.Entries.{firstBadEntry, goodEntry}
+use Rattle.lent_list.specs.Seen.{Lengths}
+use Rattle.lists.proofs.FirstLaws.{first-of, all-first}
+use Rattle.lent_list.proofs.ListLaws.{good-at}
+use Rattle.lent_receivers.proofs.ReceiverLaws.{good-cell}
+use Rattle.fluvial_erosion.specs.Incise.{badLengths, badIncision, inciseRefusal, InciseMade}
 use Rattle.fluvial_erosion.specs.Along.{Drains, Carved}
 use Rattle.fluvial_erosion.specs.declared.FluvialParams.{FluvialParams}
 

@@ -2,14 +2,15 @@
 use Prim.Native.Nat.{ℕ, zero, suc, _+_, _≤_, _<_}
 use native.Mathlib.Omega.{arith}
 use native.Mathlib.Decide.{ℕ-discrete}
-use mathlib.Core.Path.{_≡_, refl, sym, ap, ap₂, _∙_, subst}
+use mathlib.Core.Path.{_≡_, refl, sym, ap, _∙_, subst}
 use mathlib.Core.List.{List, [], _∷_, _++_, append-nil, append-assoc}
 use lib.ListN.{length, getD, set, length-append, length-set}
 use lib.Seq.{getD-set-same, getD-set-other, ext-getD}
+use Rattle.drainage.proofs.TallyLaws.{one-same, one-other}
 use Rattle.drainage.specs.Ways.{one, times, WorkList}
 use Rattle.drainage.proofs.CountLaws.{times-append, times-here}
 use Rattle.drainage.proofs.WorkListLaws.{split, entry-lt}
-use Rattle.lent.proofs.ListLaws.{times-one, one-same, one-other}
+use Rattle.lent_list.proofs.ListLaws.{times-one}
 use Rattle.fluvial_erosion.specs.Independence.{madeAlong, settled}
 
 module _ {A : Type 0} (absent : A) (recv : List ℕ) (make : ℕ → A → A → A)
@@ -55,7 +56,7 @@ module _ {A : Type 0} (absent : A) (recv : List ℕ) (make : ℕ → A → A →
             ∙ m .made d (omega (arith, tally d, one-other c d (λ e. n (sym e)))) k (omega (arith, length-append done (c ∷ [])))
 
         still : (d : ℕ) → times d (done ++ (c ∷ [])) ≡ 0 → Dec (d ≡ c) → getD (set l c value) d absent ≡ getD start d absent
-        still d t (yes e) = absurd (omega (arith, tally d, ap (one c) e, one-same c))
+        still d t (yes e) = absurd (omega (arith, tally d, ap (one c) e, one-same c c refl))
         still d t (no n) = getD-set-other l c d value absent n ∙ m .still d (omega (arith, tally d))
 
   module _ (list : List ℕ) (n : ℕ) (long : length start ≡ n) (w : WorkList n recv list) where

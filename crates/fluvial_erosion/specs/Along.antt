@@ -9,7 +9,7 @@ use Rattle.grid.specs.Sides.{InRange}
 use Rattle.drainage.specs.Ground.{gridGround}
 use Rattle.drainage.specs.Ways.{areasAlong}
 use Rattle.ways.specs.Apart.{Along}
-use Rattle.lent.specs.Lent.{goodReceiver}
+use Rattle.lent_receivers.specs.Receivers.{goodReceiver}
 use Rattle.fluvial_erosion.specs.Incision.{incisedBy}
 use Rattle.fluvial_erosion.specs.declared.FluvialParams.{FluvialParams}
 

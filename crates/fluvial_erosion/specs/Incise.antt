@@ -14,7 +14,8 @@ use Rattle.grid.specs.Heights.{firstNotFinite, allFinite}
 use Rattle.drainage.specs.Ground.{gridGround}
 use Rattle.drainage.specs.Ways.{areasAlong}
 use Rattle.fluvial_erosion.specs.Incision.{incisedBy}
-use Rattle.lent.specs.Lent.{firstBadReceiver, firstBadEntry}
+use Rattle.lent_receivers.specs.Receivers.{firstBadReceiver}
+use Rattle.lent_list.specs.Entries.{firstBadEntry}
 use Rattle.fluvial_erosion.specs.declared.FluvialParams.{FluvialParams}
 
 -- refusal 4: k 0 to 64, uplift -1 to 1, water level finite

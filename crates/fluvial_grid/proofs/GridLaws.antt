@@ -1,12 +1,13 @@
 -- What the parts of a run on its working grid ask follows from what it is given, and the run by its loops is the run.
 use Prim.Native.Nat.{ℕ, _*_}
-use mathlib.Core.Path.{_≡_, refl, sym, ap, ap₂, _∙_, subst}
-use mathlib.Core.Bool.{Bool, true, false, _&&_, true≢false}
+use mathlib.Core.Path.{_≡_, sym, ap, ap₂, _∙_, subst}
+use mathlib.Core.Bool.{Bool, true, _&&_}
 use mathlib.Core.List.{List}
 use borrow.Author.Tests.{eqb-true}
 use lib.ListN.{length}
 use lib.Dec.{eqb}
 use lib.Ieee.{Float}
+use Rattle.lists.proofs.TestLaws.{both}
 use Rattle.grid.specs.Heights.{allFinite}
 use Rattle.flood.specs.Slices.{Accepted}
 use Rattle.flow.specs.Route.{Enough}
@@ -21,10 +22,6 @@ use Rattle.fluvial_loop.specs.Loops.{courseBy}
 use Rattle.fluvial_loop.specs.declared.FluvialPlan.{FluvialPlan}
 use Rattle.fluvial_grid.specs.Grids.{Erodes}
 use Rattle.fluvial_grid.specs.declared.Scratch.{Scratch}
-
-both : (a b : Bool) → (a && b) ≡ true → (a ≡ true) × (b ≡ true)
-both true b e = (refl, e)
-both false b e = absurd (true≢false (sym e))
 
 module _ {w h dw dh : ℕ} {plan : FluvialPlan} {stop : ℕ} {map : List Float} {s : Scratch} (e : Erodes w h dw dh plan stop map s) where
   -- the run by its loops is the run

@@ -1,5 +1,5 @@
 -- The loop over the iterations of a fluvial run: what holds at its test, what its parts ask, and what it leaves.
-use Prim.Native.Nat.{ℕ, suc, _+_, _*_, _^_, _≤_, _<_}
+use Prim.Native.Nat.{ℕ, suc, _+_, _*_, _≤_, _<_}
 use mathlib.Core.Path.{_≡_, refl, sym, ap, _∙_, subst}
 use mathlib.Core.Bool.{Bool, true, false, cond}
 use mathlib.Core.List.{List}
@@ -14,12 +14,12 @@ use Rattle.generators.specs.Marks.{reportOf}
 use Rattle.generators.specs.declared.Progress.{Progress}
 use Rattle.drainage.specs.Ground.{gridGround}
 use Rattle.flood.specs.Slices.{Accepted}
-use Rattle.flow.specs.Route.{lentOf, Enough}
+use Rattle.flow.specs.Route.{Enough}
 use Rattle.flow.specs.declared.Lent.{Lent}
 use Rattle.runs.specs.Machine.{Course, State, start, steps}
 use Rattle.runs.specs.Run.{ours}
 use Rattle.runs.specs.Nested.{oneOpening, oneIteration, iterated, nested, Due, Bounded}
-use Rattle.runs.proofs.SoundLaws.{Sized, Sound}
+use Rattle.runs.proofs.SoundLaws.{Sound}
 use Rattle.runs.proofs.KeptLaws.{iterated-sound}
 use Rattle.runs.proofs.CutLaws.{incision-sized}
 use Rattle.runs.proofs.AskedLaws.{opening-asked, iterated-asked}
@@ -27,7 +27,7 @@ use Rattle.runs.proofs.IterationLaws.{due-iterated}
 use Rattle.erosion.specs.Reached.{Worked, seen, begun, halted, afterMade}
 use Rattle.erosion.specs.declared.Reached.{Reached}
 use Rattle.erosion.proofs.ReachedLaws.{worked, openedBy}
-use Rattle.erosion.proofs.LoopLaws.{Going, going-none, going-done, going-ended, going-asked, going-incisions, going-opening}
+use Rattle.erosion.proofs.LoopLaws.{Going, going-none, going-ended, going-asked, going-incisions, going-opening}
 use Rattle.incision_step.specs.Opening.{cutOf, afterOpening, Counts}
 use Rattle.incision_step.proofs.OpeningLaws.{cut-any}
 use Rattle.fluvial_loop.specs.Loops.{courseBy, slidBy, Slides}

@@ -1,6 +1,6 @@
 -- The passes of an iteration: the loop over them, and that what it leaves is the state after them.
 use Prim.Native.Nat.{ℕ, suc, _+_, _-_, _*_, _^_, _≤_, _<_}
-use mathlib.Core.Path.{_≡_, refl, sym, ap, _∙_, subst}
+use mathlib.Core.Path.{_≡_, refl, sym, ap, _∙_}
 use mathlib.Core.Bool.{Bool, true, false, cond}
 use mathlib.Core.List.{List}
 use native.Mathlib.Nat.{mul-le-mul-right}
@@ -20,11 +20,10 @@ use Rattle.runs.specs.Machine.{Course, State}
 use Rattle.runs.specs.Nested.{onePass, oneOpening, oneIteration, Due, Underway, Bounded}
 use Rattle.runs.proofs.PassLaws.{pass-ended}
 use Rattle.runs.proofs.IterationLaws.{Place, underway-opening, underway-pass, due-pass, pass-before, opening-before}
-use Rattle.erosion.specs.Reached.{Worked, seen, afterMade, afterPass, PassReady}
+use Rattle.erosion.specs.Reached.{Worked, seen, afterPass, PassReady}
 use Rattle.erosion.specs.declared.Reached.{Reached}
 use Rattle.erosion.proofs.ReachedLaws.{worked, rowsBy, pass-seen}
-use Rattle.fluvial_loop.specs.Loops.{passedBy, slidBy, Places, Slides}
-use Rattle.fluvial_loop.specs.declared.FluvialPlan.{FluvialPlan}
+use Rattle.fluvial_loop.specs.Loops.{passedBy, slidBy, Slides}
 
 -- a count is exact in binary32
 pub count-float : (n : ℕ) → n ≤ 32768 → T (inFloat binary32 (pos n))

@@ -1,13 +1,14 @@
 -- Laws of a report: what it does in each of its three cases, and what the layers above need of the record after it.
 use Prim.Native.Nat.{ℕ, _+_, _-_, _^_, _≤_, _<_}
 use mathlib.Core.Path.{_≡_, refl, sym, ap, _∙_}
-use mathlib.Core.Bool.{Bool, true, false, not, _||_, cond}
+use mathlib.Core.Bool.{Bool, true, false, not, cond}
 use mathlib.Core.Logic.{_⊎_, inl, inr}
 use native.Mathlib.Nat.{le-refl}
 use native.Mathlib.Omega.{arith}
 use borrow.Author.Tests.{eqb-true, ltb-false}
 use lib.Dec.{eqb}
 use lib.Ieee.{Float, binary32, ofBits, neg}
+use Rattle.lists.proofs.TestLaws.{fourth}
 use Rattle.answers.specs.Outcome.{gives, outsideOf}
 use Rattle.answers.specs.declared.Refusal.{Refusal}
 use Rattle.generators.specs.declared.Progress.{Progress}
@@ -72,13 +73,8 @@ module _ (m : Progress) (p : Float) (s : ℕ) where
 pub asked-fits : (m : Progress) (p : Float) → badReport m p ≡ false → m .asked < 2 ^ 32 - 1
 asked-fits m p h =
     let one : Float = ofBits binary32 0x3f80_0000 in
-    let l : m .asked ≤ 2 ^ 31 = ltb-false _ _ (third (outsideOf p (ofBits binary32 0) one) (outsideOf (m .last) (neg one) one) _ h) in
+    let l : m .asked ≤ 2 ^ 31 = ltb-false _ _ (fourth false (outsideOf p (ofBits binary32 0) one) (outsideOf (m .last) (neg one) one) _ h) in
     omega arith
-  where
-    third : (a b c : Bool) → (a || (b || c)) ≡ false → c ≡ false
-    third false false c e = e
-    third true b c e = cc
-    third false true c e = cc
 
 module _ (m : Progress) (p : Float) (s : ℕ) where
   pub report-refused : badReport m p ≡ true → ReportMade m p s (record { go = Go.Refused Refusal.Setting; progress = m })

@@ -5,9 +5,9 @@ use native.Mathlib.Decide.{decLt}
 use mathlib.Core.Path.{_≡_, refl, sym, ap, ap₂, _∙_}
 use mathlib.Core.Logic.{_≢_, _⊎_, inl, inr}
 use mathlib.Core.Bool.{Bool, true, false, cond, _&&_, true≢false}
-use lib.IntN.{ℤ, pos, negsuc, negℤ}
+use lib.IntN.{ℤ, pos, negsuc, negℤ, natAbs}
 use lib.ListN.{getD}
-use lib.Dec.{ltb}
+use lib.Dec.{ltb, lit≤}
 use borrow.Author.Tests.{lt-ltb, le-ltb, ltb-true}
 use Rattle.grid.specs.Sides.{cellOf, columnOf, rowOf}
 use Rattle.grid.specs.Directions.{dirX, dirY, shiftedOf, neighbourOf, neighbourAt}
@@ -32,6 +32,25 @@ each-direction P nw n ne w e sw s se (suc (suc (suc (suc (suc (suc zero)))))) lo
 each-direction P nw n ne w e sw s se (suc (suc (suc (suc (suc (suc (suc zero))))))) lo hi = s
 each-direction P nw n ne w e sw s se (suc (suc (suc (suc (suc (suc (suc (suc zero)))))))) lo hi = se
 each-direction P nw n ne w e sw s se (suc (suc (suc (suc (suc (suc (suc (suc (suc d))))))))) lo hi = absurd (omega arith)
+
+-- a step in a direction is at most one column and one row
+pub small-steps : (d : ℕ) → 1 ≤ d → d ≤ 8 → (natAbs (stepX d) ≤ 1) × (natAbs (stepY d) ≤ 1)
+small-steps =
+    each-direction (λ d. (natAbs (stepX d) ≤ 1) × (natAbs (stepY d) ≤ 1)) (lit≤ tt, lit≤ tt) (lit≤ tt, lit≤ tt) (lit≤ tt, lit≤ tt) (lit≤ tt, lit≤ tt)
+    (lit≤ tt, lit≤ tt) (lit≤ tt, lit≤ tt) (lit≤ tt, lit≤ tt) (lit≤ tt, lit≤ tt)
+
+-- and leads to a place at most one off
+pub close-step : (x : ℕ) (z : ℤ) (side n : ℕ) → natAbs z ≤ 1 → shiftedOf x z side ≡ n → n < side → (x ≤ n + 1) × (n ≤ x + 1)
+close-step x (pos k) side n s e l = go (ltb (x + k) side) e
+  where
+    go : (b : Bool) → cond b (x + k) side ≡ n → (x ≤ n + 1) × (n ≤ x + 1)
+    go true e = (omega arith, omega arith)
+    go false e = absurd (omega arith)
+close-step x (negsuc k) side n s e l = go (ltb k x) refl e
+  where
+    go : (b : Bool) → ltb k x ≡ b → cond b (x - suc k) side ≡ n → (x ≤ n + 1) × (n ≤ x + 1)
+    go true t e = let q : k < x = ltb-true k x t in (omega arith, omega arith)
+    go false t e = absurd (omega arith)
 
 abbrev isZero : ℤ → Bool
 isZero (pos zero) = true

@@ -2,14 +2,15 @@
 use Prim.Native.Nat.{ℕ, zero, suc, _+_, _*_, _^_, _≤_, _<_}
 use native.Mathlib.Nat.{mul-comm, mul-le-mul, mod-lt, mod-add-div', div-lt-iff-lt-mul, zero-mul}
 use native.Mathlib.Omega.{arith}
-use mathlib.Core.Path.{_≡_, refl, _∙_, ap}
+use mathlib.Core.Path.{_≡_, _∙_, ap}
 use mathlib.Core.Logic.{_≢_}
-use mathlib.Core.Bool.{Bool, true, false, _||_, true≢false}
+use mathlib.Core.Bool.{false}
 use lib.Arith.{digits-lt, digits-div, digits-mod}
 use lib.Dec.{eqb, ltb}
 use borrow.Author.Tests.{eqb-false, ltb-false, ne-eqb, le-ltb}
 use mir.Syntax.{w64}
 use mir.Val.{Fits}
+use Rattle.lists.proofs.TestLaws.{neither}
 use Rattle.grid.specs.Sides.{cellOf, columnOf, rowOf, Coordinates, badSide, badSides, InRange}
 use Rattle.grid.specs.Directions.{Place}
 
@@ -60,10 +61,6 @@ coordinates w h =
     }
 
 -- what refusal 1 leaves, both ways
-pub neither : (a b : Bool) → (a || b) ≡ false → (a ≡ false) × (b ≡ false)
-neither true b e = absurd (true≢false e)
-neither false b e = (refl, e)
-
 good-side : (s : ℕ) → badSide s ≡ false → (1 ≤ s) × (s ≤ 4096)
 good-side s e =
     let t = neither (eqb s 0) (ltb 4096 s) e in

@@ -1,4 +1,4 @@
-// The grid that every call works on: sides, cells, the eight neighbours, base level, and the first height that is not finite.
+// The grid that every call works on: sides, cells, the eight neighbours, base level, the first height that is not finite, and a copy of heights.
 use floats::is_finite;
 ghost use mathlib.Core.Path.{_≡_};
 ghost use mathlib.Core.Bool.{_||_};
@@ -133,4 +133,17 @@ pub fn all_finite(g: Sides, hs: &[f32]) -> bool
     ensures { λ r. ⌜ r ≡ allFinite (now (hs .entry)) ⌝ }
 {
     first_not_finite(g, hs) == hs.len()
+}
+
+// Copies the heights of a map, for a pass to change.
+pub fn copy_heights(hmap: &[f32], out: &mut [f32])
+    requires { ⌜ length (now out) ≡ length (now hmap) ⌝ }
+    ensures { λ _. ⌜ now (out .exit) ≡ now (hmap .entry) ⌝ }
+{
+    let n = hmap.len();
+    let mut i: usize = 0;
+    while i < n {
+        out[i] = hmap[i];
+        i += 1;
+    }
 }

@@ -2,7 +2,7 @@
 use Prim.Native.Nat.{ℕ, _+_, _*_, _<_}
 use mathlib.Core.Path.{_≡_, refl, sym, ap, _∙_, subst}
 use mathlib.Core.Bool.{Bool, true, false}
-use mathlib.Core.Logic.{_⊎_, inl, inr}
+use mathlib.Core.Logic.{inl, inr}
 use mathlib.Core.List.{List}
 use native.Mathlib.Omega.{arith}
 use lib.ListN.{length, getD}
@@ -16,8 +16,8 @@ use Rattle.drainage.specs.Ground.{floats, gridGround}
 use Rattle.drainage.specs.Theorems.{Network}
 use Rattle.drainage.proofs.TallyLaws.{same-or-not}
 use Rattle.drainage.proofs.GroundLaws.{grid-networks}
-use Rattle.lent.specs.Lent.{goodReceiver}
-use Rattle.lent.proofs.ReceiverLaws.{good-own, good-near}
+use Rattle.lent_receivers.specs.Receivers.{goodReceiver}
+use Rattle.lent_receivers.proofs.ReceiverLaws.{good-own, good-near}
 use Rattle.flood.specs.Slices.{Accepted}
 use Rattle.flow.specs.Route.{receiversOf, Holding}
 use Rattle.flow.proofs.NetLaws.{downward}

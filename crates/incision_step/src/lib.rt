@@ -8,7 +8,7 @@ use fluvial_erosion::incise_along;
 use generators::ask;
 use grid::Sides;
 use grid::all_finite;
-use thermal_erosion::copy_heights;
+use grid::copy_heights;
 ghost use mathlib.Core.Path.{_≡_};
 ghost use Prim.Native.Nat.{_*_};
 ghost use Rattle.flood.specs.Slices.{Accepted};

@@ -1,4 +1,6 @@
--- Laws of the definitions in specs/Loops.antt.
+-- Laws of the definitions in specs/, and of the tests by which loops and functions choose.
+pub mod TestLaws
 pub mod TurnLaws
 pub mod TableLaws
 pub mod FillLaws
+pub mod FirstLaws

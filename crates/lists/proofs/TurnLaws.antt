@@ -1,7 +1,6 @@
 -- Laws of `turns`: it starts with the state given, one turn more is one step more, steps that agree below n agree, and a state that a step keeps stays.
-use Prim.Native.Nat.{ℕ, zero, suc, _+_, _*_, _≤_, _<_}
-use mathlib.Core.Path.{_≡_, refl, sym, ap, _∙_, subst}
-use native.Mathlib.Nat.{lt-of-lt-of-le, le-suc, le-refl}
+use Prim.Native.Nat.{ℕ, zero, suc, _+_, _*_, _<_}
+use mathlib.Core.Path.{_≡_, refl, ap, _∙_}
 use native.Mathlib.Numerals.{add-one}
 use native.Mathlib.Omega.{arith}
 use Rattle.lists.specs.Loops.{turns}

@@ -1,2 +1,3 @@
 -- What loops compute, said once for all of them.
 pub mod Loops
+pub mod Firsts

@@ -1,8 +1,8 @@
 -- The records of the output, written one behind the other.
 use Prim.Native.Nat.{ℕ, zero, suc, _+_, _*_, _≤_, _<_}
-use mathlib.Core.Path.{_≡_, refl, sym, ap, ap₂, _∙_}
-use mathlib.Core.Bool.{Bool, true, false, _&&_}
-use mathlib.Core.List.{List, [], _∷_, _++_}
+use mathlib.Core.Path.{_≡_, refl, sym, ap, _∙_}
+use mathlib.Core.Bool.{false}
+use mathlib.Core.List.{List, _++_}
 use native.Mathlib.Nat.{mul-le-mul, mul-comm, zero-mul}
 use native.Mathlib.Numerals.{add-one}
 use native.Mathlib.Omega.{arith}
@@ -18,7 +18,7 @@ use Rattle.answers.specs.declared.Refusal.{Refusal}
 use Rattle.answers.specs.declared.Refusal.the-variants.{Side, ReducedSide, Length, Setting, Height, Receiver, List as LentList, Stream, Cells, Stopped, RunOff}
 use Rattle.stream_bytes.specs.Bytes.{bytes2, bytes4, gridMark, rowMark, endMark}
 use Rattle.stream_bytes.proofs.PutLaws.{sets-next}
-use Rattle.output.specs.Output.{gridRecord, heightBytes, rowRecord, rowRecords, endRecord, forInput, rowsLength}
+use Rattle.output.specs.Output.{gridRecord, heightBytes, rowRecord, rowRecords, endRecord, forInput}
 
 -- every number of document 01 is small
 number-small : (r : Refusal) → numberOf r < 65536

@@ -1,6 +1,6 @@
 -- Document 01, 'The stream': the bytes that go out. The grid record, the rows, and 45 4E with the refusal number or 0 (two bytes), incisions, passes,
 -- questions (four each). On 1 to 9 only 45 4E comes, counts 0.
-use Prim.Native.Nat.{ℕ, zero, suc, _+_, _*_, _≤_}
+use Prim.Native.Nat.{ℕ, zero, suc, _+_, _*_}
 use mathlib.Core.Path.{_≡_}
 use mathlib.Core.Bool.{Bool, not, _&&_, _||_, cond}
 use mathlib.Core.List.{List, [], _++_}

@@ -1,7 +1,7 @@
 -- What a whole run knows of an input that it accepts: its sides, its working sides, and its iterations.
 use Prim.Native.Nat.{ℕ, _*_, _≤_}
 use mathlib.Core.Path.{_≡_, sym, subst}
-use mathlib.Core.Bool.{Bool, true, false, not, _||_, true≢false}
+use mathlib.Core.Bool.{Bool, false, not, _||_}
 use mathlib.Core.List.{List}
 use native.Mathlib.Nat.{mul-le-mul}
 use native.Mathlib.Omega.{arith}
@@ -9,6 +9,7 @@ use borrow.Author.Tests.{ltb-false}
 use lib.Dec.{ltb}
 use lib.Ieee.{Float, binary32, ofBits, neg}
 use lib.Ieee.Scale.{finite}
+use Rattle.lists.proofs.TestLaws.{fourth}
 use Rattle.answers.specs.Outcome.{outsideOf}
 use Rattle.grid.specs.Sides.{InRange}
 use Rattle.grid.specs.declared.Sides.{Sides}
@@ -33,22 +34,15 @@ pub accepted-within : {w h : ℕ} {bad : Bool} {map : List Float} {scratch : ℕ
     → Within w h (work .w) (work .h)
 accepted-within {w} {h} a res e = subst (λ (g : Sides). Within w h (g .w) (g .h)) (sym e) (work-within w h res (in-range (a .sides)))
 
--- the last of some tests none of which was met
-last-of : (a b c d : Bool) → (a || (b || (c || d))) ≡ false → d ≡ false
-last-of true b c d e = absurd (true≢false e)
-last-of false true c d e = absurd (true≢false e)
-last-of false false true d e = absurd (true≢false e)
-last-of false false false d e = e
-
 pub thermal-iterations : (s : ThermalSettings) → badThermal s ≡ false → s .iterations ≤ 4096
 thermal-iterations s e =
-    ltb-false 4096 (s .iterations) (last-of (not (finite (s .«water_level»))) (notShare (s .talus)) (notShare (s .strength)) (ltb 4096 (s .iterations)) e)
+    ltb-false 4096 (s .iterations) (fourth (not (finite (s .«water_level»))) (notShare (s .talus)) (notShare (s .strength)) (ltb 4096 (s .iterations)) e)
 
 pub fluvial-iterations : (s : FluvialSettings) → badFluvial s ≡ false → s .iterations ≤ 4096
 fluvial-iterations s e =
     ltb-false 4096 (s .iterations)
-    (last-of false badUplift false (ltb 4096 (s .iterations))
-    (last-of (not (finite (s .«water_level»))) (notShare (s .strength)) (notShare (s .talus)) (badUplift || ltb 4096 (s .iterations)) e))
+    (fourth false badUplift false (ltb 4096 (s .iterations))
+    (fourth (not (finite (s .«water_level»))) (notShare (s .strength)) (notShare (s .talus)) (badUplift || ltb 4096 (s .iterations)) e))
   where
     badUplift : Bool
     badUplift = outsideOf (s .uplift) (neg (ofBits binary32 0x3f80_0000)) (ofBits binary32 0x3f80_0000)

@@ -1,5 +1,5 @@
 -- Laws of the plans' numbers.
-use Prim.Native.Nat.{ℕ, max, min, _^_, _≤_, _<_}
+use Prim.Native.Nat.{ℕ, max, _^_, _≤_, _<_}
 use mathlib.Core.Path.{_≡_}
 use native.Mathlib.Omega.{arith}
 use lib.Dec.{T, le→leb}

@@ -1,5 +1,5 @@
 -- What a whole run refuses is what Refusals.antt says, and what an accepted input is known by.
-use Prim.Native.Nat.{ℕ, suc, _*_, _≤_}
+use Prim.Native.Nat.{ℕ, _*_}
 use mathlib.Core.Path.{_≡_, refl}
 use mathlib.Core.Bool.{Bool, true, false, not, _||_, cond}
 use mathlib.Core.List.{List}
@@ -8,11 +8,11 @@ use borrow.Author.Tests.{eqb-true, ltb-false, le-ltb, not-false}
 use lib.ListN.{length}
 use lib.Dec.{eqb, ltb}
 use lib.Ieee.{Float}
+use Rattle.lists.proofs.TestLaws.{neither}
 use Rattle.answers.specs.Outcome.{Outcome, gives, refused, refusedAt}
 use Rattle.grid.specs.Sides.{badSides}
 use Rattle.grid.specs.Heights.{firstNotFinite, allFinite}
-use Rattle.grid.proofs.SidesLaws.{good-sides, neither}
-use Rattle.runs.specs.Refusals.{refusalBy}
+use Rattle.grid.proofs.SidesLaws.{good-sides}
 use Rattle.plans.specs.Accepted.{refusalOn, numberOf, SameRefusal, Accepted}
 
 pub same-refusal : SameRefusal

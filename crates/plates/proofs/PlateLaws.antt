@@ -10,7 +10,9 @@ use Rattle.generators.specs.Marks.{reportOf}
 use Rattle.drainage.specs.Flood.{start, step, leastWaiting, pushAll, floodAfter}
 use Rattle.drainage.specs.Receivers.{receivers, receiverOf, steepestOf, directionTo}
 use Rattle.drainage.specs.Ways.{areasAlong, times}
-use Rattle.lent.specs.Lent.{firstFailing, goodReceiver, goodEntry}
+use Rattle.lists.specs.Firsts.{firstFailing}
+use Rattle.lent_receivers.specs.Receivers.{goodReceiver}
+use Rattle.lent_list.specs.Entries.{goodEntry}
 use Rattle.fluvial_erosion.specs.Incision.{incisedBy, inciseAlong}
 use Rattle.talus.specs.Talus.{shedStep, shedOf, gainStep, gainsOf, slideCell, slideRow}
 use Rattle.thermal_erosion.specs.SlidePass.{rowsOf}

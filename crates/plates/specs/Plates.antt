@@ -6,7 +6,6 @@ use lib.ListN.{getD, replicate}
 use lib.IntN.{pos}
 use lib.Ieee.{Float, nan, binary32, ofBits, ofInt}
 use Rattle.answers.specs.Outcome.{Outcome, gives, refused, refusedAt}
-use Rattle.grid.specs.declared.Sides.{Sides}
 use Rattle.generators.specs.Marks.{fresh}
 use Rattle.flow.specs.Route.{lentOf, routeAnswer, orderOf, floodOf, receiversOf, areasOf}
 use Rattle.fluvial_erosion.specs.Incise.{inciseRefusal, inciseAnswer, incised}

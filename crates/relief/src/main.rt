@@ -2,8 +2,7 @@
 use output::Written;
 use stream_run::relief;
 ghost use mathlib.Core.Path.{_≡_};
-ghost use Prim.Native.Nat.{_≤_};
-ghost use lib.ListN.{length, take};
+ghost use lib.ListN.{length};
 
 // One byte more than the longest accepted stream has: of a longer input these decide (LongInput in crates/stream_run/specs).
 fn input_room() -> [u8; 24613]

@@ -1,7 +1,7 @@
 -- Lists that are not the flood's meet the premise of demand 3.
 use Prim.Native.Nat.{ℕ, zero, suc, _≤_, _<_}
-use mathlib.Core.Path.{_≡_, refl, sym, ap, _∙_, subst}
-use mathlib.Core.Bool.{Bool, true, false}
+use mathlib.Core.Path.{_≡_, refl, ap, _∙_}
+use mathlib.Core.Bool.{true}
 use mathlib.Core.List.{List, [], _∷_, _++_}
 use native.Mathlib.Nat.{lt-of-not-le}
 use native.Mathlib.Omega.{arith}
@@ -31,8 +31,8 @@ use Rattle.resample.specs.WorkSize.{workSize, scaledSide}
 use Rattle.resample.specs.Blocks.{downsampled, averageOf}
 use Rattle.runs.specs.Machine as Machine
 use Rattle.runs.specs.Machine.{after}
-use Rattle.runs.specs.Run.{runBy, lent, orderOn, receiversOn, incisionBy}
-use Rattle.runs.specs.Demand3.{groundOf, courseOf, RunRoutes}
+use Rattle.runs.specs.Run.{runBy, lent, receiversOn, incisionBy}
+use Rattle.runs.specs.Demand3.{groundOf, RunRoutes}
 use Rattle.runs.specs.Controls.{settings, map, lists, second, OtherLists}
 use Rattle.runs.proofs.SoundLaws.{Sized}
 use Rattle.runs.proofs.Demand3Laws.{Accepted, routed-sound}

@@ -1,14 +1,13 @@
 -- An incision of binary32 heights gives as many binary32 heights.
 use Prim.Native.Nat.{ℕ}
-use mathlib.Core.Path.{_≡_, _∙_}
+use mathlib.Core.Path.{_∙_}
 use mathlib.Core.Bool.{Bool, true, false, cond}
 use mathlib.Core.List.{List, [], _∷_}
 use lib.Dec.{T}
-use lib.ListN.{length, getD, set, length-set}
+use lib.ListN.{getD, set, length-set}
 use lib.IntN.{pos}
 use lib.Ieee.{Float, nan, binary32, fits, le, ofInt}
 use lib.Ieee.Fits.{div-fits}
-use Rattle.float_order.specs.Fit.{Fit}
 use Rattle.float_order.proofs.FitLaws.{fit-set}
 use Rattle.drainage.specs.Ground.{Ground}
 use Rattle.drainage.specs.Receivers.{distanceTo}

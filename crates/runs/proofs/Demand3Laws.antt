@@ -1,7 +1,7 @@
 -- Demand 3, whole.
-use Prim.Native.Nat.{ℕ, _*_, _/_, _%_, _≤_, _<_}
+use Prim.Native.Nat.{ℕ, _*_, _/_, _%_, _<_}
 use mathlib.Core.Path.{_≡_, refl, sym, ap, ap₂, _∙_, subst}
-use mathlib.Core.Bool.{Bool, true, false, not, _&&_, _||_, cond}
+use mathlib.Core.Bool.{Bool, true, false, not, _&&_, cond}
 use mathlib.Core.List.{List}
 use native.Mathlib.Omega.{arith}
 use lib.ListN.{length}
@@ -9,13 +9,12 @@ use lib.Dec.{T, eqb}
 use lib.Ieee.{Float, binary32, fits}
 use lib.Ieee.Fits.{div-fits}
 use borrow.Author.Tests.{eqb-true}
+use Rattle.lists.proofs.TestLaws.{both}
 use Rattle.float_order.specs.Fit.{Fit}
 use Rattle.grid.specs.Sides.{InRange, badSides}
 use Rattle.grid.specs.Heights.{allFinite}
 use Rattle.grid.proofs.SidesLaws.{cells-bound}
-use Rattle.drainage.specs.Ground.{Ground, gridGround}
 use Rattle.drainage.specs.Ways.{WorkList}
-use Rattle.fluvial_erosion.specs.Incision.{incisedBy}
 use Rattle.fluvial_erosion.proofs.IndependenceLaws.{independent}
 use Rattle.talus.proofs.TalusLaws.{row-length, row-fit}
 use Rattle.resample.specs.WorkSize.{workSize, Within}
@@ -23,10 +22,10 @@ use Rattle.resample.specs.Blocks.{averageOf, downsampled}
 use Rattle.resample.proofs.WorkLaws.{work-within}
 use Rattle.upsample.specs.Samples.{asSource}
 use Rattle.runs.specs.Plan.{fluvialPlan}
-use Rattle.runs.specs.Machine.{Course, State, after, steps, finished}
+use Rattle.runs.specs.Machine.{State, after, steps, finished}
 use Rattle.runs.specs.Run.{Choice, ours, lent, orderOn, receiversOn, incisionBy, runBy, Ran, ranAs, addedBack}
-use Rattle.runs.specs.Refusals.{refusalBy, fluvialRefusal, badFluvial}
-use Rattle.runs.specs.Demand3.{Routes, Drained, groundOf, courseOf, beginsWith, RunRoutes, Alike, Demand3}
+use Rattle.runs.specs.Refusals.{refusalBy, badFluvial}
+use Rattle.runs.specs.Demand3.{Routes, groundOf, courseOf, beginsWith, RunRoutes, Alike, Demand3}
 use Rattle.runs.specs.declared.FluvialSettings.{FluvialSettings}
 use Rattle.runs.proofs.SameLaws.{after-same}
 use Rattle.runs.proofs.SoundLaws.{Sized, sized-tabulate, Sound, after-sound}
@@ -76,14 +75,6 @@ module _ (w h : ℕ) (s : FluvialSettings) (stop : ℕ) (map : List Float) (fit 
 
   own-sides : own ≡ true → (dw ≡ w) × (dh ≡ h)
   own-sides e = (eqb-true dw w (both (eqb dw w) (eqb dh h) e .0), eqb-true dh h (both (eqb dw w) (eqb dh h) e .1))
-    where
-      both : (a b : Bool) → a && b ≡ true → (a ≡ true) × (b ≡ true)
-      both true b e = (refl, e)
-      both false b e = (e, true-of b e)
-        where
-          true-of : (b : Bool) → false ≡ true → b ≡ true
-          true-of true e = refl
-          true-of false e = e
 
   abbrev small : List Float
   small = downsampled map w h dw dh

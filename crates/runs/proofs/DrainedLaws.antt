@@ -1,18 +1,18 @@
 -- A routing of finite binary32 heights on a grid in range is drained along any work list of its receivers.
 use Prim.Native.Nat.{ℕ, _*_, _<_}
-use mathlib.Core.Path.{_≡_, refl, sym, ap, _∙_, subst}
+use mathlib.Core.Path.{_≡_, refl, sym, _∙_}
 use mathlib.Core.Bool.{Bool, true, false}
 use mathlib.Core.List.{List}
-use lib.ListN.{length, getD}
+use lib.ListN.{getD}
 use lib.Dec.{eqb}
-use lib.Ieee.{Float, nan}
-use borrow.Author.Tests.{eq-eqb, ne-eqb, eqb-true}
+use lib.Ieee.{Float}
+use borrow.Author.Tests.{eq-eqb, ne-eqb}
 use Rattle.float_order.specs.Order.{rank}
 use Rattle.grid.specs.Sides.{InRange}
 use Rattle.grid.specs.Heights.{allFinite}
 use Rattle.grid.proofs.SidesLaws.{cells-bound}
-use Rattle.drainage.specs.Ground.{Ground, floats, gridGround}
-use Rattle.drainage.specs.Ways.{WorkList, areaOf, sumBelow}
+use Rattle.drainage.specs.Ground.{floats, gridGround}
+use Rattle.drainage.specs.Ways.{WorkList, areaOf}
 use Rattle.drainage.specs.Theorems.{Network, Areas}
 use Rattle.drainage.proofs.GroundLaws.{grid-networks}
 use Rattle.drainage.proofs.AreaLaws.{areas}

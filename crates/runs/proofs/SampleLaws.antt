@@ -1,10 +1,10 @@
 -- Document 01's sample of `relief`, by computation.
 use Prim.Native.Nat.{ℕ}
 use mathlib.Core.Path.{_≡_, refl}
-use mathlib.Core.List.{List, [], _∷_}
-use lib.Ieee.{Float, binary32, ofBits, toBits, ofInt, round, add, sub, mul, div, lt, le, toUnsigned}
+use mathlib.Core.List.{[], _∷_}
+use lib.Ieee.{binary32, ofBits, toBits, ofInt, round, add, sub, mul, div, lt, le, toUnsigned}
 use Rattle.lists.specs.Loops.{turns, tabulate}
-use Rattle.floats.specs.Stand.{truncOf, ceilOf, roundOf}
+use Rattle.floats.specs.Stand.{ceilOf, roundOf}
 use Rattle.grid.specs.Directions.{neighbourOf}
 use Rattle.grid.specs.Heights.{firstNotFinite, allFinite}
 use Rattle.square_root.specs.Root.{rootOf, nearestRoot, wholeRoot, digits}

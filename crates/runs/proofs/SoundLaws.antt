@@ -1,8 +1,8 @@
 -- In every state of a run the heights are those of the grid: as many as its cells, all binary32 values, all finite.
-use Prim.Native.Nat.{ℕ, zero, suc, _≤_, _<_}
+use Prim.Native.Nat.{ℕ, zero, suc, _≤_}
 use native.Mathlib.Decide.{decLe}
 use native.Mathlib.Nat.{lt-of-not-le}
-use mathlib.Core.Path.{_≡_, refl, sym, ap, _∙_, subst}
+use mathlib.Core.Path.{_≡_, refl, sym, subst}
 use mathlib.Core.Bool.{Bool, true, false, not, _||_, cond}
 use mathlib.Core.List.{List}
 use lib.ListN.{length, getD, List·getD-eq-default}
@@ -17,7 +17,7 @@ use Rattle.generators.specs.Marks.{reportOf}
 use Rattle.generators.specs.declared.Progress.{Progress}
 use Rattle.talus.specs.Talus.{slideRow}
 use Rattle.thermal_erosion.specs.SlidePass.{fractionOf}
-use Rattle.runs.specs.Machine.{Course, State, start, endedBy, cut, slid, closed, openStep, rowStep, step, after}
+use Rattle.runs.specs.Machine.{Course, State, endedBy, cut, slid, closed, openStep, rowStep, step, after}
 use Rattle.runs.proofs.SameLaws.{after-none, after-more}
 
 -- n binary32 values

@@ -1,9 +1,9 @@
 -- Demand 3 as one claim about the whole run with all its lists, in the words of document 01, 'The other run of demand 3'.
-use Prim.Native.Nat.{ℕ, _*_, _<_, _≤_}
+use Prim.Native.Nat.{ℕ, _<_}
 use mathlib.Core.Path.{_≡_}
-use mathlib.Core.Bool.{Bool, true, false, _&&_, cond}
+use mathlib.Core.Bool.{true, false, _&&_, cond}
 use mathlib.Core.List.{List}
-use lib.ListN.{length, getD}
+use lib.ListN.{getD}
 use lib.Dec.{eqb}
 use lib.Ieee.{Float, nan, binary32, ofInt}
 use lib.IntN.{pos}
@@ -18,7 +18,7 @@ use Rattle.drainage.specs.Chains.{LeastCrest}
 use Rattle.resample.specs.WorkSize.{workSize}
 use Rattle.resample.specs.Blocks.{downsampled}
 use Rattle.runs.specs.Plan.{fluvialPlan}
-use Rattle.runs.specs.Machine.{Course, State, after}
+use Rattle.runs.specs.Machine.{Course, after}
 use Rattle.runs.specs.Run.{Choice, ours, lent, orderOn, receiversOn, fluvialCourse, runBy}
 use Rattle.runs.specs.Refusals.{fluvialRefusal}
 use Rattle.runs.specs.declared.FluvialSettings.{FluvialSettings}

@@ -1,7 +1,7 @@
 -- A run on its working grid as the iteration of one step on a state. A step is the question, routing and incision that open an iteration, or one
 -- row of a talus pass with its question; the last row of a pass also closes it. So a run may be cut after any step and taken up again.
-use Prim.Native.Nat.{ℕ, suc, _+_, _*_}
-use mathlib.Core.Bool.{Bool, false, not, _||_, cond}
+use Prim.Native.Nat.{ℕ, suc, _*_}
+use mathlib.Core.Bool.{Bool, not, _||_, cond}
 use mathlib.Core.List.{List}
 use lib.Dec.{eqb, leb, ltb}
 use lib.Ieee.{Float}

@@ -1,6 +1,5 @@
 -- Document 01, 'Whole runs': the settings converted to the working grid.
 use Prim.Native.Nat.{ℕ, max}
-use mathlib.Core.List.{List}
 use lib.IntN.{pos}
 use lib.Ieee.{Float, binary32, ofBits, ofInt, sub, mul, div, toUnsigned}
 use Rattle.floats.specs.Stand.{ceilOf}

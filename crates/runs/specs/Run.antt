@@ -1,7 +1,7 @@
 -- Whole runs of document 01 on a map: full-grid, or on a reduced grid with the difference added back. `runBy` takes the work list of each
 -- iteration as an argument; ours is `runBy` with the flood's own order.
-use Prim.Native.Nat.{ℕ, _+_, _*_}
-use mathlib.Core.Bool.{Bool, true, false, _&&_, cond}
+use Prim.Native.Nat.{ℕ, _+_}
+use mathlib.Core.Bool.{true, false, _&&_, cond}
 use mathlib.Core.List.{List}
 use lib.ListN.{getD, length}
 use lib.IntN.{pos}
@@ -9,7 +9,6 @@ use lib.Dec.{eqb}
 use lib.Ieee.{Float, nan, binary32, ofBits, ofInt, add, sub, mul, div}
 use Rattle.lists.specs.Loops.{tabulate}
 use Rattle.grid.specs.Heights.{allFinite}
-use Rattle.grid.specs.declared.Sides.{Sides}
 use Rattle.drainage.specs.Ground.{Ground, floats, gridGround}
 use Rattle.drainage.specs.Flood.{flooded}
 use Rattle.drainage.specs.Receivers.{receivers}

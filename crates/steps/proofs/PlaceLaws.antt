@@ -6,15 +6,14 @@ use native.Mathlib.Decide.{decLt, ℕ-discrete}
 use mathlib.Core.Path.{_≡_, refl, sym, ap, _∙_, subst}
 use mathlib.Core.Logic.{_≢_, _⊎_, inl, inr}
 use mathlib.Core.Bool.{Bool, true, false, cond}
-use lib.IntN.{ℤ, pos, negsuc, natAbs}
 use lib.ListN.{getD}
-use lib.Dec.{eqb, ltb, lit≤}
+use lib.Dec.{eqb, ltb}
 use lib.Ieee.{Float, nan, binary32, ofBits}
-use borrow.Author.Tests.{lt-ltb, le-ltb, eq-eqb, ne-eqb, ltb-true}
+use borrow.Author.Tests.{lt-ltb, le-ltb, eq-eqb, ne-eqb}
 use Rattle.grid.specs.Sides.{cellOf, columnOf, rowOf}
-use Rattle.grid.specs.Directions.{shiftedOf, Adjacent}
-use Rattle.grid.proofs.SidesLaws.{cell-back, column-lt}
-use Rattle.grid.proofs.NeighbourLaws.{stepX, stepY, each-direction, inside-beside}
+use Rattle.grid.specs.Directions.{Adjacent}
+use Rattle.grid.proofs.SidesLaws.{cell-back}
+use Rattle.grid.proofs.NeighbourLaws.{stepX, stepY, inside-beside, small-steps, close-step}
 use Rattle.ways.specs.Apart.{apart}
 use Rattle.steps.specs.Step.{distanceTable, gap, narrowPlace, placeOf, Near}
 
@@ -141,28 +140,11 @@ module _ (w i r : ℕ) where
     place-across k = rw (le-ltb w 3 l, ← e, le-ltb g 2 k)
 
 -- ---- a receiver is near
-close : (x : ℕ) (z : ℤ) (side n : ℕ) → natAbs z ≤ 1 → shiftedOf x z side ≡ n → n < side → (x ≤ n + 1) × (n ≤ x + 1)
-close x (pos k) side n s e l = go (ltb (x + k) side) e
-  where
-    go : (b : Bool) → cond b (x + k) side ≡ n → (x ≤ n + 1) × (n ≤ x + 1)
-    go true e = (omega arith, omega arith)
-    go false e = absurd (omega arith)
-close x (negsuc k) side n s e l = go (ltb k x) refl e
-  where
-    go : (b : Bool) → ltb k x ≡ b → cond b (x - suc k) side ≡ n → (x ≤ n + 1) × (n ≤ x + 1)
-    go true t e = let q : k < x = ltb-true k x t in (omega arith, omega arith)
-    go false t e = absurd (omega arith)
-
-small-steps : (d : ℕ) → 1 ≤ d → d ≤ 8 → (natAbs (stepX d) ≤ 1) × (natAbs (stepY d) ≤ 1)
-small-steps =
-    each-direction (λ d. (natAbs (stepX d) ≤ 1) × (natAbs (stepY d) ≤ 1)) (lit≤ tt, lit≤ tt) (lit≤ tt, lit≤ tt) (lit≤ tt, lit≤ tt) (lit≤ tt, lit≤ tt)
-    (lit≤ tt, lit≤ tt) (lit≤ tt, lit≤ tt) (lit≤ tt, lit≤ tt) (lit≤ tt, lit≤ tt)
-
 pub near-of : {w h c r : ℕ} → 0 < w → w ≤ 4096 → (r ≡ c) ⊎ Adjacent w h c r → Near w c r
 near-of some wide (inl e) = rw e (record { some = some; wide = wide; west = omega arith; east = omega arith; north = omega arith; south = omega arith })
 near-of {w} {h} {c} {r} some wide (inr a) =
     let b = inside-beside w h c r (a .direction) (a .inside) (a .leads) in
     let s = small-steps (a .direction) (a .first) (a .last) in
-    let x = close (columnOf w c) (stepX (a .direction)) w (columnOf w r) (s .0) (b .column) (b .columns) in
-    let y = close (rowOf w c) (stepY (a .direction)) h (rowOf w r) (s .1) (b .row) (b .rows) in
+    let x = close-step (columnOf w c) (stepX (a .direction)) w (columnOf w r) (s .0) (b .column) (b .columns) in
+    let y = close-step (rowOf w c) (stepY (a .direction)) h (rowOf w r) (s .1) (b .row) (b .rows) in
     record { some = some; wide = wide; west = x .0; east = x .1; north = y .0; south = y .1 }

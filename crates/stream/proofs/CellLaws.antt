@@ -1,10 +1,9 @@
 -- The heights of a stream: each stands inside it; the first that is not finite; and the map that they fill.
 use Prim.Native.Nat.{ℕ, suc, _+_, _*_, _^_, _%_, _/_, _≤_, _<_}
-use mathlib.Core.Path.{_≡_, refl, sym, ap, subst, _∙_}
+use mathlib.Core.Path.{_≡_, sym, ap, subst, _∙_}
 use mathlib.Core.Bool.{Bool, true, false, not}
 use mathlib.Core.List.{List}
 use native.Mathlib.Nat.{mul-le-mul}
-use native.Mathlib.Numerals.{add-one}
 use native.Mathlib.Omega.{arith}
 use borrow.Author.Tests.{not-true, not-false}
 use lib.ListN.{length, getD}
@@ -12,10 +11,10 @@ use lib.Ieee.{Float, nan}
 use lib.Ieee.Scale.{finite}
 use Rattle.lists.proofs.TableLaws.{length-tabulate, getD-tabulate}
 use Rattle.lists.proofs.FillLaws.{Filling, filling-done}
-use Rattle.grid.specs.Heights.{firstNotFinite, FiniteBelow, FirstBad}
+use Rattle.grid.specs.Heights.{firstNotFinite, FiniteBelow}
 use Rattle.grid.proofs.SidesLaws.{column-lt, row-lt, cells-bound}
 use Rattle.grid.proofs.HeightsLaws.{below-none, below-more, first-at, first-none}
-use Rattle.stream.specs.Stream.{rowLength, rowAt, cellAt, heightsAt, Framed}
+use Rattle.stream.specs.Stream.{rowLength, cellAt, heightsAt, Framed}
 
 module _ {s : List ℕ} {rows w h : ℕ} (f : Framed s rows w h) where
   pub cells-few : w * h ≤ 2 ^ 24

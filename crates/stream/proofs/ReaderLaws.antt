@@ -1,12 +1,13 @@
 -- The header of a whole stream, and the order in which a stream is refused.
-use Prim.Native.Nat.{ℕ, _+_, _*_, _≤_, _<_}
-use mathlib.Core.Path.{_≡_, refl, sym, ap, ap₂, subst, _∙_}
+use Prim.Native.Nat.{ℕ, _+_, _*_, _≤_}
+use mathlib.Core.Path.{_≡_, refl, sym, ap, subst, _∙_}
 use mathlib.Core.Bool.{Bool, true, false, not, _&&_, _||_, cond, true≢false}
 use mathlib.Core.List.{List}
 use native.Mathlib.Omega.{arith}
 use borrow.Author.Tests.{ltb-false, eqb-true, eqb-false, ne-eqb, eq-eqb, not-false}
 use lib.Dec.{eqb, ltb}
 use lib.ListN.{length}
+use Rattle.lists.proofs.TestLaws.{neither}
 use Rattle.answers.specs.Outcome.{Outcome, gives, refused, refusedAt}
 use Rattle.grid.specs.Sides.{badSides, InRange}
 use Rattle.grid.specs.Heights.{firstNotFinite, allFinite}
@@ -14,20 +15,12 @@ use Rattle.grid.specs.declared.Sides.{Sides}
 use Rattle.grid.proofs.SidesLaws.{good-sides}
 use Rattle.runs.specs.declared.FluvialSettings.{FluvialSettings}
 use Rattle.runs.specs.declared.ThermalSettings.{ThermalSettings}
-use Rattle.stream_bytes.specs.Bytes.{number4, gridMark, fluvialMark, thermalMark, same, markAt, marked}
+use Rattle.stream_bytes.specs.Bytes.{number4, fluvialMark, thermalMark, same, markAt, marked}
 use Rattle.stream.specs.Stream.{Parsed, sidesAt, settingsLength, rowsAt, rowAt, rowsMarked, fluvialAt, thermalAt, fluvialHeader, thermalHeader, headerAt, heightsAt, parsedOf, badGrid, badRest, badSettings, valuesOf, readStream, Framed, Whole}
 use Rattle.stream.specs.declared.Settings.the-variants.{Fluvial, Thermal}
 use Rattle.stream.specs.declared.Header.{Header}
 use Rattle.stream.proofs.RecordLaws.{settings-few}
 use Rattle.stream.proofs.CellLaws.{heights-length}
-
-or-left : (a b : Bool) → (a || b) ≡ false → a ≡ false
-or-left true b e = e
-or-left false b e = refl
-
-or-right : (a b : Bool) → (a || b) ≡ false → b ≡ false
-or-right true b e = absurd (true≢false e)
-or-right false b e = e
 
 module _ {s : List ℕ} {w h : ℕ} (whole : Whole s w h) where
   opened : (eqb (settingsLength (markAt s 6)) 0 || (not (eqb (length s) (rowAt (rowsAt s) w h)) || not (rowsMarked s (rowsAt s) w h))) ≡ false
@@ -35,10 +28,10 @@ module _ {s : List ℕ} {w h : ℕ} (whole : Whole s w h) where
   opened = whole .rest
 
   some-settings : settingsLength (markAt s 6) ≡ 0 → ⊥
-  some-settings = eqb-false (settingsLength (markAt s 6)) 0 (or-left _ _ opened)
+  some-settings = eqb-false (settingsLength (markAt s 6)) 0 (neither _ _ opened .0)
 
   filled-up : length s ≡ rowAt (rowsAt s) w h
-  filled-up = eqb-true (length s) (rowAt (rowsAt s) w h) (not-false _ (or-left _ _ (or-right (eqb (settingsLength (markAt s 6)) 0) _ opened)))
+  filled-up = eqb-true (length s) (rowAt (rowsAt s) w h) (not-false _ (neither _ _ (neither (eqb (settingsLength (markAt s 6)) 0) _ opened .1) .0))
 
   -- the two kinds of settings record, by the mark
   module _ {b : Bool} (e : b ≡ marked s 6 fluvialMark) where
@@ -113,7 +106,7 @@ module _ (limited : Bool) (s : List ℕ) where
   module _ {g : Bool} (eg : g ≡ badGrid s) (fg : g ≡ false) where
     pub read-room : 6 ≤ length s
     unfolding badGrid
-    read-room = ltb-false (length s) 6 (or-left _ _ (sym eg ∙ fg))
+    read-room = ltb-false (length s) 6 (neither _ _ (sym eg ∙ fg) .0)
 
     module _ {size : Sides} (e : size ≡ sidesAt s) where
       pub read-sides : {b : Bool} → b ≡ badSides (size .w) (size .h) → b ≡ true → _≡_ {A = Outcome Parsed} (refused 1) (readStream limited s)

@@ -1,7 +1,7 @@
 -- The records of a stream: its grid record, its settings record and the marks of its rows.
-use Prim.Native.Nat.{ℕ, zero, suc, _+_, _*_, _-_, _≤_, _<_}
+use Prim.Native.Nat.{ℕ, zero, suc, _+_, _*_, _≤_, _<_}
 use mathlib.Core.Path.{_≡_, refl, sym, ap, ap₂, _∙_}
-use mathlib.Core.Bool.{Bool, true, false, not, _&&_, _||_, cond}
+use mathlib.Core.Bool.{Bool, true, false, not, _&&_, cond, and-false}
 use mathlib.Core.Logic.{⊎-elim}
 use mathlib.Core.List.{List}
 use native.Mathlib.Nat.{mul-le-mul}
@@ -9,16 +9,11 @@ use native.Mathlib.Numerals.{add-one}
 use native.Mathlib.Omega.{arith}
 use borrow.Author.Tests.{lt-ltb, le-ltb, eq-eqb, ne-eqb, not-true, not-false}
 use lib.Arith.{lt-of-le-ne}
-use lib.Dec.{eqb, ltb}
 use lib.ListN.{length}
 use Rattle.grid.specs.Sides.{InRange}
 use Rattle.drainage.proofs.TallyLaws.{same-or-not}
 use Rattle.stream_bytes.specs.Bytes.{gridMark, fluvialMark, thermalMark, rowMark, same, markAt, marked}
 use Rattle.stream.specs.Stream.{settingsLength, rowsAt, rowLength, rowAt, rowsMarked, badGrid, badRest, Framed}
-
-and-false : (b : Bool) → (b && false) ≡ false
-and-false true = refl
-and-false false = refl
 
 -- the grid record
 pub grid-short : (s : List ℕ) → length s < 6 → true ≡ badGrid s

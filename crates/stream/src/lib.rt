@@ -12,14 +12,14 @@ use stream_bytes::read_f32;
 use stream_bytes::read_u16;
 use stream_bytes::read_u32;
 ghost use mathlib.Core.Path.{_≡_};
-ghost use mathlib.Core.Bool.{true, false, not, _&&_};
+ghost use mathlib.Core.Bool.{true, false, _&&_};
 ghost use Prim.Native.Nat.{_+_, _*_, _≤_, _<_};
 ghost use lib.Dec.{ltb};
 ghost use lib.ListN.{length};
-ghost use Rattle.grid.specs.Sides.{badSides, InRange};
+ghost use Rattle.grid.specs.Sides.{InRange};
 ghost use Rattle.grid.specs.Heights.{firstNotFinite};
 ghost use Rattle.stream_bytes.specs.Bytes.{markAt};
-ghost use Rattle.stream.specs.Stream.{sidesAt, settingsLength, rowsAt, fluvialHeader, thermalHeader, headerAt, rowLength, rowAt, rowsMarked, heightAt, heightsAt, parsedOf, badGrid, badRest, badSettings, Framed, Whole, fluvialAt, thermalAt, cellAt, valuesOf, readStream, readOf};
+ghost use Rattle.stream.specs.Stream.{sidesAt, settingsLength, headerAt, rowLength, rowsMarked, heightsAt, parsedOf, badGrid, badRest, badSettings, Framed, Whole, fluvialAt, thermalAt, cellAt, valuesOf, readStream, readOf};
 
 // The mark of each record.
 pub const GRID: [u8; 2] = *b"GR";

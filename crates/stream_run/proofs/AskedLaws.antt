@@ -1,18 +1,14 @@
 -- A run that is not refused, with scratch for 4,096 cells.
 use Prim.Native.Nat.{ℕ, _*_, min}
-use mathlib.Core.Path.{_≡_, refl, sym, ap, _∙_}
+use mathlib.Core.Path.{_≡_, sym, ap, _∙_}
 use mathlib.Core.Bool.{Bool}
 use mathlib.Core.List.{List}
-use native.Mathlib.Omega.{arith}
 use borrow.Author.Tests.{eq-eqb, le-ltb}
 use lib.ListN.{length}
 use lib.Ieee.{Float}
 use Rattle.answers.specs.Outcome.{Outcome, gives}
 use Rattle.grid.proofs.SidesLaws.{in-range}
-use Rattle.runs.specs.Run.{Ran, ours, runBy, thermalRun}
-use Rattle.runs.specs.Refusals.{badFluvial, badThermal}
-use Rattle.runs.specs.declared.FluvialSettings.{FluvialSettings}
-use Rattle.runs.specs.declared.ThermalSettings.{ThermalSettings}
+use Rattle.runs.specs.Run.{Ran}
 use Rattle.plans.specs.Accepted.{refusalOn, Accepted}
 use Rattle.erosion.specs.Ending.{Ending, ranTo, endingOf}
 use Rattle.fluvial_run.specs.FluvialRun.{shortestOf}

@@ -1,20 +1,15 @@
 -- The ways through a stream's run, and that the writer behind it writes the bytes of the definition.
-use Prim.Native.Nat.{ℕ, _+_, _-_, _*_, _^_, _≤_, _<_}
+use Prim.Native.Nat.{ℕ, _*_, _≤_, _<_}
 use mathlib.Core.Path.{_≡_, refl, sym, ap, subst, _∙_}
-use mathlib.Core.Bool.{Bool, true, false, cond}
+use mathlib.Core.Bool.{true}
 use mathlib.Core.List.{List, _++_}
-use native.Mathlib.Omega.{arith}
 use borrow.Author.Tests.{lt-ltb, le-ltb}
-use lib.Dec.{ltb}
-use lib.ListN.{length, take, drop, length-append, length-drop}
-use lib.Seq.{take-at}
+use lib.ListN.{length, drop}
 use lib.Ieee.{Float}
-use Rattle.answers.specs.Outcome.{Outcome, gives, refused, refusedAt, refusalOf}
+use Rattle.answers.specs.Outcome.{Outcome, gives, refused, refusalOf}
 use Rattle.answers.specs.declared.Refusal.{Refusal}
 use Rattle.answers.specs.declared.Refusal.the-variants.{Side, ReducedSide, Length, Setting, Height, Receiver, List as LentList, Stream, Cells, Stopped, RunOff}
 use Rattle.grid.specs.Heights.{allFinite}
-use Rattle.grid.specs.declared.Sides.{Sides}
-use Rattle.runs.specs.Run.{Ran}
 use Rattle.plans.specs.Accepted.{Accepted}
 use Rattle.erosion.specs.Ending.{Ending, endedWith, ranTo, refusedTo}
 use Rattle.erosion.specs.declared.RunAnswer.{RunAnswer}
@@ -23,7 +18,6 @@ use Rattle.stream.specs.declared.Settings.{Settings}
 use Rattle.stream.specs.declared.Header.{Header}
 use Rattle.stream.proofs.CellLaws.{heights-length}
 use Rattle.stream_run.specs.StreamRun.{runOf, askedRun, AcceptedStream, StreamEnd, noGrid, refusedEnd, ranEnd, endOf, lentTo, shown}
-use Rattle.stream_run.specs.declared.StreamAnswer.{StreamAnswer}
 
 pub refused-shown : (why : Refusal) (map : List Float) {a : RunAnswer} → a ≡ refusedTo why → shown (record { size = noGrid; run = a }) map ≡ refusedEnd (refusalOf why) map
 refused-shown why map e = ap (λ (a : RunAnswer). record { size = noGrid; ending = endedWith a map }) e

@@ -1,19 +1,19 @@
 -- An input longer than any accepted stream is refused as its first 24,613 bytes are.
-use Prim.Native.Nat.{ℕ, suc, _+_, _*_, _≤_, _<_}
-use mathlib.Core.Path.{_≡_, refl, sym, ap, ap₂, _∙_}
+use Prim.Native.Nat.{ℕ, _+_, _*_, _≤_, _<_}
+use mathlib.Core.Path.{_≡_, refl, ap, ap₂, _∙_}
 use mathlib.Core.Bool.{Bool, true, false, not, _||_, cond}
 use mathlib.Core.List.{List}
 use native.Mathlib.Nat.{mul-le-mul}
 use native.Mathlib.Omega.{arith}
 use borrow.Author.Tests.{ltb-false, le-ltb, ne-eqb}
 use lib.Dec.{eqb, ltb}
-use lib.ListN.{length, getD, take, drop}
+use lib.ListN.{length, take}
 use lib.Seq.{length-take-le, getD-take, take-take}
 use Rattle.answers.specs.Outcome.{Outcome, refused}
 use Rattle.grid.specs.Sides.{badSides, InRange}
 use Rattle.grid.proofs.SidesLaws.{good-sides}
-use Rattle.stream_bytes.specs.Bytes.{number2, same, markAt, marked, gridMark}
-use Rattle.stream.specs.Stream.{Parsed, settingsLength, rowsAt, rowLength, rowAt, rowsMarked, headerAt, parsedOf, badGrid, badRest, valuesOf, readStream}
+use Rattle.stream_bytes.specs.Bytes.{number2, same, markAt, gridMark}
+use Rattle.stream.specs.Stream.{Parsed, settingsLength, rowsAt, rowAt, rowsMarked, headerAt, parsedOf, badGrid, badRest, valuesOf, readStream}
 use Rattle.stream.proofs.RecordLaws.{settings-few}
 use Rattle.stream_run.specs.StreamRun.{outputFrom, reliefOf, LongInput}
 

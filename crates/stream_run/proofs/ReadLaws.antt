@@ -1,18 +1,17 @@
 -- What is known of a stream that is accepted.
 use Prim.Native.Nat.{ℕ, _*_, _≤_}
 use mathlib.Core.Path.{_≡_, refl, sym, ap, subst, _∙_}
-use mathlib.Core.Bool.{Bool, true, false, _&&_, cond, true≢false}
+use mathlib.Core.Bool.{Bool, true, false, cond}
 use mathlib.Core.List.{List}
 use native.Mathlib.Omega.{arith}
 use borrow.Author.Tests.{ltb-false}
 use lib.Dec.{ltb}
-use lib.Ieee.{Float}
 use Rattle.answers.specs.Outcome.{Outcome, gives, refused, refusedAt}
 use Rattle.grid.specs.Sides.{badSides}
 use Rattle.grid.specs.Heights.{firstNotFinite, allFinite}
 use Rattle.grid.specs.declared.Sides.{Sides}
 use Rattle.stream_bytes.specs.Bytes.{number2}
-use Rattle.stream.specs.Stream.{Parsed, sidesAt, headerAt, heightsAt, parsedOf, badGrid, badRest, badSettings, valuesOf, readStream, Framed}
+use Rattle.stream.specs.Stream.{Parsed, headerAt, parsedOf, badGrid, badRest, badSettings, readStream}
 use Rattle.stream.specs.declared.Header.{Header}
 use Rattle.stream.proofs.ReaderLaws.{read-framed, header-size}
 use Rattle.output.specs.Output.{forInput}

@@ -1,5 +1,5 @@
 -- The writer behind the run of a stream writes the bytes of the definition.
-use Prim.Native.Nat.{ℕ, _+_, _-_, _*_, _≤_}
+use Prim.Native.Nat.{ℕ, _+_, _*_, _≤_}
 use mathlib.Core.Path.{_≡_, refl, sym, ap, ap₂, subst, _∙_}
 use mathlib.Core.Bool.{Bool, true, false, not, _||_, cond}
 use mathlib.Core.List.{List, _++_}
@@ -13,14 +13,12 @@ use Rattle.answers.specs.Outcome.{Outcome, gives, refused, refusedAt, numberIn}
 use Rattle.grid.specs.Sides.{badSides}
 use Rattle.grid.specs.declared.Sides.{Sides}
 use Rattle.grid.proofs.SidesLaws.{in-range}
-use Rattle.runs.specs.Run.{Ran}
-use Rattle.erosion.specs.Ending.{Ending, outcomeOf, endedWith}
-use Rattle.erosion.specs.declared.RunAnswer.{RunAnswer}
+use Rattle.erosion.specs.Ending.{outcomeOf}
 use Rattle.stream.specs.Stream.{Parsed, readStream}
 use Rattle.output.specs.Output.{gridRecord, rowRecords, endRecord, forInput, outputOf, outputBy, numberOf, rowsLength, writtenOf, leftOf, writtenBy, Wrote}
 use Rattle.output.specs.declared.Written.{Written}
 use Rattle.output.proofs.OutputLaws.{rows-length}
-use Rattle.stream_run.specs.StreamRun.{askedRun, StreamEnd, refusedEnd, ranEnd, endOf, lentTo, shown, outputFrom, reliefOf, reliefWritten, Relief}
+use Rattle.stream_run.specs.StreamRun.{askedRun, StreamEnd, refusedEnd, ranEnd, endOf, lentTo, shown, outputFrom, reliefOf, Relief}
 use Rattle.stream_run.specs.declared.StreamAnswer.{StreamAnswer}
 use Rattle.stream_run.proofs.ReadLaws.{read-accepted, refused-number, refused-number-at}
 use Rattle.stream_run.proofs.EndLaws.{lent-enough}

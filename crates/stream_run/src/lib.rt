@@ -23,7 +23,7 @@ ghost use Rattle.runs.specs.Refusals.{badFluvial, badThermal};
 ghost use Rattle.plans.specs.Accepted.{Accepted};
 ghost use Rattle.answers.specs.Outcome.{gives, refusalOf};
 ghost use Rattle.erosion.specs.Ending.{endedWith, ranTo};
-ghost use Rattle.stream.specs.Stream.{Parsed, heightsAt, parsedOf, badSettings, readStream};
+ghost use Rattle.stream.specs.Stream.{heightsAt, parsedOf, badSettings, readStream};
 ghost use Rattle.stream_run.specs.StreamRun.{askedRun, AcceptedStream, refusedEnd, endOf, lentTo, shown, Relief};
 
 // What running a stream answers: the sides of its grid, 0 × 0 where it is refused, and the answer of its run.

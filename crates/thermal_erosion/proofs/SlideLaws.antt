@@ -1,7 +1,7 @@
 -- The ends of `slide_pass`, each with its answer, its record and the slice after it.
 use Prim.Native.Nat.{ℕ, _*_, _^_, _≤_}
 use mathlib.Core.Path.{_≡_, refl, sym, ap, _∙_, subst}
-use mathlib.Core.Bool.{Bool, true, false, not, _||_}
+use mathlib.Core.Bool.{Bool, true, false, not}
 use mathlib.Core.List.{List}
 use native.Mathlib.Omega.{arith}
 use borrow.Author.Tests.{eq-eqb, ne-eqb, ltb-false}
@@ -11,12 +11,13 @@ use lib.Ieee.{Float, binary32, ofBits, neg}
 use lib.Ieee.Scale.{finite}
 use mir.Syntax.{w64}
 use mir.Val.{Fits}
+use Rattle.lists.proofs.TestLaws.{fourth}
 use Rattle.answers.specs.Outcome.{refusedAt, outsideOf}
 use Rattle.answers.specs.declared.Answer.{Answer}
 use Rattle.answers.specs.declared.Refusal.{Refusal}
 use Rattle.grid.specs.Sides.{badSides}
 use Rattle.grid.specs.Heights.{firstNotFinite, allFinite}
-use Rattle.grid.proofs.SidesLaws.{cells-fit, good-sides, neither}
+use Rattle.grid.proofs.SidesLaws.{cells-fit, good-sides}
 use Rattle.generators.specs.declared.Progress.{Progress}
 use Rattle.grid.proofs.HeightsLaws.{all-finite, not-all-finite}
 use Rattle.thermal_erosion.specs.SlidePass.{Pass, passOf, Ready, badMarks, badPass, Passed, SlideMade}
@@ -35,9 +36,6 @@ asked-most p from to m e =
     let one : Float = ofBits binary32 0x3f80_0000 in
     let marks : badMarks from to m ≡ false = fourth (outsideOf (p .threshold) zero (ofBits binary32 0x4180_0000)) (outsideOf (p .strength) zero one) (not (finite (p .«water_level»))) _ e in
     ltb-false _ _ (fourth (outsideOf from zero one) (outsideOf to zero one) (outsideOf (m .last) (neg one) one) _ marks)
-  where
-    fourth : (a b c d : Bool) → (a || (b || (c || d))) ≡ false → d ≡ false
-    fourth a b c d e = neither c d (neither b (c || d) (neither a (b || (c || d)) e .1) .1) .1
 
 -- an accepted input is one that a pass takes
 pub slide-ready : (w h map copy : ℕ) (p : ThermalParams) (from to : Float) (m : Progress)

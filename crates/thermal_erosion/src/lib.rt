@@ -8,6 +8,7 @@ use generators::ask;
 use grid::Sides;
 use grid::all_finite;
 use grid::bad_sides;
+use grid::copy_heights;
 use grid::first_not_finite;
 use talus::thresholds;
 use talus_rows::slide_row;
@@ -36,19 +37,6 @@ fn fraction(from: f32, to: f32, h: usize, y: usize) -> f32
     ensures { λ r. ⌜ r ≡ fractionOf from to h y ⌝ }
 {
     from + (to - from) * y as f32 / h as f32
-}
-
-// The heights of the map, for a pass to change.
-pub fn copy_heights(hmap: &[f32], out: &mut [f32])
-    requires { ⌜ length (now out) ≡ length (now hmap) ⌝ }
-    ensures { λ _. ⌜ now (out .exit) ≡ now (hmap .entry) ⌝ }
-{
-    let n = hmap.len();
-    let mut i: usize = 0;
-    while i < n {
-        out[i] = hmap[i];
-        i += 1;
-    }
 }
 
 // One pass with its stop marks, from hmap to out: a question after each row, and an end where one stops. The thresholds are an argument.

@@ -8,6 +8,7 @@ use borrow.Author.Tests.{eqb-true}
 use lib.ListN.{length}
 use lib.Dec.{eqb}
 use lib.Ieee.{Float}
+use Rattle.lists.proofs.TestLaws.{both}
 use Rattle.answers.specs.Outcome.{Outcome, gives, answerOf}
 use Rattle.answers.specs.declared.Answer.{Answer}
 use Rattle.answers.specs.declared.Refusal.{Refusal}
@@ -60,10 +61,6 @@ module _ {w h dw dh : ℕ} (n : Within w h dw dh) where
 -- the end where an average is not finite
 pub halted-fresh : {x r : Reached} {m : Progress} → x ≡ halted 22 m r → m ≡ fresh → r ≡ begun → x ≡ halted 22 (begun .marks) begun
 halted-fresh e f g = e ∙ ap₂ (halted 22) f g
-
-both : (a b : Bool) → (a && b) ≡ true → (a ≡ true) × (b ≡ true)
-both true b e = (refl, e)
-both false b e = absurd (true≢false (sym e))
 
 module _ {w h dw dh : ℕ} {passes map small eroded copy : ℕ} where
   module _ (e : Erodes w h dw dh passes map small eroded copy) where

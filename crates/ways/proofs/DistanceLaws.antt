@@ -1,7 +1,6 @@
 -- The distance from a cell to its receiver is that of the direction which leads there.
 use Prim.Native.Nat.{ℕ, zero, suc, _+_, _-_, _*_, _≤_, _<_}
 use native.Mathlib.Omega.{arith}
-use native.Mathlib.Decide.{ℕ-discrete}
 use mathlib.Core.Path.{_≡_, refl, sym, ap, _∙_}
 use mathlib.Core.Logic.{_≢_, _⊎_, inl, inr}
 use mathlib.Core.Bool.{Bool, true, false, cond}
@@ -13,10 +12,10 @@ use lib.Ieee.{Float, nan, binary32, ofBits}
 use borrow.Author.Tests.{eq-eqb, ne-eqb, eqb-true, eqb-false, ltb-true}
 use Rattle.lists.specs.Loops.{turns}
 use Rattle.grid.specs.Sides.{cellOf, columnOf, rowOf}
-use Rattle.grid.specs.Directions.{shiftedOf, neighbourOf, neighbourAt, Adjacent}
-use Rattle.grid.proofs.SidesLaws.{column-cell, row-cell, column-lt, row-lt}
+use Rattle.grid.specs.Directions.{shiftedOf, neighbourAt, Adjacent}
+use Rattle.grid.proofs.SidesLaws.{column-cell, row-cell}
 use Rattle.grid.proofs.NeighbourLaws.{stepX, stepY, each-direction, Beside, beside, outside-or-beside, neighbour-apart}
-use Rattle.drainage.specs.Ground.{Ground, gridGround, distances}
+use Rattle.drainage.specs.Ground.{gridGround, distances}
 use Rattle.drainage.specs.Receivers.{directionTo, distanceTo}
 use Rattle.ways.specs.Apart.{apart}
 

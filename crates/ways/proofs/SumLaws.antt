@@ -1,9 +1,9 @@
 -- The loops of `fill` and `accumulate`.
-use Prim.Native.Nat.{ℕ, zero, suc, _+_, _-_, _≤_, _<_}
+use Prim.Native.Nat.{ℕ, zero, suc, _-_, _≤_, _<_}
 use native.Mathlib.Omega.{arith}
 use mathlib.Core.Path.{_≡_, refl, sym, ap, _∙_}
 use mathlib.Core.List.{List, [], _∷_, _++_}
-use lib.ListN.{length, getD, set, drop, replicate, replicate-append-replicate}
+use lib.ListN.{length, getD, drop, replicate, replicate-append-replicate}
 use lib.Seq.{drop-cons, drop-length}
 use lib.Ieee.{Float, binary32, ofBits}
 use native.Mathlib.Numerals.{add-one}

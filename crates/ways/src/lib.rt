@@ -1,9 +1,7 @@
 // Of the source's flow.rs what routing and incision share: the distance to a receiver, and areas added along a list.
 ghost use mathlib.Core.Path.{_≡_};
-ghost use mathlib.Core.List.{_++_};
-ghost use Prim.Native.Nat.{_≤_, _<_};
-ghost use lib.ListN.{length, getD, replicate};
-ghost use lib.Ieee.{nan};
+ghost use Prim.Native.Nat.{_<_};
+ghost use lib.ListN.{length, replicate};
 ghost use Rattle.drainage.specs.Ways.{areasAlong};
 ghost use Rattle.ways.specs.Apart.{apart, addedDown, Along};
 

@@ -1,5 +1,5 @@
 -- Bytes and number go over into each other.
-use Prim.Native.Nat.{ℕ, _^_, _<_}
+use Prim.Native.Nat.{ℕ}
 use mathlib.Core.Path.{_≡_}
 use native.Mathlib.Omega.{arith}
 use Rattle.words.specs.Words.{wordOf, bytesOf}

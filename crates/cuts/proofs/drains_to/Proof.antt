@@ -2,9 +2,6 @@ use borrow.Author.Tests.{eq-eqb, ne-eqb}
 use borrow.Author.Needs.{needs}
 use Rattle.cuts.proofs.drains_to.Statement.{statement}
 use Rattle.cuts.proofs.drains_to.Tie as tie
-use Rattle.cuts.proofs.drains_to.Reads as reads
-use Rattle.cuts.proofs.drains_to.Lts as lts
-use Rattle.floats.proofs.max.Reads as max-reads
 
 -- src/lib.rt:37:9
 returns : tie.Need-returns

@@ -3,11 +3,6 @@ use Rattle.cuts.proofs.CellLaws.{cell-sea, cell-cut, place-few}
 use borrow.Author.Needs.{needs}
 use Rattle.cuts.proofs.incise_cell.Statement.{statement}
 use Rattle.cuts.proofs.incise_cell.Tie as tie
-use Rattle.cuts.proofs.incise_cell.Reads as reads
-use Rattle.cuts.proofs.incise_cell.Lts as lts
-use Rattle.cuts.proofs.drains_to.Reads as drains-to-reads
-use Rattle.rates.proofs.rate_at.Reads as rate-at-reads
-use Rattle.steps.proofs.step_place.Reads as step-place-reads
 
 -- src/lib.rt:64:18
 mul-height : tie.Need-mul-height

@@ -1,11 +1,5 @@
 use Rattle.erosion.proofs.EndingLaws.{back-difference, back-sum, back-added}
-use Rattle.upsample.specs.Samples.{addedOf}
-use Rattle.upsample.specs.Samples.{asSource}
-use Rattle.grid.specs.Heights.{allFinite}
 use borrow.Author.Tests.{not-true, not-false}
-use lib.Ieee.{Float}
-use mathlib.Core.List.{List}
-use mathlib.Core.Path.{_≡_, sym, ap, _∙_}
 use borrow.Author.Needs.{needs}
 use Rattle.erosion.proofs.add_back.Statement.{statement}
 use Rattle.erosion.proofs.add_back.Tie as tie

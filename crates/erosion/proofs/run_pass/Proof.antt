@@ -1,5 +1,4 @@
 use Rattle.erosion.proofs.ReachedLaws.{pass-stopped, pass-done, pass-off}
-use mathlib.Core.Path.{_≡_, ap, _∙_}
 use borrow.Author.Needs.{needs}
 use Rattle.erosion.proofs.run_pass.Statement.{statement}
 use Rattle.erosion.proofs.run_pass.Tie as tie

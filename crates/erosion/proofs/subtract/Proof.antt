@@ -1,6 +1,5 @@
 use Rattle.lists.proofs.FillLaws.{Filling, filling-none, filling-length}
 use Rattle.erosion.proofs.ReachedLaws.{subtracted, subtracted-more, subtracted-done}
-use mathlib.Core.Path.{_∙_}
 use native.Mathlib.Omega.{arith}
 use lib.ListN.{length}
 use Prim.Native.Nat.{_-_}

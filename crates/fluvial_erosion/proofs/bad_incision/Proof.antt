@@ -3,10 +3,6 @@ use mathlib.Core.Bool.{not}
 use borrow.Author.Needs.{needs}
 use Rattle.fluvial_erosion.proofs.bad_incision.Statement.{statement}
 use Rattle.fluvial_erosion.proofs.bad_incision.Tie as tie
-use Rattle.fluvial_erosion.proofs.bad_incision.Reads as reads
-use Rattle.fluvial_erosion.proofs.bad_incision.Lts as lts
-use Rattle.answers.proofs.outside.Reads as outside-reads
-use Rattle.floats.proofs.is_finite.Reads as is-finite-reads
 
 -- src/lib.rt:141:8
 outside-requires : tie.Need-outside-requires

@@ -1,8 +1,6 @@
 use borrow.Author.Tests.{eq-eqb, ne-eqb}
 use Rattle.fluvial_erosion.proofs.bad_lengths.Statement.{statement}
 use Rattle.fluvial_erosion.proofs.bad_lengths.Tie as tie
-use Rattle.fluvial_erosion.proofs.bad_lengths.Reads as reads
-use Rattle.fluvial_erosion.proofs.bad_lengths.Lts as lts
 
 -- src/lib.rt:123:9
 returns : tie.Need-returns

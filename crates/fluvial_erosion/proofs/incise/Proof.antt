@@ -9,11 +9,6 @@ use Rattle.grid.proofs.SidesLaws.{cells-fit}
 use borrow.Author.Needs.{needs}
 use Rattle.fluvial_erosion.proofs.incise.Statement.{statement}
 use Rattle.fluvial_erosion.proofs.incise.Tie as tie
-use Rattle.fluvial_erosion.proofs.incise.Reads as reads
-use Rattle.fluvial_erosion.proofs.incise.Lts as lts
-use Rattle.fluvial_erosion.proofs.incise_into.Reads as incise-into-reads
-use Rattle.fluvial_erosion.proofs.refusal.Reads as refusal-reads
-use Rattle.grid.proofs.all_finite.Reads as all-finite-reads
 
 -- the input is accepted
 told : (c : tie.After-enum-told) → let a = c .before .before .before .before .before .before .before .before .args in gives tt ≡ decided (a .size .w) (a .size .h) (a .hmap .now) (a .params) (a .recv .now) (a .order .now) (length (a .out .now)) (length (a .area .now))

@@ -7,12 +7,6 @@ use Rattle.grid.proofs.SidesLaws.{cells-fit}
 use Rattle.fluvial_erosion.proofs.CellLaws.{Incising, cells-float, cell-of, incising-none, incising-more, incising-done}
 use Rattle.fluvial_erosion.proofs.incise_along.Statement.{statement}
 use Rattle.fluvial_erosion.proofs.incise_along.Tie as tie
-use Rattle.fluvial_erosion.proofs.incise_along.Reads as reads
-use Rattle.fluvial_erosion.proofs.incise_along.Lts as lts
-use Rattle.cuts.proofs.incise_cell.Reads as incise-cell-reads
-use Rattle.rates.proofs.table.Reads as table-reads
-use Rattle.rates.proofs.table_size.Reads as table-size-reads
-use Rattle.steps.proofs.distances.Reads as distances-reads
 
 abbrev Inv-loop : tie.InvT-loop
 Inv-loop size params area recv order out₀ n-cells m rates ds len i₀ out i = Incising (size .w) (size .h) params area recv order out₀ i out

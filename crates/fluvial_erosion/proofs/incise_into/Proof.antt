@@ -1,13 +1,8 @@
-use mathlib.Core.Path.{sym, _∙_}
+use mathlib.Core.Path.{_∙_}
 use Rattle.fluvial_erosion.proofs.CellLaws.{carved}
 use borrow.Author.Needs.{needs}
 use Rattle.fluvial_erosion.proofs.incise_into.Statement.{statement}
 use Rattle.fluvial_erosion.proofs.incise_into.Tie as tie
-use Rattle.fluvial_erosion.proofs.incise_into.Reads as reads
-use Rattle.fluvial_erosion.proofs.incise_into.Lts as lts
-use Rattle.fluvial_erosion.proofs.incise_along.Reads as incise-along-reads
-use Rattle.thermal_erosion.proofs.copy_heights.Reads as copy-heights-reads
-use Rattle.ways.proofs.accumulate.Reads as accumulate-reads
 
 -- src/lib.rt:80:5
 copy-heights-requires : tie.Need-copy-heights-requires

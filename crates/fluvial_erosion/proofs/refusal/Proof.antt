@@ -6,20 +6,12 @@ use lib.ListN.{length}
 use Rattle.grid.specs.Sides.{badSides}
 use Rattle.grid.specs.Heights.{allFinite}
 use Rattle.grid.proofs.SidesLaws.{cells-fit, good-sides}
-use Rattle.lent.specs.Lent.{firstBadReceiver}
+use Rattle.lent_receivers.specs.Receivers.{firstBadReceiver}
 use Rattle.fluvial_erosion.specs.Incise.{badLengths, badIncision}
 use Rattle.fluvial_erosion.proofs.RefusalLaws.{sized, network-of, found, found-none, height-found, height-none, ends-side, ends-length, ends-setting, ends-height, ends-receiver, ends-entry, ends-done}
 use borrow.Author.Needs.{needs}
 use Rattle.fluvial_erosion.proofs.refusal.Statement.{statement}
 use Rattle.fluvial_erosion.proofs.refusal.Tie as tie
-use Rattle.fluvial_erosion.proofs.refusal.Reads as reads
-use Rattle.fluvial_erosion.proofs.refusal.Lts as lts
-use Rattle.fluvial_erosion.proofs.bad_incision.Reads as bad-incision-reads
-use Rattle.fluvial_erosion.proofs.bad_lengths.Reads as bad-lengths-reads
-use Rattle.grid.proofs.bad_sides.Reads as bad-sides-reads
-use Rattle.grid.proofs.first_not_finite.Reads as first-not-finite-reads
-use Rattle.lent.proofs.first_bad_entry.Reads as first-bad-entry-reads
-use Rattle.lent.proofs.first_bad_receiver.Reads as first-bad-receiver-reads
 
 -- what each test that let pass says
 sides : (c : tie.Else1) → badSides (c .before .before .before .before .before .args .size .w) (c .before .before .before .before .before .args .size .h) ≡ false

@@ -1,5 +1,4 @@
 use Rattle.output.proofs.OutputLaws.{input-none, input-some}
-use borrow.Author.Needs.{needs}
 use Rattle.output.proofs.for_input.Statement.{statement}
 use Rattle.output.proofs.for_input.Tie as tie
 

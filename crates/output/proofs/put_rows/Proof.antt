@@ -1,7 +1,6 @@
 use Rattle.output.proofs.OutputLaws.{RowsPut, rows-none, row-room, row-cells, rows-kept, rows-more, rows-done}
 use Prim.Native.Nat.{_-_}
 use native.Mathlib.Omega.{arith}
-use borrow.Author.Needs.{needs}
 use Rattle.output.proofs.put_rows.Statement.{statement}
 use Rattle.output.proofs.put_rows.Tie as tie
 

@@ -1,5 +1,5 @@
 use lib.Ieee.{toUnsigned}
-use mathlib.Core.Path.{sym, ap, _∙_}
+use mathlib.Core.Path.{ap, _∙_}
 use Rattle.plans.proofs.PlanLaws.{float-in, one-at-least, itself-at-least}
 use borrow.Author.Needs.{needs}
 use Rattle.plans.proofs.passes.Statement.{statement}

@@ -1,7 +1,7 @@
 use Rattle.grid.proofs.HeightsLaws.{all-finite, not-all-finite}
 use Rattle.grid.proofs.SidesLaws.{good-sides, cells-fit}
 use borrow.Author.Tests.{eq-eqb, ne-eqb, lt-ltb, le-ltb}
-use mathlib.Core.Path.{_≡_, sym, _∙_}
+use mathlib.Core.Path.{sym, _∙_}
 use borrow.Author.Needs.{needs}
 use Rattle.plans.proofs.refusal.Statement.{statement}
 use Rattle.plans.proofs.refusal.Tie as tie

@@ -1,4 +1,3 @@
-use mathlib.Core.Path.{ap, _∙_}
 use borrow.Author.Needs.{needs}
 use Rattle.plans.proofs.thermal_plan.Statement.{statement}
 use Rattle.plans.proofs.thermal_plan.Tie as tie

@@ -2,10 +2,6 @@ use Rattle.rates.proofs.TableLaws.{rate-is}
 use borrow.Author.Needs.{needs}
 use Rattle.rates.proofs.rate.Statement.{statement}
 use Rattle.rates.proofs.rate.Tie as tie
-use Rattle.rates.proofs.rate.Reads as reads
-use Rattle.rates.proofs.rate.Lts as lts
-use Rattle.floats.proofs.max.Reads as max-reads
-use Rattle.square_root.proofs.root_of.Reads as root-of-reads
 
 -- src/lib.rt:14:17
 max-requires : tie.Need-max-requires

@@ -5,10 +5,6 @@ use Rattle.rates.proofs.TableLaws.{place-float, rates-read}
 use borrow.Author.Needs.{needs}
 use Rattle.rates.proofs.rate_at.Statement.{statement}
 use Rattle.rates.proofs.rate_at.Tie as tie
-use Rattle.rates.proofs.rate_at.Reads as reads
-use Rattle.rates.proofs.rate_at.Lts as lts
-use Rattle.floats.proofs.to_bits.Reads as to-bits-reads
-use Rattle.rates.proofs.rate.Reads as rate-reads
 
 -- src/lib.rt:45:14
 to-bits-requires : tie.Need-to-bits-requires

@@ -10,9 +10,6 @@ use Rattle.rates.specs.Rate.{rateOf}
 use Rattle.rates.proofs.TableLaws.{place-float, table-more, table-done}
 use Rattle.rates.proofs.table.Statement.{statement}
 use Rattle.rates.proofs.table.Tie as tie
-use Rattle.rates.proofs.table.Reads as reads
-use Rattle.rates.proofs.table.Lts as lts
-use Rattle.rates.proofs.rate.Reads as rate-reads
 
 abbrev Inv-loop : tie.InvT-loop
 Inv-loop m n-cells k rates₀ i₀ rates i = (rates ≡ filled (λ j. rateOf (whole j) n-cells k) i (replicate 1024 (ofBits binary32 0))) × (i ≤ m)

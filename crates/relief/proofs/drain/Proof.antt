@@ -1,5 +1,5 @@
 -- The turns that are left fall; the space keeps its length.
-use mathlib.Core.Path.{_≡_, sym, _∙_}
+use mathlib.Core.Path.{_≡_}
 use lib.ListN.{length}
 use borrow.Author.Needs.{needs}
 use Rattle.relief.proofs.drain.Statement.{statement}

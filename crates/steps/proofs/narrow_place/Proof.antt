@@ -2,8 +2,6 @@ use borrow.Author.Tests.{eq-eqb, ne-eqb}
 use borrow.Author.Needs.{needs}
 use Rattle.steps.proofs.narrow_place.Statement.{statement}
 use Rattle.steps.proofs.narrow_place.Tie as tie
-use Rattle.steps.proofs.narrow_place.Reads as reads
-use Rattle.steps.proofs.narrow_place.Lts as lts
 
 -- src/lib.rt:28:8
 rem-if1 : tie.Need-rem-if1

@@ -3,10 +3,6 @@ use Rattle.steps.proofs.PlaceLaws.{gap-bound, gap-enough, place-narrow,
 use borrow.Author.Needs.{needs}
 use Rattle.steps.proofs.step_place.Statement.{statement}
 use Rattle.steps.proofs.step_place.Tie as tie
-use Rattle.steps.proofs.step_place.Reads as reads
-use Rattle.steps.proofs.step_place.Lts as lts
-use Rattle.steps.proofs.difference.Reads as difference-reads
-use Rattle.steps.proofs.narrow_place.Reads as narrow-place-reads
 
 -- src/lib.rt:43:9
 narrow-place-requires : tie.Need-narrow-place-requires

@@ -1,4 +1,3 @@
-use borrow.Author.Needs.{needs}
 use native.Mathlib.Omega.{arith}
 use Prim.Native.Nat.{_-_, _*_}
 use Rattle.lists.proofs.FillLaws.{Filling, filling-none, filling-length, filling-more}

@@ -2,9 +2,6 @@ use Rattle.talus.proofs.CountedLaws.{gain-counted}
 use borrow.Author.Needs.{needs}
 use Rattle.talus.proofs.gain_at.Statement.{statement}
 use Rattle.talus.proofs.gain_at.Tie as tie
-use Rattle.talus.proofs.gain_at.Reads as reads
-use Rattle.talus.proofs.gain_at.Lts as lts
-use Rattle.talus.proofs.where_counted.Reads as where-counted-reads
 
 -- src/lib.rt:68:14
 mul-e : tie.Need-mul-e

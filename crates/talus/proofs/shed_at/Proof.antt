@@ -2,10 +2,6 @@ use Rattle.talus.proofs.CountedLaws.{shed-counted}
 use borrow.Author.Needs.{needs}
 use Rattle.talus.proofs.shed_at.Statement.{statement}
 use Rattle.talus.proofs.shed_at.Tie as tie
-use Rattle.talus.proofs.shed_at.Reads as reads
-use Rattle.talus.proofs.shed_at.Lts as lts
-use Rattle.floats.proofs.max.Reads as max-reads
-use Rattle.talus.proofs.where_counted.Reads as where-counted-reads
 
 -- src/lib.rt:44:14
 mul-e : tie.Need-mul-e

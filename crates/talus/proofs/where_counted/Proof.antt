@@ -2,8 +2,6 @@ use mathlib.Core.Path.{sym, ap}
 use mathlib.Core.Bool.{Bool, cond}
 use Rattle.talus.proofs.where_counted.Statement.{statement}
 use Rattle.talus.proofs.where_counted.Tie as tie
-use Rattle.talus.proofs.where_counted.Reads as reads
-use Rattle.talus.proofs.where_counted.Lts as lts
 
 -- src/lib.rt:31:1
 returns : tie.Need-returns

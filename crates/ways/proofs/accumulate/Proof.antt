@@ -1,4 +1,4 @@
-use mathlib.Core.Path.{sym, ap, _∙_}
+use mathlib.Core.Path.{sym, _∙_}
 use Prim.Native.Nat.{_-_}
 use native.Mathlib.Omega.{arith}
 use borrow.Author.Needs.{needs}
@@ -6,10 +6,6 @@ use lib.ListN.{length, getD}
 use Rattle.ways.proofs.SumLaws.{Adding, adding-none, adding-more, adding-done}
 use Rattle.ways.proofs.accumulate.Statement.{statement}
 use Rattle.ways.proofs.accumulate.Tie as tie
-use Rattle.ways.proofs.accumulate.Reads as reads
-use Rattle.ways.proofs.accumulate.Lts as lts
-use Rattle.ways.proofs.add_down.Reads as add-down-reads
-use Rattle.ways.proofs.fill.Reads as fill-reads
 
 abbrev Inv-loop : tie.InvT-loop
 Inv-loop recv order area₀ k₀ area k = Adding (length recv) recv order k area

@@ -2,8 +2,6 @@ use borrow.Author.Tests.{eq-eqb, ne-eqb}
 use borrow.Author.Needs.{needs}
 use Rattle.ways.proofs.add_down.Statement.{statement}
 use Rattle.ways.proofs.add_down.Tie as tie
-use Rattle.ways.proofs.add_down.Reads as reads
-use Rattle.ways.proofs.add_down.Lts as lts
 
 -- src/lib.rt:32:9
 returns : tie.Need-returns

@@ -6,8 +6,6 @@ use Rattle.lists.proofs.FillLaws.{Filling, filling-none, filling-length, fillin
 use Rattle.ways.proofs.SumLaws.{fill-done}
 use Rattle.ways.proofs.fill.Statement.{statement}
 use Rattle.ways.proofs.fill.Tie as tie
-use Rattle.ways.proofs.fill.Reads as reads
-use Rattle.ways.proofs.fill.Lts as lts
 
 abbrev Inv-loop : tie.InvT-loop
 Inv-loop values₀ x n i₀ values i = Filling (λ k. x) i values₀ values

@@ -2,8 +2,6 @@ use borrow.Author.Tests.{eq-eqb, ne-eqb}
 use borrow.Author.Needs.{needs}
 use Rattle.ways.proofs.receiver_distance.Statement.{statement}
 use Rattle.ways.proofs.receiver_distance.Tie as tie
-use Rattle.ways.proofs.receiver_distance.Reads as reads
-use Rattle.ways.proofs.receiver_distance.Lts as lts
 
 -- src/lib.rt:17:8
 rem-if1 : tie.Need-rem-if1

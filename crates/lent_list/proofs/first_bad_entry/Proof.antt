@@ -1,0 +1,59 @@
+use Prim.Native.Nat.{_-_}
+use native.Mathlib.Omega.{arith}
+use Rattle.lent_list.specs.Seen.{Scanned}
+use Rattle.lent_list.proofs.StretchLaws.{scans-none, scans-more, scans-done}
+use Rattle.lent_list.proofs.first_bad_entry.Statement.{statement}
+use Rattle.lent_list.proofs.first_bad_entry.Tie as tie
+
+abbrev Inv-loop : tie.InvT-loop
+Inv-loop n recv list bad₀ lo₀ bad lo = Scanned n recv list 0 lo n bad
+
+abbrev μ-loop : tie.MeasureT-loop
+μ-loop n recv list bad₀ lo₀ bad lo = n - lo
+
+-- src/lib.rt:295:9
+first-in-one-requires : tie.Need-first-in-one-requires Inv-loop μ-loop
+first-in-one-requires c κs = (c .before .before .before .pre, c .if1 .taken)
+
+-- src/lib.rt:295:9
+returns : tie.Need-returns Inv-loop μ-loop
+returns c = scans-done (c .before .before .before .before .pre) (c .first-in-one .ensures) (c .before .if1 .taken)
+
+-- src/lib.rt:299:5
+loop-holds : tie.Need-loop-holds Inv-loop μ-loop
+loop-holds c = scans-none
+
+-- src/lib.rt:300:9
+first-in-stretch-requires : tie.Need-first-in-stretch-requires Inv-loop μ-loop
+first-in-stretch-requires c κs = (c .before .before .before .before .before .pre, c .before .loop .inv .bound)
+
+-- src/lib.rt:301:9
+add-lo : tie.Need-add-lo Inv-loop μ-loop
+add-lo c = omega (arith, c .before .before .before .before .before .before .pre .entries, c .before .loop-test .taken)
+
+-- src/lib.rt:299:5
+loop-less : tie.Need-loop-less Inv-loop μ-loop
+loop-less c = omega (arith, c .before .loop-test .taken)
+
+-- src/lib.rt:299:5
+loop-again : tie.Need-loop-again Inv-loop μ-loop
+loop-again c = scans-more (c .before .before .loop .inv) (c .first-in-stretch .ensures)
+
+-- src/lib.rt:290:1
+returns-2 : tie.Need-returns-2 Inv-loop μ-loop
+returns-2 c = scans-done (c .before .before .before .before .before .pre) (c .before .loop .inv) (c .loop-test .left)
+
+pub first-bad-entry-spec : {M : Type 1} → statement M
+first-bad-entry-spec =
+    tie.close
+    (tie.spec
+    Inv-loop
+    μ-loop
+    first-in-one-requires
+    returns
+    loop-holds
+    first-in-stretch-requires
+    add-lo
+    loop-less
+    loop-again
+    returns-2)

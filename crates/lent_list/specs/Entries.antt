@@ -1,0 +1,33 @@
+-- Refusal 7: a lent list that is no work list.
+use Prim.Native.Nat.{ℕ, _<_}
+use mathlib.Core.Path.{_≡_}
+use mathlib.Core.Bool.{Bool, _&&_, _||_}
+use mathlib.Core.List.{List}
+use lib.ListN.{getD, take}
+use lib.Dec.{eqb, ltb}
+use Rattle.lists.specs.Firsts.{firstFailing}
+use Rattle.drainage.specs.Ways.{times, WorkList}
+
+-- the entry at a position is a cell, did not stand earlier, and any other cell that it drains into did
+unfoldable pub goodEntry : ℕ → List ℕ → List ℕ → ℕ → Bool
+unfolding times
+goodEntry n recv list position =
+    let c = getD list position 0 in
+    let r = getD recv c 0 in
+    let earlier = take position list in
+    ltb c n && (eqb (times c earlier) 0 && (eqb r c || ltb 0 (times r earlier)))
+
+-- refusal 7: the first position with an entry that is not good
+abbrev pub firstBadEntry : ℕ → List ℕ → List ℕ → ℕ
+firstBadEntry n recv list = firstFailing n (goodEntry n recv list)
+
+-- what the test of an entry says
+pub record GoodAt (n : ℕ) (recv list : List ℕ) (position : ℕ) : Type 0 where
+  pub cell : getD list position 0 < n
+  pub fresh : times (getD list position 0) (take position list) ≡ 0
+  pub after : (getD recv (getD list position 0) 0 ≡ getD list position 0 → ⊥) → 0 < times (getD recv (getD list position 0) 0) (take position list)
+
+-- Refusal 7 is two-way: a list of n entries is let pass exactly if it is a work list.
+pub record ListTest (n : ℕ) (recv list : List ℕ) : Type 0 where
+  pub sound : firstBadEntry n recv list ≡ n → WorkList n recv list
+  pub complete : WorkList n recv list → firstBadEntry n recv list ≡ n

@@ -1,0 +1,143 @@
+// Refusal 7: the check of a lent list. Nothing lent is written before it is decided.
+ghost use mathlib.Core.Path.{_≡_};
+ghost use mathlib.Core.Bool.{not};
+ghost use Prim.Native.Nat.{_+_, _≤_, _<_};
+ghost use Rattle.lent_list.specs.Entries.{firstBadEntry};
+ghost use Rattle.lent_list.specs.Seen.{span, isMarked, marking, stoodIn, lackedIn, noting, Scanned, Lengths};
+
+// Whether place i of a stretch is marked.
+fn marked(seen: &[u64; 8192], i: usize) -> bool
+    requires { ⌜ i < span ⌝ }
+    ensures { λ r. ⌜ r ≡ isMarked (now (seen .entry)) i ⌝ }
+{
+    (seen[i / 64] >> (i % 64)) % 2 == 1
+}
+
+// Whether place i of a stretch is not marked.
+fn unmarked(seen: &[u64; 8192], i: usize) -> bool
+    requires { ⌜ i < span ⌝ }
+    ensures { λ r. ⌜ r ≡ not (isMarked (now (seen .entry)) i) ⌝ }
+{
+    !marked(seen, i)
+}
+
+// Marks place i of a stretch.
+fn mark(seen: &mut [u64; 8192], i: usize)
+    requires { ⌜ i < span ⌝ }
+    ensures { λ _. ⌜ now (seen .exit) ≡ marking (now (seen .entry)) i ⌝ }
+{
+    let word = i / 64;
+    seen[word] = seen[word] | (1 << (i % 64));
+}
+
+// Whether cell c of the stretch from lo stood already.
+fn stood(seen: &[u64; 8192], lo: usize, c: usize) -> bool
+    ensures { λ r. ⌜ r ≡ stoodIn (now (seen .entry)) lo c ⌝ }
+{
+    if c < lo {
+        return false;
+    }
+    let i = c - lo;
+    if i < 524288 {
+        return marked(seen, i);
+    }
+    false
+}
+
+// Whether the receiver of c is another cell, of the stretch from lo, that has not stood yet.
+fn lacked(seen: &[u64; 8192], lo: usize, c: usize, r: usize) -> bool
+    ensures { λ b. ⌜ b ≡ lackedIn (now (seen .entry)) lo c r ⌝ }
+{
+    if r == c {
+        return false;
+    }
+    if r < lo {
+        return false;
+    }
+    let i = r - lo;
+    if i < 524288 {
+        return !marked(seen, i);
+    }
+    false
+}
+
+// Notes that c stands, if it lies in the stretch from lo.
+fn note(seen: &mut [u64; 8192], lo: usize, c: usize)
+    ensures { λ _. ⌜ now (seen .exit) ≡ noting (now (seen .entry)) lo c ⌝ }
+{
+    if c < lo {
+        return;
+    }
+    let i = c - lo;
+    if i < 524288 {
+        mark(seen, i);
+    }
+}
+
+// The first position below the limit whose entry is no cell, or is bad by the marks of the stretch from lo; the limit where none is.
+fn first_in_stretch(n: usize, recv: &[u32], list: &[u32], lo: usize, limit: usize) -> usize
+    requires { ⌜ Lengths n (now recv) (now list) ⌝ }
+    requires { ⌜ limit ≤ n ⌝ }
+    ensures { λ r. ⌜ Scanned n (now (recv .entry)) (now (list .entry)) lo (lo + span) limit r ⌝ }
+{
+    let mut seen: [u64; 8192] = [0; 8192];
+    let mut p: usize = 0;
+    while p < limit {
+        let c = list[p] as usize;
+        if n <= c {
+            return p;
+        }
+        if stood(&seen, lo, c) {
+            return p;
+        }
+        if lacked(&seen, lo, c, recv[c] as usize) {
+            return p;
+        }
+        note(&mut seen, lo, c);
+        p += 1;
+    }
+    limit
+}
+
+// The same for a grid that one stretch covers, so that every cell has its mark. A cell is marked before its receiver is looked up: one that is its
+// own receiver then finds itself.
+fn first_in_one(n: usize, recv: &[u32], list: &[u32]) -> usize
+    requires { ⌜ Lengths n (now recv) (now list) ⌝ }
+    requires { ⌜ n ≤ span ⌝ }
+    ensures { λ r. ⌜ Scanned n (now (recv .entry)) (now (list .entry)) 0 span n r ⌝ }
+{
+    let mut seen: [u64; 8192] = [0; 8192];
+    let mut p: usize = 0;
+    while p < n {
+        let c = list[p] as usize;
+        if n <= c {
+            return p;
+        }
+        if marked(&seen, c) {
+            return p;
+        }
+        mark(&mut seen, c);
+        if unmarked(&seen, recv[c] as usize) {
+            return p;
+        }
+        p += 1;
+    }
+    n
+}
+
+// Refusal 7: the first position with a bad entry, n where the list is a work list. The list is read once for each stretch of cells.
+pub fn first_bad_entry(n: usize, recv: &[u32], list: &[u32]) -> usize
+    requires { ⌜ Lengths n (now recv) (now list) ⌝ }
+    ensures { λ r. ⌜ r ≡ firstBadEntry n (now (recv .entry)) (now (list .entry)) ⌝ }
+{
+    if n <= 524288 {
+        return first_in_one(n, recv, list);
+    }
+    let mut bad = n;
+    let mut lo: usize = 0;
+    while lo < n {
+        bad = first_in_stretch(n, recv, list, lo, bad);
+        lo += 524288;
+    }
+    bad
+}

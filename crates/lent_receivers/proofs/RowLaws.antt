@@ -1,0 +1,161 @@
+-- A row that passes the quick test has no bad receiver.
+use Prim.Native.Nat.{ℕ, zero, suc, _+_, _-_, _*_, _%_, _^_, _≤_, _<_}
+use native.Mathlib.Omega.{arith}
+use native.Mathlib.Decide.{decLt, ℕ-discrete}
+use mathlib.Core.Path.{_≡_, refl, sym, ap, _∙_, subst}
+use mathlib.Core.Bool.{Bool, true, false, cond, not, _&&_, _||_, true≢false}
+use mathlib.Core.List.{List}
+use lib.ListN.{getD}
+use lib.Dec.{eqb, leb, ltb}
+use borrow.Author.Tests.{lt-ltb, le-ltb, ltb-true, ltb-false, eqb-false, ne-eqb, leb-true, le-leb, lt-leb}
+use Rattle.lists.proofs.TestLaws.{both}
+use Rattle.lists.specs.Loops.{turns}
+use Rattle.lists.proofs.TurnLaws.{turns-none, turns-more}
+use Rattle.grid.specs.Sides.{cellOf}
+use Rattle.grid.proofs.SidesLaws.{cell-lt}
+use Rattle.lists.specs.Firsts.{First}
+use Rattle.lent_receivers.specs.Receivers.{amongThree, besideInner, innerPass, rowPasses, goodReceiver, receiverTest}
+use Rattle.lent_receivers.proofs.ReceiverLaws.{above, level, below, band-good}
+use Rattle.lists.proofs.FirstLaws.{first-end}
+
+-- ---- the code's test of three cells: the difference wraps below the first
+pub three-is : (from r d : ℕ) → from ≤ 4096 * 4096 → d < 2 ^ 32 → (d + from) % 2 ^ 32 ≡ r → ltb d 3 ≡ amongThree from r
+three-is from r d l f e = go (decLt d 3) (decLt r from)
+  where
+    go : Dec (d < 3) → Dec (r < from) → ltb d 3 ≡ amongThree from r
+    go (yes k) b = rw (lt-ltb d 3 k, le-leb from r (omega arith), lt-ltb r (from + 3) (omega arith))
+    go (no k) (yes b) = let m : 3 ≤ d = omega arith in rw (le-ltb d 3 m, lt-leb from r b)
+    go (no k) (no b) =
+        let m : 3 ≤ d = omega arith in
+        let n : from + 3 ≤ r = omega arith in
+        rw (le-ltb d 3 m, le-leb from r (omega arith), le-ltb r (from + 3) n)
+
+among : (from r : ℕ) → amongThree from r ≡ true → (from ≤ r) × (r < from + 3)
+among from r e = let p = both (leb from r) (ltb r (from + 3)) e in (leb-true from r (p .0), ltb-true r (from + 3) (p .1))
+
+-- ---- the three bands of an inner cell
+module _ (w h x y : ℕ) (west : 1 ≤ x) (east : x + 1 < w) (north : 1 ≤ y) (south : y + 1 < h) where
+  rows : (k : ℕ) → y ≡ suc k → x + y * w ≡ x + k * w + w
+  rows k e = ap (λ (z : ℕ). x + z * w) e ∙ omega arith
+
+  deep : w + 1 ≤ x + y * w
+  deep = go y refl
+    where
+      go : (k : ℕ) → y ≡ k → w + 1 ≤ x + y * w
+      go zero e = absurd (omega arith)
+      go (suc k) e = omega (arith, rows k e)
+
+  last : x + y * w + w + 1 < w * h
+  last = omega (arith, cell-lt w (x + 1) (y + 1) east h south)
+
+  pub inner-places : (w + 1 ≤ x + y * w) × (x + y * w + w + 1 < w * h)
+  inner-places = (deep, last)
+
+  pub beside-good : (r : ℕ) → besideInner w (x + y * w) r ≡ true → goodReceiver w h (cellOf w x y) r ≡ true
+  beside-good r e = go (amongThree (x + y * w - (w + 1)) r) refl (amongThree (x + y * w - (w + 1) + w) r) refl (amongThree (x + y * w - (w + 1) + w + w) r) refl e
+    where
+      go : (a : Bool) → amongThree (x + y * w - (w + 1)) r ≡ a → (b : Bool) → amongThree (x + y * w - (w + 1) + w) r ≡ b → (c : Bool) → amongThree (x + y * w - (w + 1) + w + w) r ≡ c
+          → (a || b || c) ≡ true → goodReceiver w h (cellOf w x y) r ≡ true
+      go true p b q c s e =
+          let t = among (x + y * w - (w + 1)) r p in
+          band-good w h x y (omega arith) (omega arith) r (omega (arith, t, deep, last)) (above (omega (arith, t, deep)) (omega (arith, t, deep)))
+      go false p true q c s e =
+          let t = among (x + y * w - (w + 1) + w) r q in
+          band-good w h x y (omega arith) (omega arith) r (omega (arith, t, deep, last)) (level (omega (arith, t, deep)) (omega (arith, t, deep)))
+      go false p false q true s e =
+          let t = among (x + y * w - (w + 1) + w + w) r s in
+          band-good w h x y (omega arith) (omega arith) r (omega (arith, t, deep, last)) (below (omega (arith, t, deep)) (omega (arith, t, deep)))
+      go false p false q false s e = absurd (true≢false (sym e))
+
+-- ---- the loop
+pub record Passing (w : ℕ) (recv : List ℕ) (y i : ℕ) (good : Bool) : Type 0 where
+  pub place : i ≤ w - 2
+  pub state : good ≡ turns i (λ j b. b && besideInner w (1 + j + y * w) (getD recv (1 + j + y * w) 0)) true
+
+module _ (w : ℕ) (recv : List ℕ) (y : ℕ) where
+  pub passing-none : Passing w recv y 0 true
+  passing-none = record { place = omega arith; state = sym (turns-none (λ j b. b && besideInner w (1 + j + y * w) (getD recv (1 + j + y * w) 0)) true) }
+
+  pub passing-more : {i : ℕ} {good next : Bool} → Passing w recv y i good → i < w - 2 → next ≡ besideInner w (1 + i + y * w) (getD recv (1 + i + y * w) 0) → Passing w recv y (i + 1) (good && next)
+  passing-more {i} {good} {next} s l e =
+      record {
+        place = omega arith;
+        state =
+            ap (λ (b : Bool). good && b) e ∙ ap (λ (b : Bool). b && besideInner w (1 + i + y * w) (getD recv (1 + i + y * w) 0)) (s .state)
+            ∙ sym (turns-more (λ j b. b && besideInner w (1 + j + y * w) (getD recv (1 + j + y * w) 0)) i true);
+      }
+
+  pub passing-done : {i : ℕ} {good : Bool} → Passing w recv y i good → w - 2 ≤ i → good ≡ innerPass w recv y
+  unfolding innerPass
+  passing-done {i} s l =
+      let same : i ≡ w - 2 = omega (arith, s .place) in
+      s .state ∙ ap (λ (k : ℕ). turns k (λ j b. b && besideInner w (1 + j + y * w) (getD recv (1 + j + y * w) 0)) true) same
+
+-- every one of them passes
+all-pass : (n : ℕ) (f : ℕ → Bool) → turns n (λ i b. b && f i) true ≡ true → (i : ℕ) → i < n → f i ≡ true
+unfolding turns
+all-pass zero f e i l = absurd (omega arith)
+all-pass (suc n) f e i l =
+    let parts = both (turns n (λ i b. b && f i) true) (f n) e in
+    go (ℕ-discrete i n) (parts .1) (all-pass n f (parts .0) i)
+  where
+    go : Dec (i ≡ n) → f n ≡ true → (i < n → f i ≡ true) → f i ≡ true
+    go (yes q) s h = ap f q ∙ s
+    go (no q) s h = h (omega arith)
+
+module _ (w h : ℕ) (recv : List ℕ) (y : ℕ) (row : y < h) where
+  -- a row that passes has no bad receiver
+  pub row-good : {b : Bool} → b ≡ rowPasses w h recv y → b ≡ true → First w (λ x. receiverTest w h recv (cellOf w x y)) w
+  unfolding rowPasses innerPass
+  row-good e t = first-end (λ x l. go (ltb w 3) refl (eqb y 0) refl (eqb (y + 1) h) refl (receiverTest w h recv (0 + y * w)) refl (receiverTest w h recv (w - 1 + y * w)) refl (sym e ∙ t) x l (ℕ-discrete x 0) (ℕ-discrete x (w - 1)))
+    where
+      go : (a : Bool) → ltb w 3 ≡ a → (b : Bool) → eqb y 0 ≡ b → (c : Bool) → eqb (y + 1) h ≡ c → (d : Bool) → receiverTest w h recv (0 + y * w) ≡ d
+          → (f : Bool) → receiverTest w h recv (w - 1 + y * w) ≡ f
+          → cond a false (cond b false (cond c false (cond (not d) false (cond (not f) false (innerPass w recv y))))) ≡ true
+          → (x : ℕ) → x < w → Dec (x ≡ 0) → Dec (x ≡ w - 1) → receiverTest w h recv (cellOf w x y) ≡ true
+      go true a b c d e f g i j k x l m n = absurd (true≢false (sym k))
+      go false a true c d e f g i j k x l m n = absurd (true≢false (sym k))
+      go false a false c true e f g i j k x l m n = absurd (true≢false (sym k))
+      go false a false c false e false g i j k x l m n = absurd (true≢false (sym k))
+      go false a false c false e true g false j k x l m n = absurd (true≢false (sym k))
+      go false a false c false e true g true j k x l (yes m) n = ap (λ (z : ℕ). receiverTest w h recv (z + y * w)) m ∙ g
+      go false a false c false e true g true j k x l (no m) (yes n) = ap (λ (z : ℕ). receiverTest w h recv (z + y * w)) n ∙ j
+      go false a false c false e true g true j k x l (no m) (no n) =
+          let wide : 3 ≤ w = omega (arith, ltb-false w 3 a) in
+          let first : y ≡ 0 → ⊥ = eqb-false y 0 c in
+          let other : y + 1 ≡ h → ⊥ = eqb-false (y + 1) h e in
+          let back : 1 + (x - 1) ≡ x = omega arith in
+          let test : besideInner w (x + y * w) (getD recv (x + y * w) 0) ≡ true =
+          subst (λ (z : ℕ). besideInner w (z + y * w) (getD recv (z + y * w) 0) ≡ true) back
+          (all-pass (w - 2) (λ i. besideInner w (1 + i + y * w) (getD recv (1 + i + y * w) 0)) k (x - 1) (omega arith)) in
+          beside-good w h x y (omega arith) (omega arith) (omega arith) (omega arith) (getD recv (x + y * w) 0) test
+
+-- ---- the ends of `row_passes` in an inner row
+stop : (s x : Bool) {t : Bool} → t ≡ s → t ≡ true → false ≡ cond s false x
+stop true x e f = refl
+stop false x e f = absurd (true≢false (sym f ∙ e))
+
+pass : (s x : Bool) {t v : Bool} → t ≡ s → t ≡ false → v ≡ x → v ≡ cond s false x
+pass true x e f g = absurd (true≢false (sym e ∙ f))
+pass false x e f g = g
+
+module _ (w h : ℕ) (recv : List ℕ) (y : ℕ) (wide : 3 ≤ w) (first : y ≡ 0 → ⊥) (last : y + 1 ≡ h → ⊥) {west : Bool} (a : west ≡ not (goodReceiver w h (cellOf w 0 y) (getD recv (y * w) 0))) where
+  at : west ≡ not (receiverTest w h recv (0 + y * w))
+  at = let e : y * w ≡ 0 + y * w = omega arith in a ∙ ap (λ (z : ℕ). not (goodReceiver w h (0 + y * w) (getD recv z 0))) e
+
+  pub passes-west : west ≡ true → false ≡ rowPasses w h recv y
+  unfolding rowPasses
+  passes-west f = rw (le-ltb w 3 wide, ne-eqb y 0 first, ne-eqb (y + 1) h last) (stop (not (receiverTest w h recv (0 + y * w))) _ at f)
+
+  module _ (e : west ≡ false) {east : Bool} (b : east ≡ not (goodReceiver w h (cellOf w (w - 1) y) (getD recv (w - 1 + y * w) 0))) where
+    pub passes-east : east ≡ true → false ≡ rowPasses w h recv y
+    unfolding rowPasses
+    passes-east f =
+        rw (le-ltb w 3 wide, ne-eqb y 0 first, ne-eqb (y + 1) h last)
+        (pass (not (receiverTest w h recv (0 + y * w))) _ at e (stop (not (receiverTest w h recv (w - 1 + y * w))) _ b f))
+
+    pub passes-inner : east ≡ false → {r : Bool} → r ≡ innerPass w recv y → r ≡ rowPasses w h recv y
+    unfolding rowPasses
+    passes-inner f g =
+        rw (le-ltb w 3 wide, ne-eqb y 0 first, ne-eqb (y + 1) h last)
+        (pass (not (receiverTest w h recv (0 + y * w))) _ at e (pass (not (receiverTest w h recv (w - 1 + y * w))) _ b f g))
