@@ -135,7 +135,8 @@ fn incise(side: usize) {
     for (kind, h) in terrains(side) {
         let mut net = FlowNet::new();
         net.route(size, &h, WATER);
-        let (recv, order) = (net.recv.clone(), net.order.clone());
+        let (recv, list) = (net.recv.clone(), net.order.clone());
+        let lent = calls::Lent { recv: &recv, list: &list };
         let (mut ours, mut theirs, mut area) = (vec![0.0; h.len()], vec![0.0; h.len()], vec![0.0; h.len()]);
         let params = incision_params(s.k, s.uplift, s.water_level);
         let mut source = || {
@@ -147,7 +148,7 @@ fn incise(side: usize) {
             "incise",
             side,
             kind,
-            &mut || assert!(calls::incise(size, &h, &s, &recv, &order, &mut ours, &mut area) == 0),
+            &mut || assert!(calls::incise(size, &h, &s, lent, &mut ours, &mut area) == 0),
             &mut source,
         );
         let called = ours.clone();
@@ -155,7 +156,7 @@ fn incise(side: usize) {
             "incise_into",
             side,
             kind,
-            &mut || calls::incise_into(size, &h, &s, &recv, &order, &mut ours, &mut area),
+            &mut || calls::incise_into(size, &h, &s, lent, &mut ours, &mut area),
             &mut source,
         );
         same_floats("heights", &called, &theirs);
@@ -190,29 +191,38 @@ const FLUVIAL: Settings =
 const THERMAL: Settings =
     Settings { water_level: WATER, strength: 0.5, talus: 0.5, uplift: 0.0, iterations: 50, work_res: 512 };
 
-/// Whole runs with the default settings, each on a copy of the heights.
+/// A whole run on a copy of the heights.
+fn whole_run(
+    call: &str,
+    side: usize,
+    kind: &str,
+    h: &[f32],
+    lib: &mut dyn FnMut(&mut [f32]) -> u64,
+    source: &mut dyn FnMut(&mut [f32]),
+) {
+    let (mut ours, mut theirs) = (h.to_vec(), h.to_vec());
+    let mut run = || {
+        ours.copy_from_slice(h);
+        assert!(runs::number(lib(&mut ours)) == 0);
+    };
+    row(call, side, kind, &mut run, &mut || {
+        theirs.copy_from_slice(h);
+        source(&mut theirs);
+    });
+    same_floats("heights", &ours, &theirs);
+}
+
+/// Whole runs with the default settings.
 fn whole_runs(side: usize) {
     let size = (side, side);
     for (kind, h) in terrains(side) {
-        let (mut ours, mut theirs, mut scratch) = (h.clone(), h.clone(), runs::Scratch::new(h.len()));
-        let mut lib = || {
-            ours.copy_from_slice(&h);
-            assert!(runs::number(scratch.thermal(size, &mut ours, &THERMAL, 0)) == 0);
-        };
-        row("gen_thermal_erosion", side, kind, &mut lib, &mut || {
-            theirs.copy_from_slice(&h);
-            gen_thermal_erosion(size, &mut theirs, &THERMAL, 0);
+        let mut scratch = runs::Scratch::new(h.len());
+        whole_run("gen_thermal_erosion", side, kind, &h, &mut |v| scratch.thermal(size, v, &THERMAL, 0), &mut |v| {
+            gen_thermal_erosion(size, v, &THERMAL, 0);
         });
-        same_floats("heights", &ours, &theirs);
-        let mut lib = || {
-            ours.copy_from_slice(&h);
-            assert!(runs::number(scratch.fluvial(size, &mut ours, &FLUVIAL, 0)) == 0);
-        };
-        row("gen_fluvial_erosion", side, kind, &mut lib, &mut || {
-            theirs.copy_from_slice(&h);
-            gen_fluvial_erosion(size, &mut theirs, &FLUVIAL, 0);
+        whole_run("gen_fluvial_erosion", side, kind, &h, &mut |v| scratch.fluvial(size, v, &FLUVIAL, 0), &mut |v| {
+            gen_fluvial_erosion(size, v, &FLUVIAL, 0);
         });
-        same_floats("heights", &ours, &theirs);
     }
 }
 

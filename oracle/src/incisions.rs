@@ -4,6 +4,7 @@ use crate::random::Random;
 use crate::rules::passes::incise as ask_incise;
 use crate::rules::Sides;
 use crate::source::erosion::{self, Incision};
+use crate::terrain::fault::{HEIGHT, LENGTH, LIST, RECEIVER, SETTING, SIDE};
 use crate::terrain::{
     bad_length, bad_sides, faults, grid, not_finite, outside, relief, spoilt, water, words, EXTREME, FILL, KINDS,
     RELIEFS, TINY,
@@ -169,13 +170,6 @@ fn run_offs(l: &mut List, r: &mut Random) {
         incise(l, &t);
     }
 }
-
-const SIDE: u32 = 1;
-const LENGTH: u32 = 2;
-const SETTING: u32 = 4;
-const HEIGHT: u32 = 8;
-const RECEIVER: u32 = 16;
-const LIST: u32 = 32;
 
 fn refusals(l: &mut List, r: &mut Random) {
     for f in faults(&[SIDE, LENGTH, SETTING, HEIGHT, RECEIVER, LIST]).repeat(7) {

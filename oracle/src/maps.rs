@@ -2,6 +2,7 @@
 use crate::list::List;
 use crate::random::Random;
 use crate::rules::{self, Sides};
+use crate::terrain::fault::{COORDINATE, HEIGHT, LENGTH, OTHER_LENGTH, REDUCED, SIDE};
 use crate::terrain::{bad_sides, faults, grid, map, some_spoilt, spoilt, words, FILL, KINDS, TINY};
 
 const GET_MIN_MAX: u32 = 1;
@@ -118,14 +119,6 @@ fn bilinear(l: &mut List, v: &[f32], x: f32, y: f32, size: Sides) {
     l.answer("bilinear", &a);
     l.give_floats(&[a.unwrap_or(0.0)]);
 }
-
-/// The faults that a task can have, each a bit.
-const SIDE: u32 = 1;
-const REDUCED: u32 = 2;
-const LENGTH: u32 = 4;
-const OTHER_LENGTH: u32 = 8;
-const COORDINATE: u32 = 16;
-const HEIGHT: u32 = 32;
 
 /// each set of faults is tried so often
 const TRIES: usize = 6;

@@ -3,6 +3,7 @@ use crate::list::List;
 use crate::random::Random;
 use crate::rules::passes::{route as ask_route, RouteRoom};
 use crate::rules::Sides;
+use crate::terrain::fault::{HEIGHT, LENGTH, ROOM, SETTING, SIDE};
 use crate::terrain::{
     bad_length, bad_sides, faults, grid, map, not_finite, relief, some_spoilt, spoilt, water, words, FILL, KINDS,
     RELIEFS, TINY,
@@ -100,12 +101,6 @@ fn reliefs(l: &mut List, r: &mut Random) {
         good(l, r, size, &h, 0.0);
     }
 }
-
-const SIDE: u32 = 1;
-const LENGTH: u32 = 2;
-const ROOM: u32 = 4;
-const SETTING: u32 = 8;
-const HEIGHT: u32 = 16;
 
 fn refusals(l: &mut List, r: &mut Random) {
     for (w, h) in [(4097, 1), (1, 4097)] {

@@ -4,6 +4,7 @@ use crate::random::Random;
 use crate::rules::runs::{gen_fluvial_erosion, gen_thermal_erosion, Run};
 use crate::rules::Sides;
 use crate::source::erosion::Settings;
+use crate::terrain::fault::{HEIGHT, LENGTH, ROOM, SETTING, SIDE};
 use crate::terrain::{
     bad_length, bad_sides, faults, grid, not_finite, outside, relief, spoilt, water, words, EXTREME, FILL, KINDS,
     RELIEFS, TINY,
@@ -217,12 +218,6 @@ pub fn deep(r: &mut Random, call: u32) -> Task {
     t.s = Settings { water_level: f32::MIN, strength: 1.0, work_res: r.below(2) as u32, ..t.s };
     t
 }
-
-const SIDE: u32 = 1;
-const LENGTH: u32 = 2;
-const ROOM: u32 = 4;
-const SETTING: u32 = 8;
-const HEIGHT: u32 = 16;
 
 fn refusals(l: &mut List, r: &mut Random) {
     for f in faults(&[SIDE, LENGTH, ROOM, SETTING, HEIGHT]).repeat(24) {

@@ -5,6 +5,7 @@ use crate::rules::passes::slide_pass as ask_slide_pass;
 use crate::rules::Sides;
 use crate::source::erosion::Talus;
 use crate::source::Record;
+use crate::terrain::fault::{HEIGHT, LENGTH, MARKS, SETTING, SIDE};
 use crate::terrain::{
     bad_length, bad_sides, faults, grid, map, not_finite, outside, relief, spoilt, water, words, EXTREME, FILL,
     RELIEFS, TINY,
@@ -112,12 +113,6 @@ fn stops(l: &mut List, r: &mut Random) {
         slide_pass(l, &Task { r: Record { stopped: true, ..t.r }, h: t.h.clone(), ..t });
     }
 }
-
-const SIDE: u32 = 1;
-const LENGTH: u32 = 2;
-const SETTING: u32 = 4;
-const MARKS: u32 = 8;
-const HEIGHT: u32 = 16;
 
 fn refusals(l: &mut List, r: &mut Random) {
     for f in faults(&[SIDE, LENGTH, SETTING, MARKS, HEIGHT]).repeat(10) {

@@ -106,7 +106,28 @@ pub fn words(size: Sides) -> [u32; 2] {
     [size.0 as u32, size.1 as u32]
 }
 
-/// Sets of faults, each a bit: they are tried alone, in pairs and all together, so that their order shows.
+/// The faults that a task can have, each a bit.
+pub mod fault {
+    pub const SIDE: u32 = 1 << 0;
+    pub const REDUCED: u32 = 1 << 1;
+    pub const LENGTH: u32 = 1 << 2;
+    pub const OTHER_LENGTH: u32 = 1 << 3;
+    pub const ROOM: u32 = 1 << 4;
+    pub const COORDINATE: u32 = 1 << 5;
+    pub const SETTING: u32 = 1 << 6;
+    pub const MARKS: u32 = 1 << 7;
+    pub const HEIGHT: u32 = 1 << 8;
+    pub const RECEIVER: u32 = 1 << 9;
+    pub const LIST: u32 = 1 << 10;
+    pub const GRID_MARK: u32 = 1 << 11;
+    pub const CELLS: u32 = 1 << 12;
+    pub const SETTINGS_MARK: u32 = 1 << 13;
+    pub const ROW_MARK: u32 = 1 << 14;
+    pub const CUT: u32 = 1 << 15;
+    pub const OVER: u32 = 1 << 16;
+}
+
+/// Sets of faults: they are tried alone, in pairs and all together, so that their order shows.
 pub fn faults(of: &[u32]) -> Vec<u32> {
     let mut sets = vec![of.iter().sum()];
     for (i, a) in of.iter().enumerate() {

@@ -5,7 +5,46 @@ use crate::source::Record;
 
 type Sides = (usize, usize);
 
+/// Calls an exported function with its arguments in order: values as they are, slices to read or to write as pointer and length. Each slice is
+/// the one that its pointer and length name, and those written are lent to this call alone.
+macro_rules! lend {
+    ($f:path; $($arguments:tt)*) => { lend!(@ $f; () $($arguments)*) };
+    (@ $f:path; ($($done:tt)*)) => { unsafe { $f($($done)*) } };
+    (@ $f:path; ($($done:tt)*) value [$($x:expr),*] $($rest:tt)*) => { lend!(@ $f; ($($done)* $($x,)*) $($rest)*) };
+    (@ $f:path; ($($done:tt)*) read [$($x:expr),*] $($rest:tt)*) => {
+        lend!(@ $f; ($($done)* $($x.as_ptr(), $x.len(),)*) $($rest)*)
+    };
+    (@ $f:path; ($($done:tt)*) write [$($x:expr),*] $($rest:tt)*) => {
+        lend!(@ $f; ($($done)* $($x.as_mut_ptr(), $x.len(),)*) $($rest)*)
+    };
+}
+#[allow(unused_imports)]
+pub(crate) use lend;
+
 mod exported {
+    /// An incision along receivers and a list.
+    macro_rules! incision {
+        ($name:ident -> $answer:ty) => {
+            pub fn $name(
+                w: usize,
+                h: usize,
+                hmap: *const f32,
+                hmap_len: usize,
+                k: f32,
+                uplift: f32,
+                water_level: f32,
+                recv: *const u32,
+                recv_len: usize,
+                order: *const u32,
+                order_len: usize,
+                out: *mut f32,
+                out_len: usize,
+                area: *mut f32,
+                area_len: usize,
+            ) -> $answer;
+        };
+    }
+
     extern "C" {
         pub fn harness_route(
             w: usize,
@@ -27,41 +66,8 @@ mod exported {
             status_len: usize,
         ) -> u64;
 
-        pub fn harness_incise(
-            w: usize,
-            h: usize,
-            hmap: *const f32,
-            hmap_len: usize,
-            k: f32,
-            uplift: f32,
-            water_level: f32,
-            recv: *const u32,
-            recv_len: usize,
-            order: *const u32,
-            order_len: usize,
-            out: *mut f32,
-            out_len: usize,
-            area: *mut f32,
-            area_len: usize,
-        ) -> u64;
-
-        pub fn harness_incise_into(
-            w: usize,
-            h: usize,
-            hmap: *const f32,
-            hmap_len: usize,
-            k: f32,
-            uplift: f32,
-            water_level: f32,
-            recv: *const u32,
-            recv_len: usize,
-            order: *const u32,
-            order_len: usize,
-            out: *mut f32,
-            out_len: usize,
-            area: *mut f32,
-            area_len: usize,
-        );
+        incision!(harness_incise -> u64);
+        incision!(harness_incise_into -> ());
 
         pub fn harness_slide_pass(
             w: usize,
@@ -108,93 +114,35 @@ impl Network {
     }
 
     pub fn route(&mut self, size: Sides, hmap: &[f32], water_level: f32) -> u64 {
-        // each slice is the one that its pointer and length name; here and below those written are lent to this call alone
-        unsafe {
-            exported::harness_route(
-                size.0,
-                size.1,
-                hmap.as_ptr(),
-                hmap.len(),
-                water_level,
-                self.order.as_mut_ptr(),
-                self.order.len(),
-                self.recv.as_mut_ptr(),
-                self.recv.len(),
-                self.spill.as_mut_ptr(),
-                self.spill.len(),
-                self.area.as_mut_ptr(),
-                self.area.len(),
-                self.queue.as_mut_ptr(),
-                self.queue.len(),
-                self.status.as_mut_ptr(),
-                self.status.len(),
-            )
-        }
+        lend!(exported::harness_route; value [size.0, size.1] read [hmap] value [water_level]
+            write [self.order, self.recv, self.spill, self.area, self.queue, self.status])
     }
+}
+
+/// Receivers and a list that an incision is lent.
+#[derive(Clone, Copy)]
+pub struct Lent<'a> {
+    pub recv: &'a [u32],
+    pub list: &'a [u32],
+}
+
+macro_rules! incise {
+    ($f:path, $size:expr, $hmap:expr, $s:expr, $lent:expr, $out:expr, $area:expr) => {
+        lend!($f; value [$size.0, $size.1] read [$hmap] value [$s.k, $s.uplift, $s.water_level]
+            read [$lent.recv, $lent.list] write [$out, $area])
+    };
 }
 
 /// An incision of `hmap` into `out` along receivers and a list.
-pub fn incise(
-    size: Sides,
-    hmap: &[f32],
-    s: &Incision,
-    recv: &[u32],
-    order: &[u32],
-    out: &mut [f32],
-    area: &mut [f32],
-) -> u64 {
-    unsafe {
-        exported::harness_incise(
-            size.0,
-            size.1,
-            hmap.as_ptr(),
-            hmap.len(),
-            s.k,
-            s.uplift,
-            s.water_level,
-            recv.as_ptr(),
-            recv.len(),
-            order.as_ptr(),
-            order.len(),
-            out.as_mut_ptr(),
-            out.len(),
-            area.as_mut_ptr(),
-            area.len(),
-        )
-    }
+pub fn incise(size: Sides, hmap: &[f32], s: &Incision, lent: Lent, out: &mut [f32], area: &mut [f32]) -> u64 {
+    incise!(exported::harness_incise, size, hmap, s, lent, out, area)
 }
 
 /// The incision alone, as a run does it: receivers and list are those of a routing, and every slice holds the grid's cells.
-pub fn incise_into(
-    size: Sides,
-    hmap: &[f32],
-    s: &Incision,
-    recv: &[u32],
-    order: &[u32],
-    out: &mut [f32],
-    area: &mut [f32],
-) {
+pub fn incise_into(size: Sides, hmap: &[f32], s: &Incision, lent: Lent, out: &mut [f32], area: &mut [f32]) {
     let n = size.0 * size.1;
-    assert!([hmap.len(), recv.len(), order.len(), out.len(), area.len()] == [n; 5]);
-    unsafe {
-        exported::harness_incise_into(
-            size.0,
-            size.1,
-            hmap.as_ptr(),
-            hmap.len(),
-            s.k,
-            s.uplift,
-            s.water_level,
-            recv.as_ptr(),
-            recv.len(),
-            order.as_ptr(),
-            order.len(),
-            out.as_mut_ptr(),
-            out.len(),
-            area.as_mut_ptr(),
-            area.len(),
-        )
-    }
+    assert!([hmap.len(), lent.recv.len(), lent.list.len(), out.len(), area.len()] == [n; 5]);
+    incise!(exported::harness_incise_into, size, hmap, s, lent, out, area)
 }
 
 /// A pass of `hmap` into `out`, reported between the ends, and the record after it.
@@ -208,25 +156,8 @@ pub fn slide_pass(
     stop: u32,
 ) -> (u64, Record) {
     let mut r = r;
-    let word = unsafe {
-        exported::harness_slide_pass(
-            size.0,
-            size.1,
-            hmap.as_ptr(),
-            hmap.len(),
-            out.as_mut_ptr(),
-            out.len(),
-            s.threshold,
-            s.strength,
-            s.water_level,
-            ends.0,
-            ends.1,
-            &mut r.last,
-            &mut r.asked,
-            &mut r.stopped,
-            stop,
-        )
-    };
+    let word = lend!(exported::harness_slide_pass; value [size.0, size.1] read [hmap] write [out]
+        value [s.threshold, s.strength, s.water_level, ends.0, ends.1, &mut r.last, &mut r.asked, &mut r.stopped, stop]);
     (word, r)
 }
 
@@ -234,6 +165,6 @@ pub fn slide_pass(
 #[allow(dead_code)]
 pub fn report(r: Record, p: f32, stop: u32) -> (u64, Record) {
     let mut r = r;
-    let word = unsafe { exported::harness_report(&mut r.last, &mut r.asked, &mut r.stopped, p, stop) };
+    let word = lend!(exported::harness_report; value [&mut r.last, &mut r.asked, &mut r.stopped, p, stop]);
     (word, r)
 }

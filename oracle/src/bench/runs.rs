@@ -1,5 +1,6 @@
 //! Whole runs as crates/harness_runs exports them, with the scratch slices that they are lent. An answer is one word: 16 bits each for document
 //! 01's number, incisions, passes and questions; a place instead of the last two where a refusal carries one.
+use crate::calls::lend;
 use crate::source::erosion::Settings;
 use crate::Sides;
 
@@ -95,61 +96,15 @@ impl Scratch {
 
     /// The answer of a thermal run.
     pub fn thermal(&mut self, size: Sides, map: &mut [f32], s: &Settings, stop: u32) -> u64 {
-        // each slice is the one that its pointer and length name, and is lent to this call alone; so below
-        unsafe {
-            exported::harness_thermal_run(
-                size.0,
-                size.1,
-                map.as_mut_ptr(),
-                map.len(),
-                s.water_level,
-                s.talus,
-                s.strength,
-                s.iterations,
-                s.work_res,
-                stop,
-                self.small.as_mut_ptr(),
-                self.small.len(),
-                self.eroded.as_mut_ptr(),
-                self.eroded.len(),
-                self.copy.as_mut_ptr(),
-                self.copy.len(),
-            )
-        }
+        lend!(exported::harness_thermal_run; value [size.0, size.1] write [map]
+            value [s.water_level, s.talus, s.strength, s.iterations, s.work_res, stop]
+            write [self.small, self.eroded, self.copy])
     }
 
     /// The answer of a fluvial run.
     pub fn fluvial(&mut self, size: Sides, map: &mut [f32], s: &Settings, stop: u32) -> u64 {
-        unsafe {
-            exported::harness_fluvial_run(
-                size.0,
-                size.1,
-                map.as_mut_ptr(),
-                map.len(),
-                s.water_level,
-                s.strength,
-                s.talus,
-                s.uplift,
-                s.iterations,
-                s.work_res,
-                stop,
-                self.small.as_mut_ptr(),
-                self.small.len(),
-                self.eroded.as_mut_ptr(),
-                self.eroded.len(),
-                self.copy.as_mut_ptr(),
-                self.copy.len(),
-                self.area.as_mut_ptr(),
-                self.area.len(),
-                self.order.as_mut_ptr(),
-                self.order.len(),
-                self.recv.as_mut_ptr(),
-                self.recv.len(),
-                self.queue.as_mut_ptr(),
-                self.queue.len(),
-                self.status.as_mut_ptr(),
-                self.status.len(),
-            )
-        }
+        lend!(exported::harness_fluvial_run; value [size.0, size.1] write [map]
+            value [s.water_level, s.strength, s.talus, s.uplift, s.iterations, s.work_res, stop]
+            write [self.small, self.eroded, self.copy, self.area, self.order, self.recv, self.queue, self.status])
     }
 }

@@ -1,8 +1,9 @@
 //! The library's calls on maps as crates/harness_calls exports them, and on numbers as crates/layout_calls does. An answer is one word: document
 //! 01's number × 2^32 plus the place that it carries, or the value where nothing is refused.
+use crate::calls::lend;
 use crate::rules::Sides;
 
-mod calls {
+mod exported {
     extern "C" {
         pub fn harness_least(v: *const f32, len: usize) -> u64;
         pub fn harness_greatest(v: *const f32, len: usize) -> u64;
@@ -33,35 +34,31 @@ mod calls {
     }
 }
 
-// In each call below a slice is the one that its pointer and length name; those written are lent to that call alone.
-
 /// The words of min and of max.
 pub fn get_min_max(v: &[f32]) -> (u64, u64) {
-    unsafe { (calls::harness_least(v.as_ptr(), v.len()), calls::harness_greatest(v.as_ptr(), v.len())) }
+    (lend!(exported::harness_least; read [v]), lend!(exported::harness_greatest; read [v]))
 }
 
 pub fn normalize(v: &mut [f32], lo: f32, hi: f32) -> u64 {
-    unsafe { calls::harness_normalize(v.as_mut_ptr(), v.len(), lo, hi) }
+    lend!(exported::harness_normalize; write [v] value [lo, hi])
 }
 
 pub fn downsample(src: &[f32], size: Sides, dst: &mut [f32], small: Sides) -> u64 {
-    let (to, len) = (dst.as_mut_ptr(), dst.len());
-    unsafe { calls::harness_downsample(src.as_ptr(), src.len(), size.0, size.1, to, len, small.0, small.1) }
+    lend!(exported::harness_downsample; read [src] value [size.0, size.1] write [dst] value [small.0, small.1])
 }
 
 pub fn add_upsampled(map: &mut [f32], size: Sides, delta: &[f32], small: Sides) -> u64 {
-    let (to, len) = (map.as_mut_ptr(), map.len());
-    unsafe { calls::harness_add_upsampled(to, len, size.0, size.1, delta.as_ptr(), delta.len(), small.0, small.1) }
+    lend!(exported::harness_add_upsampled; write [map] value [size.0, size.1] read [delta] value [small.0, small.1])
 }
 
 pub fn bilinear(v: &[f32], x: f32, y: f32, size: Sides) -> u64 {
-    unsafe { calls::harness_bilinear(v.as_ptr(), v.len(), x, y, size.0, size.1) }
+    lend!(exported::harness_bilinear; read [v] value [x, y, size.0, size.1])
 }
 
 pub fn root(x: f32) -> u64 {
-    unsafe { calls::milofavurn_square_root(x) }
+    unsafe { exported::milofavurn_square_root(x) }
 }
 
 pub fn work_size(size: Sides, max_res: u32) -> u64 {
-    unsafe { calls::milofavurn_working_sides(size.0, size.1, max_res) }
+    unsafe { exported::milofavurn_working_sides(size.0, size.1, max_res) }
 }

@@ -130,7 +130,8 @@ fn incised(t: &mut Tally, call: &'static str, l: &Land, s: &Incision, lent: &Len
     let (mut ours, mut theirs) = (vec![FILL; lent.out], vec![FILL; lent.out]);
     let a = rules::incise(l.size, &l.h, s, lent.recv, lent.list, &mut theirs, lent.area);
     let mut area = vec![FILL; lent.area];
-    let w = calls::incise(l.size, &l.h, s, lent.recv, lent.list, &mut ours, &mut area);
+    let net = calls::Lent { recv: lent.recv, list: lent.list };
+    let w = calls::incise(l.size, &l.h, s, net, &mut ours, &mut area);
     // the result slice counts as scratch on 22
     let alike = w == word(&a, |_| 0) && (number(&a) == 22 || same(&ours, &theirs));
     let input = || {

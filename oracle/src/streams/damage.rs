@@ -4,6 +4,7 @@ use crate::list::List;
 use crate::random::Random;
 use crate::rules::streams::{Asked, Kind, Mark, END, FLUVIAL, GRID, MAX_CELLS, ROW, THERMAL};
 use crate::rules::Sides;
+use crate::terrain::fault::{CELLS, CUT, GRID_MARK, HEIGHT, OVER, ROW_MARK, SETTING, SETTINGS_MARK, SIDE};
 use crate::terrain::faults;
 
 /// the sides, the settings' mark and the settings in a stream
@@ -207,15 +208,6 @@ fn heights(l: &mut List, kind: Kind) {
     }
 }
 
-const GRID_MARK: u32 = 1;
-const SIDE: u32 = 2;
-const CELLS: u32 = 4;
-const SETTINGS_MARK: u32 = 8;
-const ROW_MARK: u32 = 16;
-const CUT: u32 = 32;
-const OVER: u32 = 64;
-const SETTING: u32 = 128;
-const HEIGHT: u32 = 256;
 const FAULTS: [u32; 9] = [GRID_MARK, SIDE, CELLS, SETTINGS_MARK, ROW_MARK, CUT, OVER, SETTING, HEIGHT];
 
 /// Order: grid record 8, 1, 9, the rest 8, 4, 5.
