@@ -3,3 +3,4 @@ pub mod ReachedLaws
 pub mod EndingLaws
 pub mod LoopLaws
 pub mod WholeLaws
+pub mod GridLaws

@@ -17,6 +17,11 @@ use lib.Ieee.Positive.{above, first-pos}
 use Rattle.floats.specs.Stand.{truncOf, roundOf, ceilOf}
 use Rattle.floats.proofs.ValueLaws.{Held, held, round-self, round-scaled, value-unique, lt-values, le-positive, cut-value, add-values}
 
+-- a whole number up to 2 ^ 24 is a float
+pub float-in : (n : ℕ) → n ≤ 2 ^ 24 → T (inFloat binary32 (pos n))
+unfolding inFloat
+float-in n h = le→leb n (2 ^ 24) h
+
 -- ---- the sign goes along
 odd-neg : (d : ℕ) (s : Bool) (q k l : ℕ) → odd d (not s) q k l ≡ neg (odd d s q k l)
 unfolding odd neg

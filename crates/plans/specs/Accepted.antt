@@ -6,7 +6,7 @@ use mathlib.Core.List.{List}
 use lib.ListN.{length}
 use lib.Dec.{eqb, ltb}
 use lib.Ieee.{Float}
-use Rattle.answers.specs.Outcome.{Outcome, gives, refused, refusedAt}
+use Rattle.answers.specs.Outcome.{Outcome, gives, refused, refusedAt, numberIn}
 use Rattle.grid.specs.Sides.{badSides, InRange}
 use Rattle.grid.specs.Heights.{firstNotFinite, allFinite}
 use Rattle.runs.specs.Refusals.{refusalBy}
@@ -19,14 +19,9 @@ refusalOn w h bad map scratch =
     (cond (not (eqb (length map) (w * h)) || ltb scratch (w * h)) (refused 3)
     (cond bad (refused 4) (cond (allFinite map) (gives tt) (refusedAt 5 (firstNotFinite map)))))
 
-abbrev pub numberOf : Outcome (Unit {0}) → ℕ
-numberOf (gives _) = 0
-numberOf (refused number) = number
-numberOf (refusedAt number place) = number
-
 -- With scratch enough a whole run refuses just what Refusals.antt says, of which demand 3 speaks.
 abbrev pub SameRefusal : Type 0
-SameRefusal = (w h : ℕ) (bad : Bool) (map : List Float) (scratch : ℕ) → w * h ≤ scratch → numberOf (refusalOn w h bad map scratch) ≡ refusalBy w h bad map
+SameRefusal = (w h : ℕ) (bad : Bool) (map : List Float) (scratch : ℕ) → w * h ≤ scratch → numberIn (refusalOn w h bad map scratch) ≡ refusalBy w h bad map
 
 -- what an accepted input is known by
 pub record Accepted (w h : ℕ) (bad : Bool) (map : List Float) (scratch : ℕ) : Type 0 where

@@ -9,7 +9,7 @@ use lib.IntN.{pos}
 use lib.Ieee.{Float, binary32, div, inFloat}
 use Rattle.resample.specs.WorkSize.{Within, float}
 use Rattle.resample.specs.Places.{Part}
-use Rattle.resample.proofs.WorkLaws.{float-in}
+use Rattle.floats.proofs.WholeLaws.{float-in}
 use Rattle.resample.specs.Blocks.{firstOf, countOf, blockSum, averageOf, SourceBlocks}
 
 module _ (s r : ℕ) (low : 1 ≤ r) where

@@ -5,7 +5,6 @@ use mathlib.Core.Path.{_≡_, refl, sym, ap, _∙_, subst}
 use mathlib.Core.Bool.{Bool, true, false, true≢false, cond, _&&_, _||_}
 use native.Mathlib.Nat.{le-of-mul-le-mul-right, mul-le-mul-right, mul-le-mul-left, div-lt-iff-lt-mul, mul-pos, le-trans, le-of-eq}
 use native.Mathlib.Omega.{arith}
-use lib.IntN.{pos}
 use lib.Dec.{T, leb, ltb, eqb, lit≤, le→leb, ltb→lt, eqb→eq, eqb·suc-zero}
 use lib.Ieee.{Float, nan, inf, fin, binary32, low, up, down, round, units, odd, ofInt, mul, div, le, lt, eq, toUnsigned, inFloat}
 use lib.Ieee.Fits.{round-is, down-pos}
@@ -165,11 +164,6 @@ work-within w h res good = go (leb (max w h) res) (leb-false (max w h) res)
         let m : max w h ≤ 4096 = omega (arith, r) in
         scaled (div binary32 (float res) (float (max w h)))
         (div-below (float res) (float (max w h)) res (max w h) 1 (round-whole binary32 false res (omega arith)) (round-whole binary32 false (max w h) (omega arith)) (omega arith) (lit≤ tt) (omega arith))
-
--- a whole number up to 2 ^ 24 is a float
-pub float-in : (n : ℕ) → n ≤ 2 ^ 24 → T (inFloat binary32 (pos n))
-unfolding inFloat
-float-in n h = le→leb n (2 ^ 24) h
 
 -- ---- the two ways of each function
 module _ (coef : Float) (side : ℕ) {r : Float} {t : ℕ} (p : r ≡ roundOf (mul binary32 (float side) coef)) (q : t ≡ toUnsigned 64 r) where

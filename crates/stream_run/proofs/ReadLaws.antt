@@ -3,9 +3,9 @@ use Prim.Native.Nat.{ℕ, _*_, _≤_}
 use mathlib.Core.Path.{_≡_, refl, sym, ap, subst, _∙_}
 use mathlib.Core.Bool.{Bool, true, false, cond}
 use mathlib.Core.List.{List}
-use native.Mathlib.Omega.{arith}
 use borrow.Author.Tests.{ltb-false}
 use lib.Dec.{ltb}
+use Rattle.answers.proofs.OutcomeLaws.{not-refused, not-refused-at}
 use Rattle.answers.specs.Outcome.{Outcome, gives, refused, refusedAt}
 use Rattle.grid.specs.Sides.{badSides}
 use Rattle.grid.specs.Heights.{firstNotFinite, allFinite}
@@ -17,32 +17,18 @@ use Rattle.stream.proofs.ReaderLaws.{read-framed, header-size}
 use Rattle.output.specs.Output.{forInput}
 use Rattle.stream_run.specs.StreamRun.{AcceptedStream}
 
--- what is not refused passes its test
-passed : (b : Bool) (n : ℕ) (rest : Outcome Parsed) (p : Parsed) → cond b (refused n) rest ≡ gives p → (b ≡ false) × (rest ≡ gives p)
-passed true n rest p e = let z : _≡_ {A = ℕ} 0 1 = cc in let x : ⊥ = omega arith in absurd x
-passed false n rest p e = (refl, e)
-
-abbrev given : Parsed → Outcome Parsed → Parsed
-given d (gives p) = p
-given d (refused n) = d
-given d (refusedAt n c) = d
-
-finally : (b : Bool) (c : ℕ) (q p : Parsed) → _≡_ {A = Outcome Parsed} (cond b (gives q) (refusedAt 5 c)) (gives p) → (b ≡ true) × (q ≡ p)
-finally true c q p e = (refl, ap (given q) e)
-finally false c q p e = let z : _≡_ {A = ℕ} 0 1 = cc in let x : ⊥ = omega arith in absurd x
-
 -- what an accepted stream gives is what stands in it
 pub read-accepted : (s : List ℕ) (p : Parsed) → gives p ≡ readStream true s → (parsedOf s (headerAt s) ≡ p) × AcceptedStream s (headerAt s)
 unfolding readStream
 read-accepted s p e =
     let w = number2 s 2 in
     let h = number2 s 4 in
-    let a = passed (badGrid s) 8 _ _ (sym e) in
-    let b = passed (badSides w h) 1 _ _ (a .1) in
-    let c = passed (ltb 4096 (w * h)) 9 _ _ (b .1) in
-    let d = passed (badRest s w h) 8 _ _ (c .1) in
-    let f = passed (badSettings (headerAt s .settings)) 4 _ _ (d .1) in
-    let g = finally (allFinite (parsedOf s (headerAt s) .heights)) (firstNotFinite (parsedOf s (headerAt s) .heights)) _ _ (f .1) in (
+    let a = not-refused (badGrid s) 8 _ _ (sym e) in
+    let b = not-refused (badSides w h) 1 _ _ (a .1) in
+    let c = not-refused (ltb 4096 (w * h)) 9 _ _ (b .1) in
+    let d = not-refused (badRest s w h) 8 _ _ (c .1) in
+    let f = not-refused (badSettings (headerAt s .settings)) 4 _ _ (d .1) in
+    let g = not-refused-at (allFinite (parsedOf s (headerAt s) .heights)) 5 (firstNotFinite (parsedOf s (headerAt s) .heights)) _ _ (f .1) in (
       g .1,
       record {
         framed = read-framed true s refl (a .0) refl refl (b .0) refl (c .0) refl (d .0) refl;

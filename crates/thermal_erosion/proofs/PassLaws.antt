@@ -1,13 +1,11 @@
 -- A pass, row by row: how it begins, one row more, an end by a stop; and what it keeps.
-use Prim.Native.Nat.{ℕ, zero, suc, _+_, _-_, _^_, _≤_, _<_}
+use Prim.Native.Nat.{ℕ, zero, suc, _+_, _-_, _≤_, _<_}
 use mathlib.Core.Path.{_≡_, refl, sym, ap, ap₂, _∙_, subst}
 use mathlib.Core.Bool.{Bool, true, false, cond}
 use mathlib.Core.List.{List}
 use native.Mathlib.Omega.{arith}
-use lib.Dec.{T, le→leb}
-use lib.IntN.{pos}
 use lib.ListN.{length}
-use lib.Ieee.{Float, binary32, inFloat}
+use lib.Ieee.{Float}
 use Rattle.lists.specs.Loops.{turns}
 use Rattle.lists.proofs.TurnLaws.{turns-none, turns-more, turns-stay, turns-keep}
 use Rattle.float_order.specs.Fit.{Fit}
@@ -17,11 +15,6 @@ use Rattle.generators.proofs.MarksLaws.{report-asked-most}
 use Rattle.talus.specs.Talus.{slideRow}
 use Rattle.talus.proofs.TalusLaws.{row-length, row-fit}
 use Rattle.thermal_erosion.specs.SlidePass.{Pass, fractionOf, rowStep, rowsOf}
-
--- a side is exact in binary32
-pub side-float : (n : ℕ) → n ≤ 4096 → T (inFloat binary32 (pos n))
-unfolding inFloat
-side-float n h = let l : n ≤ 2 ^ 24 = omega arith in le→leb _ _ l
 
 abbrev reached : List Float → Progress → Pass
 reached out m = record { out = out; marks = m }

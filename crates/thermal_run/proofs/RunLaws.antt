@@ -13,11 +13,8 @@ use Rattle.answers.specs.Outcome.{Outcome, gives, answerOf}
 use Rattle.answers.specs.declared.Answer.{Answer}
 use Rattle.answers.specs.declared.Refusal.{Refusal}
 use Rattle.grid.specs.declared.Sides.{Sides}
-use Rattle.generators.specs.Marks.{fresh}
-use Rattle.generators.specs.declared.Progress.{Progress}
 use Rattle.resample.specs.WorkSize.{Within, workSize}
 use Rattle.thermal_erosion.specs.declared.ThermalParams.{ThermalParams}
-use Rattle.upsample.specs.Places.{Grid}
 use Rattle.upsample.specs.Samples.{asSource}
 use Rattle.runs.specs.Plan.{thermalPasses, thermalParams}
 use Rattle.runs.specs.Run.{Ran, thermalCourse, runOn, thermalRun}
@@ -28,7 +25,7 @@ use Rattle.runs.proofs.CourseLaws.{run-nested}
 use Rattle.plans.specs.Accepted.{refusalOn, Accepted}
 use Rattle.plans.proofs.RefusalLaws.{accepted-by}
 use Rattle.plans.proofs.InputLaws.{within-range, within-cells, accepted-within, thermal-iterations}
-use Rattle.erosion.specs.Reached.{begun, halted, ranBy}
+use Rattle.erosion.specs.Reached.{ranBy}
 use Rattle.erosion.specs.Ending.{endedWith, accepted, refusedTo, Numbered, Answered}
 use Rattle.erosion.specs.declared.Reached.{Reached}
 use Rattle.erosion.specs.declared.RunAnswer.{RunAnswer}
@@ -37,16 +34,6 @@ use Rattle.erosion.proofs.WholeLaws.{wholeRun, whole-numbered}
 use Rattle.thermal_run.specs.ThermalRun.{inputRefusal, slideCourse, ThermalRun, Slides, Reduces, Erodes}
 
 module _ {w h dw dh : ℕ} (n : Within w h dw dh) where
-  -- the grids of the map and of the averages
-  pub map-grid : {len : ℕ} → len ≡ w * h → Grid w h len
-  map-grid e =
-      record { w-low = omega (arith, n .dw-low, n .dw-high); w-high = n .wide; h-low = omega (arith, n .dh-low, n .dh-high); h-high = n .high; size = e }
-
-  pub work-grid : {len : ℕ} → len ≡ dw * dh → Grid dw dh len
-  work-grid e =
-      let r = within-range n in
-      record { w-low = r .columns; w-high = r .wide; h-low = r .rows; h-high = r .high; size = e }
-
   module _ (params : ThermalParams) (passes stop : ℕ) (map : List Float) where
     -- the run by its loops is the run
     pub by-loops : {x : Ran} → x ≡ wholeRun w h (slideCourse dw dh params passes stop) map → x ≡ runOn asSource w h (slideCourse dw dh params passes stop) map
@@ -57,10 +44,6 @@ module _ {w h dw dh : ℕ} (n : Within w h dw dh) where
         subst (λ (x : Ran). Numbered (x .number))
         (sym (e ∙ run-nested asSource w h (slideCourse dw dh params passes stop) map (n .dh-low) (omega arith)))
         (whole-numbered w h (slideCourse dw dh params passes stop) map)
-
--- the end where an average is not finite
-pub halted-fresh : {x r : Reached} {m : Progress} → x ≡ halted 22 m r → m ≡ fresh → r ≡ begun → x ≡ halted 22 (begun .marks) begun
-halted-fresh e f g = e ∙ ap₂ (halted 22) f g
 
 module _ {w h dw dh : ℕ} {passes map small eroded copy : ℕ} where
   module _ (e : Erodes w h dw dh passes map small eroded copy) where

@@ -1,4 +1,4 @@
-use Rattle.resample.proofs.WorkLaws.{float-in}
+use Rattle.floats.proofs.WholeLaws.{float-in}
 use native.Mathlib.Omega.{arith}
 use Rattle.bilinear.proofs.bad_coordinate.Statement.{statement}
 use Rattle.bilinear.proofs.bad_coordinate.Tie as tie

@@ -1,7 +1,7 @@
 use mathlib.Core.Path.{refl, sym, _∙_}
 use borrow.Author.Tests.{not-true, not-false}
 use Rattle.erosion.proofs.WholeLaws.{whole-on-map, whole-averages, whole-ended, whole-added}
-use Rattle.thermal_run.proofs.RunLaws.{map-grid, work-grid, halted-fresh}
+use Rattle.erosion.proofs.GridLaws.{map-grid, work-grid, halted-fresh}
 use Rattle.fluvial_loop.specs.Loops.{courseBy}
 use Rattle.fluvial_grid.proofs.GridLaws.{by-loops, erodes-enough, erodes-map, erodes-averages}
 use borrow.Author.Needs.{needs}

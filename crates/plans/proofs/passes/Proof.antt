@@ -1,12 +1,14 @@
+use native.Mathlib.Omega.{arith}
 use lib.Ieee.{toUnsigned}
 use mathlib.Core.Path.{ap, _∙_}
-use Rattle.plans.proofs.PlanLaws.{float-in, one-at-least, itself-at-least}
+use Rattle.floats.proofs.WholeLaws.{float-in}
+use Rattle.plans.proofs.PlanLaws.{one-at-least, itself-at-least}
 use borrow.Author.Needs.{needs}
 use Rattle.plans.proofs.passes.Statement.{statement}
 use Rattle.plans.proofs.passes.Tie as tie
 
 int-to-float-ceil : tie.Need-int-to-float-ceil
-int-to-float-ceil c = float-in _ (c .before .pre)
+int-to-float-ceil c = float-in _ (omega (arith, c .before .pre))
 
 ceil-requires : tie.Need-ceil-requires
 ceil-requires c κs = search needs

@@ -3,7 +3,7 @@ use lib.Ieee.{binary32, ofBits, ofInt, div}
 use lib.IntN.{pos}
 use mathlib.Core.Path.{ap}
 use native.Mathlib.Omega.{arith}
-use Rattle.plans.proofs.PlanLaws.{float-in}
+use Rattle.floats.proofs.WholeLaws.{float-in}
 use borrow.Author.Needs.{needs}
 use Rattle.plans.proofs.scale.Statement.{statement}
 use Rattle.plans.proofs.scale.Tie as tie

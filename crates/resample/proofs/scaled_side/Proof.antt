@@ -1,5 +1,6 @@
 use native.Mathlib.Omega.{arith}
-use Rattle.resample.proofs.WorkLaws.{float-in, scaled-low, scaled-high}
+use Rattle.floats.proofs.WholeLaws.{float-in}
+use Rattle.resample.proofs.WorkLaws.{scaled-low, scaled-high}
 use borrow.Author.Needs.{needs}
 use Rattle.resample.proofs.scaled_side.Statement.{statement}
 use Rattle.resample.proofs.scaled_side.Tie as tie

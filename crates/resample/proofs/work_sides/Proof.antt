@@ -1,5 +1,6 @@
 use native.Mathlib.Omega.{arith}
-use Rattle.resample.proofs.WorkLaws.{float-in, work-full, work-scaled}
+use Rattle.floats.proofs.WholeLaws.{float-in}
+use Rattle.resample.proofs.WorkLaws.{work-full, work-scaled}
 use borrow.Author.Needs.{needs}
 use Rattle.resample.proofs.work_sides.Statement.{statement}
 use Rattle.resample.proofs.work_sides.Tie as tie

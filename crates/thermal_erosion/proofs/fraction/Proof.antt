@@ -1,13 +1,14 @@
-use Rattle.thermal_erosion.proofs.PassLaws.{side-float}
+use native.Mathlib.Omega.{arith}
+use Rattle.floats.proofs.WholeLaws.{float-in}
 use borrow.Author.Needs.{needs}
 use Rattle.thermal_erosion.proofs.fraction.Statement.{statement}
 use Rattle.thermal_erosion.proofs.fraction.Tie as tie
 
 int-to-float-result : tie.Need-int-to-float-result
-int-to-float-result c = side-float _ (c .before .pre .0)
+int-to-float-result c = float-in _ (omega (arith, c .before .pre .0))
 
 int-to-float-result-2 : tie.Need-int-to-float-result-2
-int-to-float-result-2 c = side-float _ (c .before .before .pre .1)
+int-to-float-result-2 c = float-in _ (omega (arith, c .before .before .pre .1))
 
 returns : tie.Need-returns
 returns c = search needs

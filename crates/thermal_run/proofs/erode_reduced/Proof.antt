@@ -2,7 +2,8 @@ use mathlib.Core.Path.{sym, _∙_}
 use borrow.Author.Tests.{not-true, not-false}
 use Rattle.thermal_run.specs.ThermalRun.{slideCourse}
 use Rattle.erosion.proofs.WholeLaws.{whole-averages, whole-ended, whole-added}
-use Rattle.thermal_run.proofs.RunLaws.{map-grid, work-grid, by-loops, halted-fresh}
+use Rattle.erosion.proofs.GridLaws.{map-grid, work-grid, halted-fresh}
+use Rattle.thermal_run.proofs.RunLaws.{by-loops}
 use borrow.Author.Needs.{needs}
 use Rattle.thermal_run.proofs.erode_reduced.Statement.{statement}
 use Rattle.thermal_run.proofs.erode_reduced.Tie as tie

@@ -1,5 +1,5 @@
 use native.Mathlib.Omega.{arith}
-use Rattle.resample.proofs.WorkLaws.{float-in}
+use Rattle.floats.proofs.WholeLaws.{float-in}
 use borrow.Author.Needs.{needs}
 use Rattle.thermal_run.proofs.fraction.Statement.{statement}
 use Rattle.thermal_run.proofs.fraction.Tie as tie

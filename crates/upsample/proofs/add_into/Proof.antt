@@ -2,7 +2,7 @@ use denote.Ref.{now}
 use Rattle.upsample.proofs.RowLaws.{filling-start, rows-more, filling-rows, part-small}
 use Rattle.bilinear.proofs.CornerLaws.{grid-row}
 use Rattle.lists.proofs.FillLaws.{Filling, filling-length}
-use Rattle.resample.proofs.WorkLaws.{float-in}
+use Rattle.floats.proofs.WholeLaws.{float-in}
 use Rattle.bilinear.specs.Samples.{asSource}
 use Rattle.upsample.specs.Samples.{addedAt, addedOf}
 use native.Mathlib.Omega.{arith}

@@ -5,7 +5,7 @@ use Rattle.grid.specs.Heights.{allFinite}
 use denote.Ref.{now}
 use Rattle.bilinear.proofs.CornerLaws.{grid-row}
 use Rattle.upsample.proofs.FiniteLaws.{Finites, finites-start, rows-all, row-more, row-not}
-use Rattle.resample.proofs.WorkLaws.{float-in}
+use Rattle.floats.proofs.WholeLaws.{float-in}
 use Rattle.bilinear.specs.Samples.{asSource}
 use Rattle.upsample.specs.Samples.{addedAt, addedOf}
 use mathlib.Core.Path.{_≡_, sym, _∙_}
