@@ -1,5 +1,6 @@
 -- The refusals of `incise`: each end of its tests, what an accepted input is, and that answer and slices follow from one choice.
-use Prim.Native.Nat.{ℕ, _*_, _≤_, _<_}
+use Prim.Native.Nat.{ℕ, _+_, _*_, _≤_, _<_}
+use native.Mathlib.Nat.{mul-le-mul}
 use native.Mathlib.Omega.{arith}
 use mathlib.Core.Path.{_≡_, refl, sym, ap, _∙_}
 use mathlib.Core.Bool.{Bool, true, false, not, cond, true≢false}
@@ -12,17 +13,18 @@ use Rattle.lists.proofs.TestLaws.{neither}
 use Rattle.answers.specs.Outcome.{Outcome, gives, refused, refusedAt, answerOf}
 use Rattle.answers.specs.declared.Answer.{Answer}
 use Rattle.answers.specs.declared.Refusal.{Refusal}
-use Rattle.grid.specs.Sides.{badSides}
+use Rattle.grid.specs.Sides.{badSides, InRange}
 use Rattle.grid.specs.Heights.{firstNotFinite, allFinite}
 use Rattle.answers.proofs.OutcomeLaws.{given, refusal-given}
-use Rattle.grid.proofs.SidesLaws.{good-sides}
+use Rattle.grid.proofs.SidesLaws.{good-sides, cells-bound, cell-back}
 use Rattle.grid.proofs.HeightsLaws.{all-finite, not-all-finite}
 use Rattle.lent_receivers.specs.Receivers.{firstBadReceiver, receiverTest}
 use Rattle.lent_list.specs.Entries.{firstBadEntry, goodEntry}
-use Rattle.lent_list.specs.Seen.{Lengths}
+use Rattle.lent_list.specs.Seen.{Lengths, Near}
 use Rattle.lists.proofs.FirstLaws.{first-of, all-first}
 use Rattle.lent_list.proofs.ListLaws.{good-at}
-use Rattle.lent_receivers.proofs.ReceiverLaws.{good-cell}
+use Rattle.lent_receivers.proofs.ReceiverLaws.{good-cell, good-is}
+use Rattle.steps.proofs.PlaceLaws.{near-of}
 use Rattle.fluvial_erosion.specs.Incise.{badLengths, badIncision, inciseRefusal, InciseMade}
 use Rattle.fluvial_erosion.specs.Along.{Drains, Carved}
 use Rattle.fluvial_erosion.specs.declared.FluvialParams.{FluvialParams}
@@ -97,6 +99,22 @@ entries-good n recv list e =
 
 pub network-of : (w h : ℕ) (recv list : List ℕ) → length recv ≡ w * h → length list ≡ w * h → ltb (firstBadReceiver w h recv) (w * h) ≡ false → Lengths (w * h) recv list
 network-of w h recv list a b e = record { receivers = a; entries = b; inside = λ c l. good-cell w h c (getD recv c 0) (receivers-good w h recv e c l) }
+
+-- cells of which one is the other or a neighbour of it: their numbers differ by at most a row and one
+not-far : (w x y u v : ℕ) → x ≤ u + 1 → y ≤ v + 1 → x + y * w ≤ u + v * w + (w + 1)
+not-far w x y u v a b = let wide : w ≤ w = omega arith in omega (arith, mul-le-mul b wide)
+
+pub near-network : (w h : ℕ) (recv : List ℕ) → InRange w h → ltb (firstBadReceiver w h recv) (w * h) ≡ false → Near (w * h) (w + 1) recv
+near-network w h recv i e =
+    record {
+      few = cells-bound w h (i .wide) (i .high);
+      short = omega (arith, i .wide);
+      up = λ c l. let k = step c l in omega (arith, cell-back w c, cell-back w (getD recv c 0), not-far w _ _ _ _ (k .east) (k .south));
+      down = λ c l. let k = step c l in omega (arith, cell-back w c, cell-back w (getD recv c 0), not-far w _ _ _ _ (k .west) (k .north));
+    }
+  where
+    step : (c : ℕ) → c < w * h → Rattle.steps.specs.Step.Near w c (getD recv c 0)
+    step c l = near-of (omega (arith, i .columns)) (i .wide) (good-is w h c (getD recv c 0) (receivers-good w h recv e c l))
 
 module _ (w h : ℕ) (hs : List Float) (p : FluvialParams) (recv list : List ℕ) (result scratch : ℕ) where
   abbrev pub decided : Outcome (Unit {0})

@@ -13,7 +13,7 @@ use borrow.Author.Tests.{lt-ltb, le-ltb, ltb-true, ltb-false, eqb-false, eq-eqb,
 use Rattle.drainage.proofs.TallyLaws.{one-same, one-other}
 use Rattle.drainage.specs.Ways.{one, times}
 use Rattle.lent_list.specs.Entries.{goodEntry, firstBadEntry, GoodAt}
-use Rattle.lent_list.specs.Seen.{span, isMarked, marking, inStretch, stoodIn, lackedIn, noting, GoodWithin, Scanned, Lengths}
+use Rattle.lent_list.specs.Seen.{span, isMarked, marking, inStretch, stoodIn, lackedIn, noting, GoodWithin, Scanned, Lengths, Near}
 use Rattle.lists.proofs.FirstLaws.{first-is}
 use Rattle.lent_list.proofs.ListLaws.{good-at, at-good, times-more}
 use Rattle.lent_list.proofs.SeenLaws.{length-marking, marked-same, marked-other}
@@ -116,6 +116,24 @@ not-good n recv list p h = go (goodEntry n recv list p) refl
     go : (b : Bool) → goodEntry n recv list p ≡ b → b ≡ false
     go true e = absurd (h (good-at n recv list p e))
     go false e = refl
+
+pub near-whole : {n reach : ℕ} {recv : List ℕ} → length recv ≡ n → Near n reach recv → Near (length recv) reach recv
+near-whole {reach = reach} {recv = recv} e = subst (λ (n : ℕ). Near n reach recv) (sym e)
+
+-- a receiver of a cell far from the stretch lies outside it
+module _ (seen recv : List ℕ) (lo reach c : ℕ) (n : Near (length recv) reach recv) (l : c < length recv) where
+  lacked-outside : (r : ℕ) → inStretch lo r ≡ false → false ≡ lackedIn seen lo c r
+  lacked-outside r e = go (eqb r c)
+    where
+      go : (b : Bool) → false ≡ (not b && (inStretch lo r && not (isMarked seen (r - lo))))
+      go true = refl
+      go false = rw e
+
+  pub lacked-before : c + reach < lo → false ≡ lackedIn seen lo c (getD recv c 0)
+  lacked-before h = lacked-outside (getD recv c 0) (stretch-before lo (getD recv c 0) (omega (arith, n .up c l)))
+
+  pub lacked-past : lo + span + reach ≤ c → false ≡ lackedIn seen lo c (getD recv c 0)
+  lacked-past h = lacked-outside (getD recv c 0) (stretch-past lo (getD recv c 0) (omega (arith, n .down c l)) (omega (arith, n .down c l)))
 
 -- the walk has come to position p
 pub record Walk (n : ℕ) (recv list : List ℕ) (lo limit : ℕ) (seen : List ℕ) (p : ℕ) : Type 0 where

@@ -1,5 +1,5 @@
 -- Which cells of a stretch stood already: one mark for each cell, 64 to a word.
-use Prim.Native.Nat.{ℕ, _-_, _/_, _%_, _^_, _≤_, _<_}
+use Prim.Native.Nat.{ℕ, _+_, _-_, _/_, _%_, _^_, _≤_, _<_}
 use mathlib.Core.Path.{_≡_}
 use mathlib.Core.Bool.{Bool, false, not, _&&_, cond}
 use mathlib.Core.List.{List}
@@ -53,3 +53,10 @@ pub record Lengths (n : ℕ) (recv list : List ℕ) : Type 0 where
   pub receivers : length recv ≡ n
   pub entries : length list ≡ n
   pub inside : (c : ℕ) → c < n → getD recv c 0 < n
+
+-- no receiver of n cells is further than `reach` from its cell
+pub record Near (n reach : ℕ) (recv : List ℕ) : Type 0 where
+  pub few : n ≤ 2 ^ 24
+  pub short : reach ≤ 2 ^ 13
+  pub up : (c : ℕ) → c < n → getD recv c 0 ≤ c + reach
+  pub down : (c : ℕ) → c < n → c ≤ getD recv c 0 + reach

@@ -2,8 +2,9 @@
 ghost use mathlib.Core.Path.{_≡_};
 ghost use mathlib.Core.Bool.{not};
 ghost use Prim.Native.Nat.{_+_, _≤_, _<_};
+ghost use lib.ListN.{length, getD};
 ghost use Rattle.lent_list.specs.Entries.{firstBadEntry};
-ghost use Rattle.lent_list.specs.Seen.{span, isMarked, marking, stoodIn, lackedIn, noting, Scanned, Lengths};
+ghost use Rattle.lent_list.specs.Seen.{span, isMarked, marking, stoodIn, lackedIn, noting, Scanned, Lengths, Near};
 
 // Whether place i of a stretch is marked.
 fn marked(seen: &[u64; 8192], i: usize) -> bool
@@ -61,6 +62,21 @@ fn lacked(seen: &[u64; 8192], lo: usize, c: usize, r: usize) -> bool
     false
 }
 
+// The same with the receiver still to be looked up, which is done only where it can lie in the stretch: none is further than `reach` from its cell.
+fn lacks(seen: &[u64; 8192], lo: usize, reach: usize, recv: &[u32], c: usize) -> bool
+    requires { ⌜ Near (length (now recv)) reach (now recv) ⌝ }
+    requires { ⌜ (c < length (now recv)) × (lo ≤ length (now recv)) ⌝ }
+    ensures { λ b. ⌜ b ≡ lackedIn (now (seen .entry)) lo c (getD (now (recv .entry)) c 0) ⌝ }
+{
+    if c + reach < lo {
+        return false;
+    }
+    if lo + 524288 + reach <= c {
+        return false;
+    }
+    lacked(seen, lo, c, recv[c] as usize)
+}
+
 // Notes that c stands, if it lies in the stretch from lo.
 fn note(seen: &mut [u64; 8192], lo: usize, c: usize)
     ensures { λ _. ⌜ now (seen .exit) ≡ noting (now (seen .entry)) lo c ⌝ }
@@ -75,9 +91,17 @@ fn note(seen: &mut [u64; 8192], lo: usize, c: usize)
 }
 
 // The first position below the limit whose entry is no cell, or is bad by the marks of the stretch from lo; the limit where none is.
-fn first_in_stretch(n: usize, recv: &[u32], list: &[u32], lo: usize, limit: usize) -> usize
+fn first_in_stretch(
+    n: usize,
+    reach: usize,
+    recv: &[u32],
+    list: &[u32],
+    lo: usize,
+    limit: usize,
+) -> usize
     requires { ⌜ Lengths n (now recv) (now list) ⌝ }
-    requires { ⌜ limit ≤ n ⌝ }
+    requires { ⌜ Near n reach (now recv) ⌝ }
+    requires { ⌜ (limit ≤ n) × (lo ≤ n) ⌝ }
     ensures { λ r. ⌜ Scanned n (now (recv .entry)) (now (list .entry)) lo (lo + span) limit r ⌝ }
 {
     let mut seen: [u64; 8192] = [0; 8192];
@@ -90,7 +114,7 @@ fn first_in_stretch(n: usize, recv: &[u32], list: &[u32], lo: usize, limit: usiz
         if stood(&seen, lo, c) {
             return p;
         }
-        if lacked(&seen, lo, c, recv[c] as usize) {
+        if lacks(&seen, lo, reach, recv, c) {
             return p;
         }
         note(&mut seen, lo, c);
@@ -125,9 +149,11 @@ fn first_in_one(n: usize, recv: &[u32], list: &[u32]) -> usize
     n
 }
 
-// Refusal 7: the first position with a bad entry, n where the list is a work list. The list is read once for each stretch of cells.
-pub fn first_bad_entry(n: usize, recv: &[u32], list: &[u32]) -> usize
+// Refusal 7: the first position with a bad entry, n where the list is a work list. The list is read once for each stretch of cells. No receiver is
+// further than `reach` from its cell.
+pub fn first_bad_entry(n: usize, reach: usize, recv: &[u32], list: &[u32]) -> usize
     requires { ⌜ Lengths n (now recv) (now list) ⌝ }
+    requires { ⌜ Near n reach (now recv) ⌝ }
     ensures { λ r. ⌜ r ≡ firstBadEntry n (now (recv .entry)) (now (list .entry)) ⌝ }
 {
     if n <= 524288 {
@@ -136,7 +162,7 @@ pub fn first_bad_entry(n: usize, recv: &[u32], list: &[u32]) -> usize
     let mut bad = n;
     let mut lo: usize = 0;
     while lo < n {
-        bad = first_in_stretch(n, recv, list, lo, bad);
+        bad = first_in_stretch(n, reach, recv, list, lo, bad);
         lo += 524288;
     }
     bad

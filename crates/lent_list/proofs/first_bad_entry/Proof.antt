@@ -6,18 +6,18 @@ use Rattle.lent_list.proofs.first_bad_entry.Statement.{statement}
 use Rattle.lent_list.proofs.first_bad_entry.Tie as tie
 
 abbrev Inv-loop : tie.InvT-loop
-Inv-loop n recv list bad₀ lo₀ bad lo = Scanned n recv list 0 lo n bad
+Inv-loop n reach recv list bad₀ lo₀ bad lo = Scanned n recv list 0 lo n bad
 
 abbrev μ-loop : tie.MeasureT-loop
-μ-loop n recv list bad₀ lo₀ bad lo = n - lo
+μ-loop n reach recv list bad₀ lo₀ bad lo = n - lo
 
 -- src/lib.rt:295:9
 first-in-one-requires : tie.Need-first-in-one-requires Inv-loop μ-loop
-first-in-one-requires c κs = (c .before .before .before .pre, c .if1 .taken)
+first-in-one-requires c κs = (c .before .before .before .pre .0, c .if1 .taken)
 
 -- src/lib.rt:295:9
 returns : tie.Need-returns Inv-loop μ-loop
-returns c = scans-done (c .before .before .before .before .pre) (c .first-in-one .ensures) (c .before .if1 .taken)
+returns c = scans-done (c .before .before .before .before .pre .0) (c .first-in-one .ensures) (c .before .if1 .taken)
 
 -- src/lib.rt:299:5
 loop-holds : tie.Need-loop-holds Inv-loop μ-loop
@@ -25,11 +25,13 @@ loop-holds c = scans-none
 
 -- src/lib.rt:300:9
 first-in-stretch-requires : tie.Need-first-in-stretch-requires Inv-loop μ-loop
-first-in-stretch-requires c κs = (c .before .before .before .before .before .pre, c .before .loop .inv .bound)
+first-in-stretch-requires c κs =
+    let p = c .before .before .before .before .before .pre in
+    (p .0, (p .1, (c .before .loop .inv .bound, omega (arith, c .loop-test .taken))))
 
 -- src/lib.rt:301:9
 add-lo : tie.Need-add-lo Inv-loop μ-loop
-add-lo c = omega (arith, c .before .before .before .before .before .before .pre .entries, c .before .loop-test .taken)
+add-lo c = omega (arith, c .before .before .before .before .before .before .pre .0 .entries, c .before .loop-test .taken)
 
 -- src/lib.rt:299:5
 loop-less : tie.Need-loop-less Inv-loop μ-loop
@@ -41,7 +43,7 @@ loop-again c = scans-more (c .before .before .loop .inv) (c .first-in-stretch .e
 
 -- src/lib.rt:290:1
 returns-2 : tie.Need-returns-2 Inv-loop μ-loop
-returns-2 c = scans-done (c .before .before .before .before .before .pre) (c .before .loop .inv) (c .loop-test .left)
+returns-2 c = scans-done (c .before .before .before .before .before .pre .0) (c .before .loop .inv) (c .loop-test .left)
 
 pub first-bad-entry-spec : {M : Type 1} → statement M
 first-bad-entry-spec =

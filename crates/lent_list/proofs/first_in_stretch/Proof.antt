@@ -3,15 +3,15 @@ use mathlib.Core.Path.{refl, sym, _∙_}
 use native.Mathlib.Omega.{arith}
 use lib.ListN.{getD}
 use borrow.Author.Needs.{needs}
-use Rattle.lent_list.proofs.StretchLaws.{Walk, walk-none, walk-outside, walk-twice, walk-early, walk-more, walk-done}
+use Rattle.lent_list.proofs.StretchLaws.{near-whole, Walk, walk-none, walk-outside, walk-twice, walk-early, walk-more, walk-done}
 use Rattle.lent_list.proofs.first_in_stretch.Statement.{statement}
 use Rattle.lent_list.proofs.first_in_stretch.Tie as tie
 
 abbrev Inv-loop : tie.InvT-loop
-Inv-loop n recv list lo limit seen₀ p₀ seen p = Walk n recv list lo limit seen p
+Inv-loop n reach recv list lo limit seen₀ p₀ seen p = Walk n recv list lo limit seen p
 
 abbrev μ-loop : tie.MeasureT-loop
-μ-loop n recv list lo limit seen₀ p₀ seen p = limit - p
+μ-loop n reach recv list lo limit seen₀ p₀ seen p = limit - p
 
 -- src/lib.rt:77:5
 loop-holds : tie.Need-loop-holds Inv-loop μ-loop
@@ -41,25 +41,13 @@ stood-requires c κs = search needs
 returns-2 : tie.Need-returns-2 Inv-loop μ-loop
 returns-2 c = walk-twice (c .before .before .before .before .before .before .loop .inv) (sym (c .before .stood .ensures) ∙ c .if2 .taken)
 
--- src/lib.rt:85:33
-mul-lacked : tie.Need-mul-lacked Inv-loop μ-loop
-mul-lacked c = omega (arith, c .before .before .before .before .before .before .before .before .before .before .pre .0 .receivers, c .before .before .before .before .if1 .left)
-
--- src/lib.rt:85:33
-shared-slice-read-lacked : tie.Need-shared-slice-read-lacked Inv-loop μ-loop
-shared-slice-read-lacked c = omega (arith, c .before .before .before .before .before .before .before .before .before .before .before .pre .0 .receivers, c .before .before .before .before .before .if1 .left)
-
--- src/lib.rt:85:33
-cast-lacked : tie.Need-cast-lacked Inv-loop μ-loop
-cast-lacked c = omega (arith, c .shared-slice-known4 .given (getD (c .before .before .before .before .before .before .before .before .before .before .before .args .list .now) (c .before .before .before .before .before .before .before .before .loop .p) 0))
-
--- src/lib.rt:85:12
-lacked-requires : tie.Need-lacked-requires Inv-loop μ-loop
-lacked-requires c κs = search needs
+lacks-requires : tie.Need-lacks-requires Inv-loop μ-loop
+lacks-requires c κs = let p = c .before .before .before .before .before .before .before .before .before .before .pre in
+    (near-whole (p .0 .receivers) (p .1 .0), (omega (arith, p .0 .receivers, c .before .before .before .before .if1 .left), omega (arith, p .0 .receivers, p .1 .1 .1)))
 
 -- src/lib.rt:86:13
 returns-3 : tie.Need-returns-3 Inv-loop μ-loop
-returns-3 c = walk-early (c .before .before .before .before .before .before .before .before .before .before .loop .inv) (sym (c .before .lacked .ensures) ∙ c .if3 .taken)
+returns-3 c = walk-early (c .before .before .before .before .before .before .before .before .before .loop .inv) (sym (c .before .lacks .ensures) ∙ c .if3 .taken)
 
 -- src/lib.rt:88:9
 note-requires : tie.Need-note-requires Inv-loop μ-loop
@@ -67,15 +55,15 @@ note-requires c κs = search needs
 
 -- src/lib.rt:89:9
 add-p : tie.Need-add-p Inv-loop μ-loop
-add-p c = omega (arith, c .before .before .before .before .before .before .before .before .before .before .before .loop-test .taken, c .before .before .before .before .before .before .before .before .before .before .before .before .before .before .before .fits .limit)
+add-p c = omega (arith, c .before .before .before .before .before .before .before .before .before .before .loop-test .taken, c .before .before .before .before .before .before .before .before .before .before .before .before .before .before .fits .limit)
 
 -- src/lib.rt:77:5
 loop-less : tie.Need-loop-less Inv-loop μ-loop
-loop-less c = omega (arith, c .before .before .before .before .before .before .before .before .before .before .before .loop-test .taken)
+loop-less c = omega (arith, c .before .before .before .before .before .before .before .before .before .before .loop-test .taken)
 
 -- src/lib.rt:77:5
 loop-again : tie.Need-loop-again Inv-loop μ-loop
-loop-again c = walk-more (c .before .before .before .before .before .before .before .before .before .before .before .before .loop .inv) (c .before .before .before .before .before .before .before .before .before .before .before .loop-test .taken) (omega (arith, c .before .before .before .before .before .before .before .before .before .before .before .before .before .before .before .pre .0 .entries, c .before .before .before .before .before .before .before .before .before .before .before .before .before .before .before .pre .1)) (omega (arith, c .before .before .before .before .before .before .before .before .before .if1 .left)) (sym (c .before .before .before .before .before .before .before .stood .ensures) ∙ c .before .before .before .before .before .before .if2 .left) (sym (c .before .before .before .lacked .ensures) ∙ c .before .before .if3 .left) (c .note .ensures)
+loop-again c = walk-more (c .before .before .before .before .before .before .before .before .before .before .before .loop .inv) (c .before .before .before .before .before .before .before .before .before .before .loop-test .taken) (omega (arith, c .before .before .before .before .before .before .before .before .before .before .before .before .before .before .pre .0 .entries, c .before .before .before .before .before .before .before .before .before .before .before .before .before .before .pre .1 .1 .0)) (omega (arith, c .before .before .before .before .before .before .before .before .if1 .left)) (sym (c .before .before .before .before .before .before .stood .ensures) ∙ c .before .before .before .before .before .if2 .left) (sym (c .before .before .before .lacks .ensures) ∙ c .before .before .if3 .left) (c .note .ensures)
 
 -- src/lib.rt:70:1
 returns-4 : tie.Need-returns-4 Inv-loop μ-loop
@@ -94,10 +82,7 @@ first-in-stretch-spec =
     returns
     stood-requires
     returns-2
-    mul-lacked
-    shared-slice-read-lacked
-    cast-lacked
-    lacked-requires
+    lacks-requires
     returns-3
     note-requires
     add-p
