@@ -106,7 +106,7 @@ fn main() {
 
 /// The archives that `rt staticlib` writes of the crates that export calls, for the programs that link them.
 const ARCHIVES: [(&str, &[&str]); 3] = [
-    ("bench", &["harness", "harness_runs"]),
+    ("bench", &["harness", "harness_runs", "layout_calls"]),
     ("peer", &["harness"]),
     ("compare", &["harness", "harness_calls", "harness_runs", "layout_calls"]),
 ];

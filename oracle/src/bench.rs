@@ -1,5 +1,5 @@
 //! Measures the library's calls against the source's on the same heights in one process, and compares what they leave bit for bit.
-//! `bench [route|incise|slide|runs] [side]..` measures some of them; docs/BENCHMARKS.md has the command and what was measured.
+//! `bench [root|route|incise|slide|runs] [side]..` measures some of them; docs/BENCHMARKS.md has the command and what was measured.
 #[path = "bench/calls.rs"]
 mod calls;
 #[allow(dead_code)]
@@ -109,6 +109,16 @@ fn same_cells(name: &str, a: &[u32], b: &[u32]) {
 }
 
 const WATER: f32 = 0.12;
+
+/// One root for each cell, through the C function, against the processor's.
+fn roots(side: usize) {
+    for (kind, h) in terrains(side) {
+        let (mut ours, mut theirs) = (vec![0.0; h.len()], vec![0.0; h.len()]);
+        let mut lib = || ours.iter_mut().zip(&h).for_each(|(y, x)| *y = f32::from_bits(calls::root(*x) as u32));
+        row("root", side, kind, &mut lib, &mut || theirs.iter_mut().zip(&h).for_each(|(y, x)| *y = x.sqrt()));
+        same_floats("roots", &ours, &theirs);
+    }
+}
 
 /// The network: both sides keep their slices from run to run.
 fn route(side: usize) {
@@ -232,11 +242,12 @@ fn main() {
     let named: Vec<&String> = args.iter().filter(|a| a.parse::<usize>().is_err()).collect();
     println!("| call | grid | terrain | source, ms | library, ms | source / library |");
     println!("|---|---|---|---|---|---|");
-    let tables: [(&str, fn(usize), &[usize]); 4] = [
+    let tables: [(&str, fn(usize), &[usize]); 5] = [
+        ("root", roots, &[1024]),
         ("route", route, &[256, 512, 1024, 4096]),
         ("incise", incise, &[256, 512, 1024]),
         ("slide", slide, &[256, 512, 1024]),
-        ("runs", whole_runs, &[512, 1024]),
+        ("runs", whole_runs, &[512, 1024, 4096]),
     ];
     for (name, measure, sides) in tables {
         if named.is_empty() || named.iter().any(|a| *a == name) {

@@ -46,6 +46,8 @@ mod exported {
     }
 
     extern "C" {
+        pub fn milofavurn_square_root(x: f32) -> u64;
+
         pub fn harness_route(
             w: usize,
             h: usize,
@@ -143,6 +145,11 @@ pub fn incise_into(size: Sides, hmap: &[f32], s: &Incision, lent: Lent, out: &mu
     let n = size.0 * size.1;
     assert!([hmap.len(), lent.recv.len(), lent.list.len(), out.len(), area.len()] == [n; 5]);
     incise!(exported::harness_incise_into, size, hmap, s, lent, out, area)
+}
+
+/// The root of x, of crates/layout_calls.
+pub fn root(x: f32) -> u64 {
+    unsafe { exported::milofavurn_square_root(x) }
 }
 
 /// A pass of `hmap` into `out`, reported between the ends, and the record after it.

@@ -29,7 +29,6 @@ mod exported {
             dh: usize,
         ) -> u64;
         pub fn harness_bilinear(v: *const f32, len: usize, x: f32, y: f32, w: usize, h: usize) -> u64;
-        pub fn milofavurn_square_root(x: f32) -> u64;
         pub fn milofavurn_working_sides(w: usize, h: usize, max_res: u32) -> u64;
     }
 }
@@ -53,10 +52,6 @@ pub fn add_upsampled(map: &mut [f32], size: Sides, delta: &[f32], small: Sides) 
 
 pub fn bilinear(v: &[f32], x: f32, y: f32, size: Sides) -> u64 {
     lend!(exported::harness_bilinear; read [v] value [x, y, size.0, size.1])
-}
-
-pub fn root(x: f32) -> u64 {
-    unsafe { exported::milofavurn_square_root(x) }
 }
 
 pub fn work_size(size: Sides, max_res: u32) -> u64 {

@@ -10,7 +10,7 @@ use crate::terrain::{bad_length, bad_sides, grid, map, not_finite, outside, some
 pub fn root(t: &mut Tally, r: &mut Random, i: usize) {
     let x = f32::from_bits(if i % 8 == 0 { r.word() } else { r.word() >> 1 });
     let a = rules::root(x);
-    let alike = exported::root(x) == word(&a, |y| y.to_bits() as u64);
+    let alike = calls::root(x) == word(&a, |y| y.to_bits() as u64);
     t.compared("root", number(&a), alike, 1, || format!("{:08x}", x.to_bits()));
 }
 
