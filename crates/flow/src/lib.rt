@@ -7,7 +7,7 @@ use flood::flood;
 use grid::Sides;
 use grid::bad_sides;
 use grid::first_not_finite;
-use network::steepest_receivers;
+use receiver_rows::steepest_receivers;
 use ways::accumulate;
 ghost use Prim.Native.Nat.{_*_};
 ghost use mathlib.Core.Path.{_≡_};

@@ -1,3 +1,2 @@
--- Laws of receivers and of the pass over the rows.
+-- Laws of receivers.
 pub mod ReceiverLaws
-pub mod PassLaws

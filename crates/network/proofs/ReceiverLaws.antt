@@ -1,14 +1,14 @@
 -- Laws of the receivers: one neighbour against the best so far, all eight, and the list of them.
 use Prim.Native.Nat.{ℕ, suc, _+_, _*_, _≤_, _<_}
 use mathlib.Core.Path.{_≡_, refl, sym, ap, ap₂, _∙_}
-use mathlib.Core.Logic.{inr}
+use mathlib.Core.Logic.{_⊎_, inl, inr}
 use mathlib.Core.Bool.{Bool, true, false, _&&_, cond}
 use mathlib.Core.List.{List}
 use native.Mathlib.Numerals.{add-one}
 use native.Mathlib.Omega.{arith}
 use lib.ListN.{length, getD}
 use lib.Dec.{ltb}
-use lib.Ieee.{Float, nan, binary32, lt, sub, div}
+use lib.Ieee.{Float, nan, lt}
 use borrow.Author.Tests.{lt-ltb, le-ltb, eq-eqb, ne-eqb}
 use Rattle.lists.specs.Loops.{turns}
 use Rattle.lists.proofs.TurnLaws.{turns-none, turns-more}
@@ -16,46 +16,59 @@ use Rattle.grid.specs.Directions.{neighbourAt, Adjacent}
 use Rattle.drainage.specs.Ground.{floats, gridGround, distances}
 use Rattle.drainage.specs.Receivers.{Steepest, distanceTo, compared, steepestOf, receiverOf}
 use Rattle.network.specs.declared.Best.{Best}
-use Rattle.network.specs.Passes.{steepestAs, Compared, Received}
+use Rattle.network.specs.Passes.{steepestAs, slopeDown, comparedAs, Compared, Received}
 use Rattle.ways.specs.Apart.{apart}
 use Rattle.ways.proofs.DistanceLaws.{distance-is}
 
+-- one of two, part by part
+parts : (t : Bool) (a b : Best) → _≡_ {A = Best} (record { cell = cond t (a .cell) (b .cell); slope = cond t (a .slope) (b .slope) }) (cond t a b)
+parts true a b = refl
+parts false a b = refl
+
+pub compared-parts :
+    (spill : List Float) (c d m cell : ℕ) (best : Best) {s : Float} {k : ℕ}
+    → k ≡ cond (lt (getD spill m nan) (getD spill c nan) && lt (best .slope) (slopeDown spill c m (getD distances d nan))) cell (best .cell)
+    → s ≡ cond (lt (getD spill m nan) (getD spill c nan) && lt (best .slope) (slopeDown spill c m (getD distances d nan))) (slopeDown spill c m (getD distances d nan)) (best .slope)
+    → _≡_ {A = Best} (record { cell = k; slope = s }) (comparedAs spill c d m cell best)
+compared-parts spill c d m cell best e f =
+    rw (e, f)
+    (parts
+    (lt (getD spill m nan) (getD spill c nan) && lt (best .slope) (slopeDown spill c m (getD distances d nan)))
+    (record { cell = cell; slope = slopeDown spill c m (getD distances d nan) })
+    best)
+
 module _ (w h : ℕ) (spill : List Float) (c d m : ℕ) (best : Best) (long : length spill ≡ w * h) where
   abbrev slope : Float
-  slope = div binary32 (sub binary32 (getD spill c nan) (getD spill m nan)) (getD distances d nan)
+  slope = slopeDown spill c m (getD distances d nan)
 
-  abbrev chosen : Bool → Bool → Bool → Steepest
-  chosen a b s = cond (a && (b && s)) (record { cell = m; slope = slope }) (steepestAs best)
+  -- the comparison by its tests, the first of which is known
+  abbrev chosen : Bool → Steepest
+  chosen inside = cond (inside && (lt (getD spill m nan) (getD spill c nan) && lt (best .slope) slope)) (record { cell = m; slope = slope }) (steepestAs best)
 
-  -- the comparison by its three tests
-  by-tests :
-      (a b s : Bool) → ltb m (w * h) ≡ a → lt (getD spill m nan) (getD spill c nan) ≡ b → lt (best .slope) slope ≡ s
-      → (water : Float) (hs : List Float) → chosen a b s ≡ compared floats (gridGround w h water hs) spill c d m (steepestAs best)
-  by-tests a b s p q r water hs = ap (λ t. cond t (record { cell = m; slope = slope }) (steepestAs best)) (ap₂ _&&_ (sym p) (ap₂ _&&_ (sym q) (sym r)))
+  by-test : (a : Bool) → ltb m (w * h) ≡ a → (water : Float) (hs : List Float) → chosen a ≡ compared floats (gridGround w h water hs) spill c d m (steepestAs best)
+  by-test a e water hs = ap chosen (sym e)
 
   pub compared-outside : length spill ≤ m → Compared w h spill c d m best best
-  compared-outside l = record {
-    is = by-tests false (lt (getD spill m nan) (getD spill c nan)) (lt (best .slope) slope) (le-ltb m (w * h) (omega arith)) refl refl;
-    inside = λ i. i;
+  compared-outside l = record { is = by-test false (le-ltb m (w * h) (omega arith)); inside = λ i. i }
+
+  pub compared-inside : (r : Best) → m < length spill → r ≡ comparedAs spill c d m m best → Compared w h spill c d m best r
+  compared-inside r l e = record {
+    is = λ water hs. ap steepestAs e ∙ as-steepest (lt (getD spill m nan) (getD spill c nan) && lt (best .slope) slope) ∙ by-test true (lt-ltb m (w * h) (omega arith)) water hs;
+    inside = λ i. rw e (below (lt (getD spill m nan) (getD spill c nan) && lt (best .slope) slope) i);
   }
+    where
+      as-steepest : (t : Bool) → steepestAs (cond t (record { cell = m; slope = slope }) best) ≡ cond t (record { cell = m; slope = slope }) (steepestAs best)
+      as-steepest true = refl
+      as-steepest false = refl
 
-  module _ (l : m < length spill) where
-    pub compared-high : lt (getD spill m nan) (getD spill c nan) ≡ false → Compared w h spill c d m best best
-    compared-high e = record { is = by-tests true false (lt (best .slope) slope) (lt-ltb m (w * h) (omega arith)) e refl; inside = λ i. i }
-
-    pub compared-flat :
-        lt (getD spill m nan) (getD spill c nan) ≡ true → lt (best .slope) slope ≡ false → Compared w h spill c d m best best
-    compared-flat e f = record { is = by-tests true true false (lt-ltb m (w * h) (omega arith)) e f; inside = λ i. i }
-
-    pub compared-steep :
-        lt (getD spill m nan) (getD spill c nan) ≡ true → lt (best .slope) slope ≡ true
-        → Compared w h spill c d m best (record { cell = m; slope = slope })
-    compared-steep e f = record { is = by-tests true true true (lt-ltb m (w * h) (omega arith)) e f; inside = λ _. omega arith }
+      below : (t : Bool) → best .cell < w * h → (cond {A = Best} t (record { cell = m; slope = slope }) best) .cell < w * h
+      below true i = omega arith
+      below false i = i
 
 module _ (w h : ℕ) (spill : List Float) (c : ℕ) (water : Float) (hs : List Float) where
   -- the finder f and the slope to it, and the neighbour in direction i + 1 against the best so far
   abbrev toFinder : ℕ → Steepest
-  toFinder f = record { cell = f; slope = div binary32 (sub binary32 (getD spill c nan) (getD spill f nan)) (distanceTo (gridGround w h water hs) c f) }
+  toFinder f = record { cell = f; slope = slopeDown spill c f (distanceTo (gridGround w h water hs) c f) }
 
   abbrev against : ℕ → Steepest → Steepest
   against i = compared floats (gridGround w h water hs) spill c (suc i) (neighbourAt w h c (suc i))
@@ -65,16 +78,21 @@ pub record Leading (w h : ℕ) (spill : List Float) (c f d : ℕ) (best : Best) 
   pub is : (water : Float) (hs : List Float) → steepestAs best ≡ turns d (against w h spill c water hs) (toFinder w h spill c water hs f)
   pub inside : best .cell < w * h
 
+-- a finder is a cell
+pub near-inside : (w h c f : ℕ) → c < w * h → (f ≡ c) ⊎ Adjacent w h c f → f < w * h
+near-inside w h c f l (inl e) = omega arith
+near-inside w h c f l (inr a) = a .inside
+
 module _ (w h : ℕ) (spill : List Float) (c f : ℕ) where
   -- the finder and its slope
   pub leading-none :
-      c < w * h → (a : Adjacent w h c f) (distance : Float) → distance ≡ apart w c f
-      → Leading w h spill c f 0 (record { cell = f; slope = div binary32 (sub binary32 (getD spill c nan) (getD spill f nan)) distance })
-  leading-none l a distance e = record {
+      c < w * h → (f ≡ c) ⊎ Adjacent w h c f → (distance : Float) → distance ≡ apart w c f
+      → Leading w h spill c f 0 (record { cell = f; slope = slopeDown spill c f distance })
+  leading-none l near distance e = record {
     is = λ water hs.
-        ap (λ x. record { cell = f; slope = div binary32 (sub binary32 (getD spill c nan) (getD spill f nan)) x }) (e ∙ distance-is w h water hs c l f (inr a))
+        ap (λ x. record { cell = f; slope = slopeDown spill c f x }) (e ∙ distance-is w h water hs c l f near)
         ∙ sym (turns-none (against w h spill c water hs) (toFinder w h spill c water hs f));
-    inside = a .inside;
+    inside = near-inside w h c f l near;
   }
 
   pub leading-more :
@@ -102,9 +120,9 @@ module _ (w h : ℕ) (spill : List Float) (c f : ℕ) where
       all = omega arith
 
   -- a base cell
-  pub received-own : f ≡ c → c < w * h → Received w h spill c f c
+  pub received-own : f ≡ c → c < w * h → Received w h spill c f f
   unfolding receiverOf
   received-own e l = record {
-    is = λ water hs. sym (ap (λ t. cond t c (steepestOf floats (gridGround w h water hs) spill c f .cell)) (eq-eqb f c e));
-    inside = l;
+    is = λ water hs. e ∙ sym (ap (λ t. cond t c (steepestOf floats (gridGround w h water hs) spill c f .cell)) (eq-eqb f c e));
+    inside = omega arith;
   }

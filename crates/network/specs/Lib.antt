@@ -1,2 +1,2 @@
--- What the two passes after the flood do to their slices.
+-- The receiver of one cell.
 pub mod Passes

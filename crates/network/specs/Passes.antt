@@ -1,18 +1,27 @@
--- The pass after the flood that puts receivers in the place of finders.
+-- Receivers in the place of finders: the receiver of one cell.
 use Prim.Native.Nat.{ℕ, _*_, _<_}
 use mathlib.Core.Path.{_≡_}
 use mathlib.Core.List.{List}
+use mathlib.Core.Bool.{_&&_, cond}
 use lib.ListN.{getD}
-use lib.Ieee.{Float}
-use Rattle.grid.specs.Sides.{cellOf}
+use lib.Ieee.{Float, nan, binary32, lt, sub, div}
 use Rattle.grid.specs.Directions.{Adjacent}
-use Rattle.drainage.specs.Ground.{floats, gridGround}
+use Rattle.drainage.specs.Ground.{floats, gridGround, distances}
 use Rattle.drainage.specs.Receivers.{Steepest, compared, receiverOf}
-use Rattle.flood_start.specs.Slices.{rowBy}
 use Rattle.network.specs.declared.Best.{Best}
 
 abbrev pub steepestAs : Best → Steepest
 steepestAs b = record { cell = b .cell; slope = b .slope }
+
+-- the slope from cell c down to cell m over a distance
+abbrev pub slopeDown : List Float → ℕ → ℕ → Float → Float
+slopeDown spill c m distance = div binary32 (sub binary32 (getD spill c nan) (getD spill m nan)) distance
+
+-- cell m, in direction d of cell c, against the receiver so far; `cell` stands for it
+abbrev pub comparedAs : List Float → ℕ → ℕ → ℕ → ℕ → Best → Best
+comparedAs spill c d m cell best =
+    let slope = slopeDown spill c m (getD distances d nan) in
+    cond (lt (getD spill m nan) (getD spill c nan) && lt (best .slope) slope) (record { cell = cell; slope = slope }) best
 
 -- whatever water level and heights made the ground
 pub record Compared (w h : ℕ) (spill : List Float) (c d m : ℕ) (best r : Best) : Type 0 where
@@ -27,9 +36,3 @@ pub record Received (w h : ℕ) (spill : List Float) (c f r : ℕ) : Type 0 wher
 -- every finder is the cell itself or a neighbour
 pub record Finders (w h : ℕ) (recv : List ℕ) : Type 0 where
   pub near : (c : ℕ) → c < w * h → (getD recv c 0 ≡ c → ⊥) → Adjacent w h c (getD recv c 0)
-
--- the receivers of row y
-pub record RowReceived (w h : ℕ) (spill : List Float) (y : ℕ) (recv recv′ : List ℕ) : Type 0 where
-  pub is :
-      (water : Float) (hs : List Float)
-      → recv′ ≡ rowBy w (λ x y l. receiverOf floats (gridGround w h water hs) spill (cellOf w x y) (getD l (cellOf w x y) 0)) y w recv

@@ -2,6 +2,7 @@ use Prim.Native.Nat.{_^_}
 use Prim.Native.Nat.{_-_, _*_, _≤_, _<_}
 use native.Mathlib.Omega.{arith}
 use mathlib.Core.Path.{_∙_}
+use mathlib.Core.Logic.{inr}
 use Rattle.grid.specs.Sides.{cellOf}
 use Rattle.grid.specs.Directions.{Adjacent}
 use Rattle.grid.proofs.SidesLaws.{cell-lt, cells-bound}
@@ -11,10 +12,10 @@ use Rattle.network.proofs.receiver.Statement.{statement}
 use Rattle.network.proofs.receiver.Tie as tie
 
 abbrev Inv-loop : tie.InvT-loop
-Inv-loop g spill x y f w c best₀ d₀ best d = (d ≤ 8) × Leading (g .w) (g .h) spill (cellOf (g .w) x y) f d best
+Inv-loop g spill x y f w c found best₀ d₀ best d = (d ≤ 8) × Leading (g .w) (g .h) spill (cellOf (g .w) x y) f d best
 
 abbrev μ-loop : tie.MeasureT-loop
-μ-loop g spill x y f w c best₀ d₀ best d = 8 - d
+μ-loop g spill x y f w c found best₀ d₀ best d = 8 - d
 
 inside : (c : tie.After-shared-slice-known Inv-loop μ-loop) → cellOf (c .before .args .g .w) (c .before .args .x) (c .before .args .y) < c .before .args .g .w * c .before .args .g .h
 inside c = let p = c .before .pre .0 in cell-lt _ _ _ (p .column) _ (p .row)
@@ -34,23 +35,23 @@ add-c c = omega (arith, inside c, small c)
 returns : tie.Need-returns Inv-loop μ-loop
 returns c = received-own _ _ _ _ _ (c .if1 .taken) (inside (c .before))
 
-mul-t11 : tie.Need-mul-t11 Inv-loop μ-loop
-mul-t11 c = omega (arith, inside (c .before), small (c .before))
+mul-t12 : tie.Need-mul-t12 Inv-loop μ-loop
+mul-t12 c = omega (arith, inside (c .before), small (c .before))
 
-shared-slice-read-t14 : tie.Need-shared-slice-read-t14 Inv-loop μ-loop
-shared-slice-read-t14 c = omega (arith, inside (c .before .before), c .before .before .before .pre .1 .0)
+shared-slice-read-t15 : tie.Need-shared-slice-read-t15 Inv-loop μ-loop
+shared-slice-read-t15 c = omega (arith, inside (c .before .before), c .before .before .before .pre .1 .0)
 
-mul-t15 : tie.Need-mul-t15 Inv-loop μ-loop
-mul-t15 c = omega (arith, near (c .before), small (c .before .before))
+mul-t16 : tie.Need-mul-t16 Inv-loop μ-loop
+mul-t16 c = omega (arith, near (c .before), small (c .before .before))
 
-shared-slice-read-t17 : tie.Need-shared-slice-read-t17 Inv-loop μ-loop
-shared-slice-read-t17 c = omega (arith, near (c .before .before), c .before .before .before .before .pre .1 .0)
+shared-slice-read-t18 : tie.Need-shared-slice-read-t18 Inv-loop μ-loop
+shared-slice-read-t18 c = omega (arith, near (c .before .before), c .before .before .before .before .pre .1 .0)
 
 receiver-distance-requires : tie.Need-receiver-distance-requires Inv-loop μ-loop
 receiver-distance-requires c κs = omega (arith, c .before .before .before .before .pre .0 .column)
 
 loop-holds : tie.Need-loop-holds Inv-loop μ-loop
-loop-holds c = (omega arith, leading-none _ _ _ _ _ (inside (c .before .before .before .before)) (near (c .before .before .before)) _ (c .receiver-distance .ensures))
+loop-holds c = (omega arith, leading-none _ _ _ _ _ (inside (c .before .before .before .before)) (inr (near (c .before .before .before))) _ (c .receiver-distance .ensures))
 
 add-neighbour : tie.Need-add-neighbour Inv-loop μ-loop
 add-neighbour c = omega arith
@@ -58,11 +59,11 @@ add-neighbour c = omega arith
 neighbour-requires : tie.Need-neighbour-requires Inv-loop μ-loop
 neighbour-requires c κs = (c .before .before .before .before .before .before .before .pre .0, omega arith)
 
-add-compare : tie.Need-add-compare Inv-loop μ-loop
-add-compare c = omega arith
+add-compare-toward : tie.Need-add-compare-toward Inv-loop μ-loop
+add-compare-toward c = omega arith
 
-compare-requires : tie.Need-compare-requires Inv-loop μ-loop
-compare-requires c κs = (c .before .before .before .before .before .before .before .before .pre .1 .0, (inside (c .before .before .before .before .before .before .before), omega arith))
+compare-toward-requires : tie.Need-compare-toward-requires Inv-loop μ-loop
+compare-toward-requires c κs = (c .before .before .before .before .before .before .before .before .pre .1 .0, (small (c .before .before .before .before .before .before .before), (inside (c .before .before .before .before .before .before .before), omega arith)))
 
 add-d : tie.Need-add-d Inv-loop μ-loop
 add-d c = omega arith
@@ -71,7 +72,7 @@ loop-less : tie.Need-loop-less Inv-loop μ-loop
 loop-less c = omega arith
 
 loop-again : tie.Need-loop-again Inv-loop μ-loop
-loop-again c = (omega arith, leading-more _ _ _ _ _ _ _ _ _ (c .before .before .before .loop .inv .1) (c .before .neighbour .ensures ∙ neighbour-cell _ _ _ _ _ (c .before .before .before .before .before .before .before .before .before .pre .0 .column)) (c .compare .ensures))
+loop-again c = (omega arith, leading-more _ _ _ _ _ _ _ _ _ (c .before .before .before .loop .inv .1) (c .before .neighbour .ensures ∙ neighbour-cell _ _ _ _ _ (c .before .before .before .before .before .before .before .before .before .pre .0 .column)) (c .compare-toward .ensures))
 
 returns-2 : tie.Need-returns-2 Inv-loop μ-loop
 returns-2 c = leading-done _ _ _ _ _ _ _ (c .before .before .before .before .before .if1 .left) (c .before .loop .inv .0) (c .loop-test .left) (c .before .loop .inv .1)
@@ -85,16 +86,16 @@ receiver-spec =
     mul-c
     add-c
     returns
-    mul-t11
-    shared-slice-read-t14
-    mul-t15
-    shared-slice-read-t17
+    mul-t12
+    shared-slice-read-t15
+    mul-t16
+    shared-slice-read-t18
     receiver-distance-requires
     loop-holds
     add-neighbour
     neighbour-requires
-    add-compare
-    compare-requires
+    add-compare-toward
+    compare-toward-requires
     add-d
     loop-less
     loop-again

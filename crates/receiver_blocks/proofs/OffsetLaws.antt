@@ -1,0 +1,169 @@
+-- The fold over the eight neighbours of an inner cell by their offsets is the fold by the neighbours themselves.
+use Prim.Native.Nat.{ℕ, _+_, _-_, _*_, _^_, _≤_, _<_}
+use mathlib.Core.Path.{_≡_, refl, sym, ap, _∙_, subst}
+use mathlib.Core.Logic.{_⊎_}
+use mathlib.Core.Bool.{Bool, true, false, _&&_, cond}
+use mathlib.Core.List.{List}
+use native.Mathlib.Omega.{arith}
+use native.Mathlib.Numerals.{add-one}
+use lib.Dec.{eqb}
+use lib.ListN.{length, getD}
+use lib.Ieee.{Float, nan, lt}
+use borrow.Author.Tests.{eq-eqb, ne-eqb}
+use native.Mathlib.Decide.{ℕ-discrete}
+use Rattle.lists.specs.Loops.{turns}
+use Rattle.lists.proofs.TurnLaws.{turns-none, turns-more, turns-hold}
+use Rattle.lists.proofs.TableLaws.{length-tabulate, getD-tabulate}
+use Rattle.grid.specs.Sides.{columnOf, rowOf}
+use Rattle.grid.specs.Directions.{neighbourAt, Adjacent}
+use Rattle.grid.proofs.SidesLaws.{cell-lt, cell-back, cells-bound}
+use Rattle.inner_cells.specs.Inner.{Inner, offsetOf, offsetsOf}
+use Rattle.inner_cells.proofs.InnerLaws.{inner-cell, inner-offset, offset-fits}
+use Rattle.drainage.specs.Ground.{distances}
+use Rattle.ways.specs.Apart.{apart}
+use Rattle.steps.specs.Step.{Near, distanceTable, placeOf}
+use Rattle.steps.proofs.PlaceLaws.{near-of, gap-bound, place-holds}
+use Rattle.network.specs.declared.Best.{Best}
+use Rattle.network.specs.Passes.{slopeDown, comparedAs, Received}
+use Rattle.network.proofs.ReceiverLaws.{Leading, leading-none, leading-more, leading-done, received-own, compared-inside}
+use Rattle.receiver_blocks.specs.Runs.{finderAs, steepestFrom}
+
+module _ {w h c : ℕ} (a : Inner w h c) where
+  pub inner-inside : c < w * h
+  inner-inside =
+      let l = cell-lt w (columnOf w c) (rowOf w c) (omega (arith, a .east)) h (omega (arith, a .south)) in
+      subst (λ (k : ℕ). k < w * h) (cell-back w c) l
+
+  pub inner-wide : 3 ≤ w
+  inner-wide = omega (arith, a .west, a .east)
+
+  pub inner-few : w * h ≤ 2 ^ 24
+  inner-few = cells-bound w h (a .wide) (a .high)
+
+  module _ {f : ℕ} (n : (f ≡ c) ⊎ Adjacent w h c f) where
+    pub finder-near : Near w c f
+    finder-near = near-of (omega (arith, inner-wide)) (a .wide) n
+
+    -- a finder lies at most one row and one cell away
+    pub finder-back : c ≤ f + (w + 1)
+    finder-back = omega (arith, gap-bound finder-near inner-wide)
+
+    pub finder-ahead : f ≤ c + (w + 1)
+    finder-ahead = omega (arith, gap-bound finder-near inner-wide)
+
+-- the slope down to a finder, as the code works it out
+pub slope-read :
+    (w : ℕ) (spill : List Float) (c f : ℕ) → Near w c f → (ds : List Float) (place : ℕ) → ds ≡ distanceTable → place ≡ placeOf w c f
+    → slopeDown spill c f (getD ds place nan) ≡ slopeDown spill c f (apart w c f)
+slope-read w spill c f near ds place e p =
+    ap (slopeDown spill c f) (ap (λ (t : List Float). getD t place nan) e ∙ ap (λ (k : ℕ). getD distanceTable k nan) p ∙ place-holds near .1)
+
+-- the offsets, as the code reads them
+pub offset-read : (w : ℕ) (os : List ℕ) → os ≡ offsetsOf w → (d : ℕ) → d < 9 → getD os d 0 ≡ offsetOf w d
+unfolding offsetsOf
+offset-read w os e d l = ap (λ (t : List ℕ). getD t d 0) e ∙ getD-tabulate (offsetOf w) 9 d 0 l
+
+pub offsets-long : (w : ℕ) (os : List ℕ) → os ≡ offsetsOf w → 9 ≡ length os
+unfolding offsetsOf
+offsets-long w os e = sym (ap length e ∙ length-tabulate (offsetOf w) 9)
+
+pub offset-short : (w : ℕ) (os : List ℕ) → os ≡ offsetsOf w → w ≤ 4096 → (d : ℕ) → d < 9 → getD os d 0 ≤ 2 ^ 14
+offset-short w os e wide d l = omega (arith, offset-read w os e d l, offset-fits w d _ _ wide refl refl)
+
+-- b is a, with the offset from c in the place of the cell
+pub record Offset (w c : ℕ) (a b : Best) : Type 0 where
+  pub cell : c + b .cell ≡ a .cell + (w + 1)
+  pub slope : b .slope ≡ a .slope
+
+offset-where : {w c : ℕ} (t : Bool) {a b : Best} (m o : ℕ) (s : Float) → Offset w c a b → c + o ≡ m + (w + 1)
+    → Offset w c (cond t (record { cell = m; slope = s }) a) (cond t (record { cell = o; slope = s }) b)
+offset-where true m o s p e = record { cell = e; slope = refl }
+offset-where false m o s p e = p
+
+-- the best of the finder f and the first d neighbours of cell c, by its offset
+pub record Following (w h : ℕ) (spill : List Float) (c f d : ℕ) (best : Best) : Type 0 where
+  pub lead : Best
+  pub leads : Leading w h spill c f d lead
+  pub same : Offset w c lead best
+
+module _ (w h : ℕ) (spill : List Float) (c f : ℕ) (long : length spill ≡ w * h) (a : Inner w h c) (n : (f ≡ c) ⊎ Adjacent w h c f) where
+  following-none : Following w h spill c f 0 (finderAs w spill c f)
+  following-none = record {
+    lead = record { cell = f; slope = slopeDown spill c f (apart w c f) };
+    leads = leading-none w h spill c f (inner-inside a) n (apart w c f) refl;
+    same = record { cell = omega (arith, finder-back a n); slope = refl };
+  }
+
+  following-more :
+      (d : ℕ) (b : Best) → d < 8 → Following w h spill c f d b
+      → Following w h spill c f (d + 1) (comparedAs spill c (d + 1) (neighbourAt w h c (d + 1)) (offsetOf w (d + 1)) b)
+  following-more d b l p =
+      let m : ℕ = neighbourAt w h c (d + 1) in
+      let inside = inner-cell w h c (d + 1) (omega arith) (omega arith) a in
+      record {
+        lead = comparedAs spill c (d + 1) m m (p .lead);
+        leads =
+            leading-more w h spill c f d m (p .lead) _ (p .leads) refl
+            (compared-inside w h spill c (d + 1) m (p .lead) long _ (omega (arith, inside, long)) refl);
+        same =
+            subst
+            (λ (x : Float).
+            Offset w c (comparedAs spill c (d + 1) m m (p .lead))
+            (cond (lt (getD spill m nan) (getD spill c nan) && lt x (slopeDown spill c m (getD distances (d + 1) nan)))
+            (record { cell = offsetOf w (d + 1); slope = slopeDown spill c m (getD distances (d + 1) nan) }) b))
+            (sym (p .same .slope))
+            (offset-where (lt (getD spill m nan) (getD spill c nan) && lt (p .lead .slope) (slopeDown spill c m (getD distances (d + 1) nan))) m _ _ (p .same)
+            (sym (inner-offset w h c (d + 1) (omega arith) (omega arith) a)));
+      }
+
+  pub following-all : Following w h spill c f 8 (steepestFrom w h spill c (finderAs w spill c f))
+  unfolding steepestFrom
+  following-all =
+      turns-hold (λ i. comparedAs spill c (i + 1) (neighbourAt w h c (i + 1)) (offsetOf w (i + 1))) (Following w h spill c f) (finderAs w spill c f) 8 following-none
+      (λ i t l p. subst (λ (k : ℕ). Following w h spill c f k (comparedAs spill c (i + 1) (neighbourAt w h c (i + 1)) (offsetOf w (i + 1)) t)) (add-one i) (following-more i t l p))
+
+  -- the offset that the fold leaves: it leads to a cell, the receiver
+  pub offset-enough : w + 1 ≤ c + steepestFrom w h spill c (finderAs w spill c f) .cell
+  offset-enough = let p = following-all in omega (arith, p .same .cell)
+
+  pub offset-below : c + steepestFrom w h spill c (finderAs w spill c f) .cell ≤ 2 ^ 25
+  offset-below =
+      let p = following-all in
+      omega (arith, p .same .cell, p .leads .inside, inner-few a, a .wide)
+
+  pub offset-received :
+      (r : ℕ) → r ≡ cond (eqb f c) f (c + steepestFrom w h spill c (finderAs w spill c f) .cell - (w + 1)) → Received w h spill c f r
+  offset-received r e = go (ℕ-discrete f c)
+    where
+      go : Dec (f ≡ c) → Received w h spill c f r
+      go (yes own) = subst (Received w h spill c f) (sym (e ∙ rw (eq-eqb f c own))) (received-own w h spill c f own (inner-inside a))
+      go (no other) =
+          let p = following-all in
+          let back : p .lead .cell ≡ c + steepestFrom w h spill c (finderAs w spill c f) .cell - (w + 1) = omega (arith, p .same .cell) in
+          subst (Received w h spill c f) (sym (e ∙ rw (ne-eqb f c other) (sym back))) (leading-done w h spill c f 8 (p .lead) other (omega arith) (omega arith) (p .leads))
+
+-- the loop over the directions
+module _ (w h : ℕ) (spill : List Float) (c : ℕ) (start : Best) where
+  abbrev against : ℕ → Best → Best
+  against i = comparedAs spill c (i + 1) (neighbourAt w h c (i + 1)) (offsetOf w (i + 1))
+
+  pub record Steepening (d : ℕ) (best : Best) : Type 0 where
+    pub place : d ≤ 8
+    pub is : best ≡ turns d against start
+
+  pub steepening-none : Steepening 0 start
+  steepening-none = record { place = omega arith; is = sym (turns-none against start) }
+
+  pub steepening-more :
+      (d m o : ℕ) (best r : Best) → Steepening d best → d < 8 → m ≡ neighbourAt w h c (d + 1) → o ≡ offsetOf w (d + 1) → r ≡ comparedAs spill c (d + 1) m o best
+      → Steepening (d + 1) r
+  steepening-more d m o best r p l e f g = record {
+    place = omega arith;
+    is =
+        g ∙ ap (λ (m : ℕ). comparedAs spill c (d + 1) m o best) e ∙ ap (λ (o : ℕ). comparedAs spill c (d + 1) (neighbourAt w h c (d + 1)) o best) f
+        ∙ ap (against d) (p .is) ∙ sym (turns-more against d start);
+  }
+
+  pub steepening-done : (d : ℕ) (best : Best) → Steepening d best → 8 ≤ d → best .cell ≡ steepestFrom w h spill c start .cell
+  unfolding steepestFrom
+  steepening-done d best p l = let all : d ≡ 8 = omega (arith, p .place) in ap (λ (b : Best). b .cell) (p .is ∙ ap (λ (n : ℕ). turns n against start) all)

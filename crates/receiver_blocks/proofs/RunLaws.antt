@@ -1,0 +1,51 @@
+-- Runs of cells: none, one, and two that meet.
+use Prim.Native.Nat.{ℕ, _+_, _≤_, _<_}
+use mathlib.Core.Path.{_≡_, refl, sym, ap, _∙_}
+use mathlib.Core.List.{List}
+use native.Mathlib.Omega.{arith}
+use native.Mathlib.Decide.{decLt}
+use lib.ListN.{length, getD, set, length-set}
+use lib.Seq.{getD-set-same, getD-set-other}
+use lib.Ieee.{Float}
+use Rattle.drainage.specs.Ground.{floats, gridGround}
+use Rattle.drainage.specs.Receivers.{receiverOf}
+use Rattle.network.specs.Passes.{Received}
+use Rattle.receiver_blocks.specs.Runs.{RunReceived}
+
+module _ (w h : ℕ) (spill : List Float) where
+  pub run-none : (a : ℕ) (r : List ℕ) → RunReceived w h spill a a r r
+  run-none a r = record { done = λ water hs c lo hi. absurd (omega arith); earlier = λ c l. refl; later = λ c l. refl; long = refl }
+
+  pub run-one : (c v : ℕ) (r : List ℕ) → c < length r → Received w h spill c (getD r c 0) v → RunReceived w h spill c (c + 1) r (set r c v)
+  run-one c v r l s = record {
+    done = λ water hs k lo hi. let e : k ≡ c = omega arith in rw e (getD-set-same r c v 0 l ∙ s .is water hs);
+    earlier = λ k m. getD-set-other r c k v 0 (below k m);
+    later = λ k m. getD-set-other r c k v 0 (above k m);
+    long = length-set r c v;
+  }
+    where
+      below : (k : ℕ) → k < c → k ≡ c → ⊥
+      below k m e = omega arith
+
+      above : (k : ℕ) → c + 1 ≤ k → k ≡ c → ⊥
+      above k m e = omega arith
+
+  -- two runs, the second from where the first ends
+  pub run-join :
+      {a b b′ d d′ : ℕ} {r s t : List ℕ} → RunReceived w h spill a b r s → RunReceived w h spill b′ d s t → b ≡ b′ → a ≤ b → b ≤ d → d ≡ d′
+      → RunReceived w h spill a d′ r t
+  run-join {a} {b} {b′} {d} {d′} {r} {s} {t} p q e l m f = record {
+    done = λ water hs c lo hi. at water hs c lo hi (decLt c b);
+    earlier = λ c k. q .earlier c (omega arith) ∙ p .earlier c k;
+    later = λ c k. q .later c (omega arith) ∙ p .later c (omega arith);
+    long = q .long ∙ p .long;
+  }
+    where
+      at :
+          (water : Float) (hs : List Float) (c : ℕ) → a ≤ c → c < d′ → Dec (c < b)
+          → getD t c 0 ≡ receiverOf floats (gridGround w h water hs) spill c (getD r c 0)
+      at water hs c lo hi (yes k) = q .earlier c (omega arith) ∙ p .done water hs c lo k
+      at water hs c lo hi (no k) = q .done water hs c (omega arith) (omega arith) ∙ ap (receiverOf floats (gridGround w h water hs) spill c) (p .later c (omega arith))
+
+  pub run-end : {a b b′ : ℕ} {r s : List ℕ} → RunReceived w h spill a b r s → b ≡ b′ → RunReceived w h spill a b′ r s
+  run-end p e = rw (sym e) p

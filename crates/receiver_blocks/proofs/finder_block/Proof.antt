@@ -1,0 +1,114 @@
+use Prim.Native.Nat.{_+_, _-_, _≤_}
+use native.Mathlib.Omega.{arith}
+use mathlib.Core.Path.{_≡_, refl}
+use mathlib.Core.Logic.{_⊎_}
+use lib.ListN.{getD}
+use Rattle.lists.proofs.FillLaws.{Filling, filling-none, filling-more}
+use Rattle.grid.specs.Directions.{Adjacent}
+use Rattle.inner_cells.specs.Inner.{Inner}
+use Rattle.network.proofs.ReceiverLaws.{near-inside}
+use Rattle.receiver_blocks.specs.Runs.{finderAs}
+use Rattle.receiver_blocks.proofs.OffsetLaws.{inner-inside, inner-few, finder-near, finder-back, finder-ahead}
+use Rattle.receiver_blocks.proofs.BlockLaws.{filled-end}
+use Rattle.receiver_blocks.proofs.finder_block.Statement.{statement}
+use Rattle.receiver_blocks.proofs.finder_block.Tie as tie
+
+abbrev Inv-loop : tie.InvT-loop
+Inv-loop ds spill recv c n cells₀ slopes₀ w i₀ cells slopes i = (i ≤ n) × (Filling (λ k. finderAs w spill (c + k) (getD recv (c + k) 0) .cell) i cells₀ cells × Filling (λ k. finderAs w spill (c + k) (getD recv (c + k) 0) .slope) i slopes₀ slopes)
+
+abbrev μ-loop : tie.MeasureT-loop
+μ-loop ds spill recv c n cells₀ slopes₀ w i₀ cells slopes i = n - i
+
+-- the cell of this turn is an inner one, and its finder is near
+cell : (c : tie.In-loop Inv-loop μ-loop) → Inner (c .before .before .before .before .args .size .w) (c .before .before .before .before .args .size .h) (c .before .before .before .before .args .c + c .before .loop .i)
+cell c = c .before .before .before .before .pre .0 .inner (c .before .loop .i) (c .loop-test .taken)
+
+finder : (c : tie.In-loop Inv-loop μ-loop) → (getD (c .before .before .before .before .args .recv .now) (c .before .before .before .before .args .c + c .before .loop .i) 0 ≡ c .before .before .before .before .args .c + c .before .loop .i) ⊎ Adjacent (c .before .before .before .before .args .size .w) (c .before .before .before .before .args .size .h) (c .before .before .before .before .args .c + c .before .loop .i) (getD (c .before .before .before .before .args .recv .now) (c .before .before .before .before .args .c + c .before .loop .i) 0)
+finder c = c .before .before .before .before .pre .1 .0 .near (c .before .before .before .before .args .c + c .before .loop .i) (omega arith) (omega (arith, c .loop-test .taken))
+
+loop-holds : tie.Need-loop-holds Inv-loop μ-loop
+loop-holds c = (omega arith, (filling-none, filling-none))
+
+add-f : tie.Need-add-f Inv-loop μ-loop
+add-f c = omega (arith, inner-inside (cell c), inner-few (cell c))
+
+mul-f : tie.Need-mul-f Inv-loop μ-loop
+mul-f c = omega (arith, inner-inside (cell c), inner-few (cell c))
+
+shared-slice-read-f : tie.Need-shared-slice-read-f Inv-loop μ-loop
+shared-slice-read-f c = omega (arith, inner-inside (cell (c .before)), c .before .before .before .before .before .pre .1 .1 .1 .1 .0)
+
+cast-f : tie.Need-cast-f Inv-loop μ-loop
+cast-f c = omega (arith, near-inside _ _ _ _ (inner-inside (cell (c .before))) (finder (c .before)), inner-few (cell (c .before)))
+
+add-finder-slope : tie.Need-add-finder-slope Inv-loop μ-loop
+add-finder-slope c = omega (arith, inner-inside (cell (c .before)), inner-few (cell (c .before)))
+
+finder-slope-requires : tie.Need-finder-slope-requires Inv-loop μ-loop
+finder-slope-requires c κs = (finder-near (cell (c .before)) (finder (c .before)), (c .before .before .before .before .before .pre .1 .1 .0, (omega (arith, inner-inside (cell (c .before)), c .before .before .before .before .before .pre .1 .1 .1 .0), omega (arith, near-inside _ _ _ _ (inner-inside (cell (c .before))) (finder (c .before)), c .before .before .before .before .before .pre .1 .1 .1 .0))))
+
+mul-slopes : tie.Need-mul-slopes Inv-loop μ-loop
+mul-slopes c = omega (arith, c .before .before .loop-test .taken, c .before .before .before .before .before .before .pre .1 .1 .1 .1 .1 .0)
+
+element-write-slopes : tie.Need-element-write-slopes Inv-loop μ-loop
+element-write-slopes c = omega (arith, c .before .before .loop-test .taken, c .before .before .before .before .before .before .pre .1 .1 .1 .1 .1 .0)
+
+add-cells : tie.Need-add-cells Inv-loop μ-loop
+add-cells c = omega (arith, cell (c .before .before) .wide)
+
+add-cells-2 : tie.Need-add-cells-2 Inv-loop μ-loop
+add-cells-2 c = omega (arith, cell (c .before .before) .wide, near-inside _ _ _ _ (inner-inside (cell (c .before .before))) (finder (c .before .before)), inner-few (cell (c .before .before)))
+
+add-cells-3 : tie.Need-add-cells-3 Inv-loop μ-loop
+add-cells-3 c = omega (arith, inner-inside (cell (c .before .before)), inner-few (cell (c .before .before)))
+
+sub-cells : tie.Need-sub-cells Inv-loop μ-loop
+sub-cells c = finder-back (cell (c .before .before)) (finder (c .before .before))
+
+cast-cells : tie.Need-cast-cells Inv-loop μ-loop
+cast-cells c = omega (arith, finder-ahead (cell (c .before .before)) (finder (c .before .before)), cell (c .before .before) .wide)
+
+mul-cells : tie.Need-mul-cells Inv-loop μ-loop
+mul-cells c = omega (arith, c .before .before .loop-test .taken, c .before .before .before .before .before .before .pre .1 .1 .1 .1 .1 .0)
+
+element-write-cells : tie.Need-element-write-cells Inv-loop μ-loop
+element-write-cells c = omega (arith, c .before .before .loop-test .taken, c .before .before .before .before .before .before .pre .1 .1 .1 .1 .1 .0)
+
+add-i : tie.Need-add-i Inv-loop μ-loop
+add-i c = omega (arith, c .before .before .loop-test .taken, c .before .before .before .before .before .before .pre .1 .1 .1 .1 .1 .0)
+
+loop-less : tie.Need-loop-less Inv-loop μ-loop
+loop-less c = omega (arith, c .before .before .loop-test .taken)
+
+loop-again : tie.Need-loop-again Inv-loop μ-loop
+loop-again c = (omega (arith, c .before .before .loop-test .taken), (filling-more (c .before .before .before .loop .inv .1 .0) refl (omega (arith, c .before .before .loop-test .taken, c .before .before .before .before .before .before .pre .1 .1 .1 .1 .1)), filling-more (c .before .before .before .loop .inv .1 .1) (c .finder-slope .ensures) (omega (arith, c .before .before .loop-test .taken, c .before .before .before .before .before .before .pre .1 .1 .1 .1 .1))))
+
+returns : tie.Need-returns Inv-loop μ-loop
+returns c = record { offsets = filled-end _ (c .before .loop .inv .1 .0) (c .before .loop .inv .0) (c .loop-test .left); downs = filled-end _ (c .before .loop .inv .1 .1) (c .before .loop .inv .0) (c .loop-test .left) }
+
+pub finder-block-spec : {M : Type 1} → statement M
+finder-block-spec =
+    tie.close
+    (tie.spec
+    Inv-loop
+    μ-loop
+    loop-holds
+    add-f
+    mul-f
+    shared-slice-read-f
+    cast-f
+    add-finder-slope
+    finder-slope-requires
+    mul-slopes
+    element-write-slopes
+    add-cells
+    add-cells-2
+    add-cells-3
+    sub-cells
+    cast-cells
+    mul-cells
+    element-write-cells
+    add-i
+    loop-less
+    loop-again
+    returns)

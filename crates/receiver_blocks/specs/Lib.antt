@@ -1,0 +1,2 @@
+-- Receivers of runs of cells.
+pub mod Runs

@@ -1,0 +1,174 @@
+// Receivers in the place of finders, for a block of inner cells: the finders of all with the slopes down to them, then the steepest neighbours of all,
+// each cell by its offset, with no test and no branch, then the stores.
+use grid::Sides;
+use inner_cells::beside;
+use network::Best;
+use network::compare;
+use steps::step_place;
+ghost use Prim.Native.Nat.{_+_, _-_, _*_, _^_, _≤_, _<_};
+ghost use mathlib.Core.Path.{_≡_};
+ghost use mathlib.Core.Bool.{cond};
+ghost use mathlib.Core.List.{_++_};
+ghost use lib.Dec.{eqb};
+ghost use lib.ListN.{length, drop};
+ghost use Rattle.lists.specs.Loops.{tabulate};
+ghost use Rattle.inner_cells.specs.Inner.{Inner, offsetsOf};
+ghost use Rattle.steps.specs.Step.{distanceTable, Near};
+ghost use Rattle.receiver_blocks.specs.Runs.{finderAs, steepestFrom, steepestAt, InnerRun, NearFinders, Begun, RunReceived};
+
+// The offsets as u32: a receiver so far has its offset beside its slope in as many bits, so that as many are chosen at a time.
+pub fn narrow(os: &[usize; 9], width: usize) -> [u32; 9]
+    requires { ⌜ now os ≡ offsetsOf width ⌝ }
+    requires { ⌜ width ≤ 4096 ⌝ }
+    ensures { λ r. ⌜ r ≡ offsetsOf width ⌝ }
+{
+    let mut short: [u32; 9] = [0; 9];
+    let mut d: usize = 0;
+    while d < 9 {
+        short[d] = os[d] as u32;
+        d += 1;
+    }
+    short
+}
+
+// The slope from cell c down to its finder f.
+fn finder_slope(width: usize, ds: &[f32; 5], spill: &[f32], c: usize, f: usize) -> f32
+    requires { ⌜ Near width c f ⌝ }
+    requires { ⌜ now ds ≡ distanceTable ⌝ }
+    requires { ⌜ c < length (now spill) ⌝ }
+    requires { ⌜ f < length (now spill) ⌝ }
+    ensures { λ r. ⌜ r ≡ finderAs width (now (spill .entry)) c f .slope ⌝ }
+{
+    let place = step_place(c, f, width);
+    (spill[c] - spill[f]) / ds[place]
+}
+
+// The finders of n inner cells from cell c on, by their offsets, and the slopes down to them.
+fn finder_block(
+    size: Sides,
+    ds: &[f32; 5],
+    spill: &[f32],
+    recv: &[u32],
+    c: usize,
+    n: usize,
+    cells: &mut [u32; 64],
+    slopes: &mut [f32; 64],
+)
+    requires { ⌜ InnerRun (size .w) (size .h) c n ⌝ }
+    requires { ⌜ NearFinders (size .w) (size .h) c (c + n) (now recv) ⌝ }
+    requires { ⌜ now ds ≡ distanceTable ⌝ }
+    requires { ⌜ length (now spill) ≡ size .w * size .h ⌝ }
+    requires { ⌜ length (now recv) ≡ size .w * size .h ⌝ }
+    requires { ⌜ n ≤ 64 ⌝ }
+    requires { ⌜ length (now cells) ≡ 64 ⌝ }
+    requires { ⌜ length (now slopes) ≡ 64 ⌝ }
+    ensures { λ _. ⌜ Begun (size .w) (now (spill .entry)) (now (recv .entry)) c n (now (cells .entry)) (now (slopes .entry)) (now (cells .exit)) (now (slopes .exit)) ⌝ }
+{
+    let w = size.w;
+    let mut i: usize = 0;
+    while i < n {
+        let f = recv[c + i] as usize;
+        slopes[i] = finder_slope(w, ds, spill, c + i, f);
+        cells[i] = (f + (w + 1) - (c + i)) as u32;
+        i += 1;
+    }
+}
+
+// The steepest neighbour of an inner cell against the receiver so far, by their offsets.
+fn steepest_inside(
+    size: Sides,
+    os: &[usize; 9],
+    short: &[u32; 9],
+    spill: &[f32],
+    c: usize,
+    best: Best,
+) -> u32
+    requires { ⌜ Inner (size .w) (size .h) c ⌝ }
+    requires { ⌜ now os ≡ offsetsOf (size .w) ⌝ }
+    requires { ⌜ now short ≡ offsetsOf (size .w) ⌝ }
+    requires { ⌜ length (now spill) ≡ size .w * size .h ⌝ }
+    ensures { λ r. ⌜ r ≡ steepestFrom (size .w) (size .h) (now (spill .entry)) c best .cell ⌝ }
+{
+    let mut b = best;
+    let mut d: usize = 0;
+    while d < 8 {
+        let m = beside(size, os, c, d + 1);
+        b = compare(spill, c, d + 1, m, short[d + 1], b);
+        d += 1;
+    }
+    b.cell
+}
+
+// The steepest of n inner cells from cell c on. Nothing lent is written between them, so that several are worked out at a time.
+fn steepest_block(
+    size: Sides,
+    os: &[usize; 9],
+    short: &[u32; 9],
+    spill: &[f32],
+    c: usize,
+    n: usize,
+    cells: &mut [u32; 64],
+    slopes: &[f32; 64],
+)
+    requires { ⌜ InnerRun (size .w) (size .h) c n ⌝ }
+    requires { ⌜ now os ≡ offsetsOf (size .w) ⌝ }
+    requires { ⌜ now short ≡ offsetsOf (size .w) ⌝ }
+    requires { ⌜ length (now spill) ≡ size .w * size .h ⌝ }
+    requires { ⌜ n ≤ 64 ⌝ }
+    requires { ⌜ length (now cells) ≡ 64 ⌝ }
+    ensures { λ _. ⌜ now (cells .exit) ≡ tabulate n (steepestAt (size .w) (size .h) (now (spill .entry)) c (now (cells .entry)) (now (slopes .entry))) ++ drop n (now (cells .entry)) ⌝ }
+{
+    let mut i: usize = 0;
+    while i < n {
+        let best = Best {
+            cell: cells[i],
+            slope: slopes[i],
+        };
+        cells[i] = steepest_inside(size, os, short, spill, c + i, best);
+        i += 1;
+    }
+}
+
+// The receiver of an inner cell: the cell itself if it is its own finder, else the one at the offset.
+fn receiver_inside(size: Sides, c: usize, f: u32, offset: u32) -> u32
+    requires { ⌜ size .w + 1 ≤ c + offset ⌝ }
+    requires { ⌜ c + offset ≤ 2 ^ 25 ⌝ }
+    ensures { λ r. ⌜ r ≡ cond (eqb f c) f (c + offset - (size .w + 1)) ⌝ }
+{
+    if f as usize == c {
+        return f;
+    }
+    (c + offset as usize - (size.w + 1)) as u32
+}
+
+// The receivers of n inner cells from cell c on.
+pub fn receive_block(
+    size: Sides,
+    os: &[usize; 9],
+    short: &[u32; 9],
+    ds: &[f32; 5],
+    spill: &[f32],
+    recv: &mut [u32],
+    c: usize,
+    n: usize,
+)
+    requires { ⌜ InnerRun (size .w) (size .h) c n ⌝ }
+    requires { ⌜ NearFinders (size .w) (size .h) c (c + n) (now recv) ⌝ }
+    requires { ⌜ now os ≡ offsetsOf (size .w) ⌝ }
+    requires { ⌜ now short ≡ offsetsOf (size .w) ⌝ }
+    requires { ⌜ now ds ≡ distanceTable ⌝ }
+    requires { ⌜ length (now spill) ≡ size .w * size .h ⌝ }
+    requires { ⌜ length (now recv) ≡ size .w * size .h ⌝ }
+    requires { ⌜ n ≤ 64 ⌝ }
+    ensures { λ _. ⌜ RunReceived (size .w) (size .h) (now (spill .entry)) c (c + n) (now (recv .entry)) (now (recv .exit)) ⌝ }
+{
+    let mut cells: [u32; 64] = [0; 64];
+    let mut slopes: [f32; 64] = [0.0; 64];
+    finder_block(size, ds, spill, recv, c, n, &mut cells, &mut slopes);
+    steepest_block(size, os, short, spill, c, n, &mut cells, &slopes);
+    let mut i: usize = 0;
+    while i < n {
+        recv[c + i] = receiver_inside(size, c + i, recv[c + i], cells[i]);
+        i += 1;
+    }
+}

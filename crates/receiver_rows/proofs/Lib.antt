@@ -1,0 +1,3 @@
+-- Laws of rows of receivers.
+pub mod FinderLaws
+pub mod RowLaws

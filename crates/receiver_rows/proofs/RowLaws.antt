@@ -1,0 +1,46 @@
+-- A row as runs: its first cell, the inner ones in blocks, and the rest; and the rows of a grid.
+use Prim.Native.Nat.{ℕ, zero, suc, _+_, _-_, _*_, _^_, _≤_, _<_}
+use mathlib.Core.Path.{_≡_, refl, ap, _∙_, subst}
+use mathlib.Core.List.{List}
+use native.Mathlib.Nat.{mul-le-mul-right, mul-comm}
+use native.Mathlib.Omega.{arith}
+use lib.Ieee.{Float}
+use Rattle.inner_cells.specs.Inner.{Inner, innerOf}
+use Rattle.inner_cells.proofs.InnerLaws.{inner-each}
+use Rattle.receiver_blocks.specs.Runs.{InnerRun, RunReceived}
+use Rattle.receiver_blocks.proofs.OffsetLaws.{inner-inside, inner-few}
+use Rattle.receiver_blocks.proofs.RunLaws.{run-join}
+
+-- fewer cells
+pub run-part : {w h c n : ℕ} (i b : ℕ) → InnerRun w h c n → i + b ≤ n → InnerRun w h (c + i) b
+run-part {w} {h} {c} i b a l = record { inner = λ j k. let e : c + (i + j) ≡ c + i + j = omega arith in subst (Inner w h) e (a .inner (i + j) (omega arith)) }
+
+-- the number of one of them, or of the next cell, is below m
+pub run-few : (w h c n i m : ℕ) → InnerRun w h c n → i ≤ n → c < m → 2 ^ 24 < m → c + i < m
+run-few w h c zero i m a l lo hi = omega arith
+run-few w h c (suc n) i m a l lo hi = omega (arith, inner-inside (a .inner n (omega arith)), inner-few (a .inner n (omega arith)))
+
+pub row-inner : (w h y n : ℕ) → n ≡ innerOf w h y → y < h → w ≤ 4096 → h ≤ 4096 → InnerRun w h (1 + y * w) n
+row-inner w h y n e below wide high = record {
+  inner = λ i l. let s : 1 + i + y * w ≡ 1 + y * w + i = omega arith in subst (Inner w h) s (inner-each w h y n e below wide high i l);
+}
+
+-- a row ends inside the grid
+pub row-end : (w h y : ℕ) → y < h → w + y * w ≤ w * h
+row-end w h y l = omega (arith, mul-le-mul-right w l, mul-comm w h)
+
+pub rows-end : (w h y : ℕ) → y ≤ h → h ≤ y → y * w ≡ w * h
+rows-end w h y a b = let e : y ≡ h = omega arith in ap (λ (k : ℕ). k * w) e ∙ mul-comm h w
+
+module _ (w h : ℕ) (spill : List Float) (y n : ℕ) (most : 1 + n ≤ w) {r t : List ℕ} where
+  -- the first cell and the inner ones
+  pub row-two :
+      {s : List ℕ} → RunReceived w h spill (0 + y * w) (0 + 1 + y * w) r s → RunReceived w h spill (1 + y * w) (1 + y * w + n) s t → RunReceived w h spill (y * w) (1 + n + y * w) r t
+  row-two p q =
+      let z : 0 + y * w ≡ y * w = omega arith in
+      subst (λ (a : ℕ). RunReceived w h spill a (1 + n + y * w) r t) z (run-join w h spill p q (omega arith) (omega arith) (omega arith) (omega arith))
+
+  -- and the rest
+  pub row-whole : {u : List ℕ} → RunReceived w h spill (y * w) (1 + n + y * w) r t → RunReceived w h spill (1 + n + y * w) (1 + n + (w - (1 + n)) + y * w) t u
+      → RunReceived w h spill (y * w) (w + y * w) r u
+  row-whole p q = run-join w h spill p q refl (omega arith) (omega arith) (omega arith)

@@ -1,0 +1,2 @@
+-- Receivers row by row.
+pub mod Rows
