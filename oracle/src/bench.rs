@@ -1,5 +1,5 @@
 //! Measures the library's calls against the source's on the same heights in one process, and compares what they leave bit for bit.
-//! `bench [root|route|incise|slide|runs] [side]..` measures some of them; docs/BENCHMARKS.md has the command and what was measured.
+//! `bench [root|route|incise|slide|runs|parts] [side]..` measures some of them; docs/BENCHMARKS.md has the command and what was measured.
 #[path = "bench/calls.rs"]
 mod calls;
 #[allow(dead_code)]
@@ -111,88 +111,68 @@ fn same_cells(name: &str, a: &[u32], b: &[u32]) {
 const WATER: f32 = 0.12;
 
 /// One root for each cell, through the C function, against the processor's.
-fn roots(side: usize) {
-    for (kind, h) in terrains(side) {
-        let (mut ours, mut theirs) = (vec![0.0; h.len()], vec![0.0; h.len()]);
-        let mut lib = || ours.iter_mut().zip(&h).for_each(|(y, x)| *y = f32::from_bits(calls::root(*x) as u32));
-        row("root", side, kind, &mut lib, &mut || theirs.iter_mut().zip(&h).for_each(|(y, x)| *y = x.sqrt()));
-        same_floats("roots", &ours, &theirs);
-    }
+fn roots(side: usize, kind: &str, h: &[f32]) {
+    let (mut ours, mut theirs) = (vec![0.0; h.len()], vec![0.0; h.len()]);
+    let mut lib = || ours.iter_mut().zip(h).for_each(|(y, x)| *y = f32::from_bits(calls::root(*x) as u32));
+    row("root", side, kind, &mut lib, &mut || theirs.iter_mut().zip(h).for_each(|(y, x)| *y = x.sqrt()));
+    same_floats("roots", &ours, &theirs);
 }
 
 /// The network: both sides keep their slices from run to run.
-fn route(side: usize) {
+fn route(side: usize, kind: &str, h: &[f32]) {
     let size = (side, side);
-    for (kind, h) in terrains(side) {
-        let mut ours = calls::Network::new(h.len());
-        let mut theirs = FlowNet::new();
-        row("route", side, kind, &mut || assert!(ours.route(size, &h, WATER) == 0), &mut || {
-            theirs.route(size, &h, WATER)
-        });
-        same_cells("orders", &ours.order, &theirs.order);
-        same_cells("receivers", &ours.recv, &theirs.recv);
-        same_floats("spill heights", &ours.spill, spill(&theirs));
-        same_floats("areas", &ours.area, &theirs.area);
-    }
+    let mut ours = calls::Network::new(h.len());
+    let mut theirs = FlowNet::new();
+    row("route", side, kind, &mut || assert!(ours.route(size, h, WATER) == 0), &mut || theirs.route(size, h, WATER));
+    same_cells("orders", &ours.order, &theirs.order);
+    same_cells("receivers", &ours.recv, &theirs.recv);
+    same_floats("spill heights", &ours.spill, spill(&theirs));
+    same_floats("areas", &ours.area, &theirs.area);
 }
 
 /// One incision along the flood's network with the source's k for strength 0.6: areas along the list, a copy of the heights, the cut.
 /// The library's call also checks the lent receivers and the list, and every height before and after; `incise_into` is the incision
 /// without those checks, as a run does it.
-fn incise(side: usize) {
+fn incise(side: usize, kind: &str, h: &[f32]) {
     let size = (side, side);
     let s = Incision { k: 8.0 * 0.6 * (side as f32 / 512.0), uplift: 0.0, water_level: WATER };
-    for (kind, h) in terrains(side) {
-        let mut net = FlowNet::new();
-        net.route(size, &h, WATER);
-        let (recv, list) = (net.recv.clone(), net.order.clone());
-        let lent = calls::Lent { recv: &recv, list: &list };
-        let (mut ours, mut theirs, mut area) = (vec![0.0; h.len()], vec![0.0; h.len()], vec![0.0; h.len()]);
-        let params = incision_params(s.k, s.uplift, s.water_level);
-        let mut source = || {
-            theirs.copy_from_slice(&h);
-            accumulate(&mut net);
-            fluvial::incise(size, &mut theirs, &net, &params);
-        };
-        row(
-            "incise",
-            side,
-            kind,
-            &mut || assert!(calls::incise(size, &h, &s, lent, &mut ours, &mut area) == 0),
-            &mut source,
-        );
-        let called = ours.clone();
-        row(
-            "incise_into",
-            side,
-            kind,
-            &mut || calls::incise_into(size, &h, &s, lent, &mut ours, &mut area),
-            &mut source,
-        );
-        same_floats("heights", &called, &theirs);
-        same_floats("heights", &ours, &theirs);
-        same_floats("areas", &area, &net.area);
-    }
+    let mut net = FlowNet::new();
+    net.route(size, h, WATER);
+    let (recv, list) = (net.recv.clone(), net.order.clone());
+    let lent = calls::Lent { recv: &recv, list: &list };
+    let (mut ours, mut theirs, mut area) = (vec![0.0; h.len()], vec![0.0; h.len()], vec![0.0; h.len()]);
+    let params = incision_params(s.k, s.uplift, s.water_level);
+    let mut source = || {
+        theirs.copy_from_slice(h);
+        accumulate(&mut net);
+        fluvial::incise(size, &mut theirs, &net, &params);
+    };
+    let mut checked = || assert!(calls::incise(size, h, &s, lent, &mut ours, &mut area) == 0);
+    row("incise", side, kind, &mut checked, &mut source);
+    let called = ours.clone();
+    let mut unchecked = || calls::incise_into(size, h, &s, lent, &mut ours, &mut area);
+    row("incise_into", side, kind, &mut unchecked, &mut source);
+    same_floats("heights", &called, &theirs);
+    same_floats("heights", &ours, &theirs);
+    same_floats("areas", &area, &net.area);
 }
 
 /// One talus pass with the source's threshold for talus 0.5 and its strength 0.5.
-fn slide(side: usize) {
+fn slide(side: usize, kind: &str, h: &[f32]) {
+    slide_by(0.5, side, kind, h);
+}
+
+fn slide_by(talus: f32, side: usize, kind: &str, h: &[f32]) {
     let size = (side, side);
-    let s = Talus { threshold: 0.03 * 0.25 / (side as f32 / 512.0), strength: 0.5, water_level: WATER };
-    for (kind, h) in terrains(side) {
-        let (mut ours, mut theirs) = (vec![0.0; h.len()], vec![0.0; h.len()]);
-        row(
-            "slide_pass",
-            side,
-            kind,
-            &mut || assert!(calls::slide_pass(size, &h, &mut ours, &s, (0.0, 1.0), Record::FRESH, 0).0 == 0),
-            &mut || {
-                theirs.copy_from_slice(&h);
-                assert!(source::erosion::slide_pass(size, &h, &mut theirs, &s, (0.0, 1.0), Record::FRESH, 0).0);
-            },
-        );
-        same_floats("heights", &ours, &theirs);
-    }
+    let threshold = 0.03 * (1.0 - talus) * (1.0 - talus) / (side as f32 / 512.0);
+    let s = Talus { threshold, strength: 0.5, water_level: WATER };
+    let (mut ours, mut theirs) = (vec![0.0; h.len()], vec![0.0; h.len()]);
+    let mut lib = || assert!(calls::slide_pass(size, h, &mut ours, &s, (0.0, 1.0), Record::FRESH, 0).0 == 0);
+    row("slide_pass", side, kind, &mut lib, &mut || {
+        theirs.copy_from_slice(h);
+        assert!(source::erosion::slide_pass(size, h, &mut theirs, &s, (0.0, 1.0), Record::FRESH, 0).0);
+    });
+    same_floats("heights", &ours, &theirs);
 }
 
 /// The source's default settings; the working side is 512, so a run on a larger grid is reduced.
@@ -200,6 +180,20 @@ const FLUVIAL: Settings =
     Settings { water_level: WATER, strength: 0.6, talus: 0.2, uplift: 0.0, iterations: 50, work_res: 512 };
 const THERMAL: Settings =
     Settings { water_level: WATER, strength: 0.5, talus: 0.5, uplift: 0.0, iterations: 50, work_res: 512 };
+
+/// Where the time of a fluvial run goes: the calls of one iteration on the map as it is after some of them.
+fn parts(side: usize, kind: &str, h: &[f32]) {
+    for iterations in [0, 10, 25, 49] {
+        let mut map = h.to_vec();
+        if iterations > 0 {
+            gen_fluvial_erosion((side, side), &mut map, &Settings { iterations, ..FLUVIAL }, 0);
+        }
+        let kind = format!("{kind}, after {iterations}");
+        route(side, &kind, &map);
+        incise(side, &kind, &map);
+        slide_by(FLUVIAL.talus, side, &kind, &map);
+    }
+}
 
 /// A whole run on a copy of the heights.
 fn whole_run(
@@ -223,18 +217,28 @@ fn whole_run(
 }
 
 /// Whole runs with the default settings.
-fn whole_runs(side: usize) {
+fn whole_runs(side: usize, kind: &str, h: &[f32]) {
     let size = (side, side);
-    for (kind, h) in terrains(side) {
-        let mut scratch = runs::Scratch::new(h.len());
-        whole_run("gen_thermal_erosion", side, kind, &h, &mut |v| scratch.thermal(size, v, &THERMAL, 0), &mut |v| {
-            gen_thermal_erosion(size, v, &THERMAL, 0);
-        });
-        whole_run("gen_fluvial_erosion", side, kind, &h, &mut |v| scratch.fluvial(size, v, &FLUVIAL, 0), &mut |v| {
-            gen_fluvial_erosion(size, v, &FLUVIAL, 0);
-        });
-    }
+    let mut scratch = runs::Scratch::new(h.len());
+    whole_run("gen_thermal_erosion", side, kind, h, &mut |v| scratch.thermal(size, v, &THERMAL, 0), &mut |v| {
+        gen_thermal_erosion(size, v, &THERMAL, 0);
+    });
+    whole_run("gen_fluvial_erosion", side, kind, h, &mut |v| scratch.fluvial(size, v, &FLUVIAL, 0), &mut |v| {
+        gen_fluvial_erosion(size, v, &FLUVIAL, 0);
+    });
 }
+
+/// A word, what it measures on each terrain, and the sides if none is asked for.
+type Table = (&'static str, fn(usize, &str, &[f32]), &'static [usize]);
+
+const TABLES: [Table; 6] = [
+    ("root", roots, &[1024]),
+    ("route", route, &[256, 512, 1024, 4096]),
+    ("incise", incise, &[256, 512, 1024, 4096]),
+    ("slide", slide, &[256, 512, 1024, 4096]),
+    ("runs", whole_runs, &[512, 1024, 4096]),
+    ("parts", parts, &[512]),
+];
 
 fn main() {
     let args: Vec<String> = std::env::args().skip(1).collect();
@@ -242,17 +246,12 @@ fn main() {
     let named: Vec<&String> = args.iter().filter(|a| a.parse::<usize>().is_err()).collect();
     println!("| call | grid | terrain | source, ms | library, ms | source / library |");
     println!("|---|---|---|---|---|---|");
-    let tables: [(&str, fn(usize), &[usize]); 5] = [
-        ("root", roots, &[1024]),
-        ("route", route, &[256, 512, 1024, 4096]),
-        ("incise", incise, &[256, 512, 1024]),
-        ("slide", slide, &[256, 512, 1024]),
-        ("runs", whole_runs, &[512, 1024, 4096]),
-    ];
-    for (name, measure, sides) in tables {
+    for (name, measure, sides) in TABLES {
         if named.is_empty() || named.iter().any(|a| *a == name) {
             for side in if asked.is_empty() { sides } else { &asked[..] } {
-                measure(*side);
+                for (kind, h) in terrains(*side) {
+                    measure(*side, kind, &h);
+                }
             }
         }
     }
