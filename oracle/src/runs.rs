@@ -13,9 +13,18 @@ use crate::terrain::{
 pub const FLUVIAL: u32 = 1;
 pub const THERMAL: u32 = 2;
 
-/// how many scratch slices of floats a run is lent
-const FLUVIAL_ROOM: usize = 4;
+/// how many scratch slices a run is lent: four of floats and four of whole numbers, or three of floats
+const FLUVIAL_ROOM: usize = 8;
 const THERMAL_ROOM: usize = 3;
+const FLOATS: usize = 4;
+
+fn slices(call: u32) -> usize {
+    if call == FLUVIAL {
+        FLUVIAL_ROOM
+    } else {
+        THERMAL_ROOM
+    }
+}
 
 pub struct Task {
     pub call: u32,
@@ -23,15 +32,14 @@ pub struct Task {
     pub map: Vec<f32>,
     pub s: Settings,
     pub stop: u32,
-    /// the lengths of the scratch slices of floats
+    /// the lengths of the scratch slices, those of floats first
     room: Vec<usize>,
 }
 
 impl Task {
     /// A task of the call with scratch of n cells.
     fn new(call: u32, size: Sides, map: Vec<f32>, s: Settings) -> Task {
-        let slices = if call == FLUVIAL { FLUVIAL_ROOM } else { THERMAL_ROOM };
-        let room = vec![map.len(); slices];
+        let room = vec![map.len(); slices(call)];
         Task { call, size, map, s, stop: 0, room }
     }
 }
@@ -74,6 +82,7 @@ pub fn list(seed: u64) -> List {
     stops(&mut l, &mut r);
     run_offs(&mut l, &mut r);
     refusals(&mut l, &mut r);
+    short_slices(&mut l, &mut r);
     l
 }
 
@@ -118,7 +127,7 @@ pub fn task(r: &mut Random, call: u32, size: Sides, kind: usize, most: usize) ->
     let map = relief(r, size, kind);
     let s = settings(r, size, &map, most);
     let mut t = Task::new(call, size, map, s);
-    for n in &mut t.room {
+    for n in t.room.iter_mut().take(FLOATS) {
         *n += r.below(3);
     }
     t
@@ -248,5 +257,17 @@ fn refusals(l: &mut List, r: &mut Random) {
             t.size = bad_sides(r, size);
         }
         run(l, &t);
+    }
+}
+
+/// Each scratch slice in turn one shorter than the map.
+fn short_slices(l: &mut List, r: &mut Random) {
+    for call in [FLUVIAL, THERMAL] {
+        for which in 0..slices(call) {
+            let size = (r.within(1, 4), r.within(2, 4));
+            let mut t = task(r, call, size, 0, 3);
+            t.room[which] = t.map.len() - 1;
+            assert!(run(l, &t).answer.is_err_and(|e| e.number == 3));
+        }
     }
 }
