@@ -29,7 +29,8 @@ use Rattle.flood.specs.Slices.{Accepted, Flooded}
 use Rattle.scan_queue.specs.Scans.{atLimit, Listed, Queued, Begun, Waits, Turned, Leaves}
 use Rattle.reaches.specs.Reaches.{ReachedAll}
 use Rattle.flood.specs.Steps.{Leaver, Onward}
-use Rattle.scan_queue.proofs.ScanLaws.{under-limit, listed-set, leaver-level}
+use Rattle.scan_queue.proofs.ListedLaws.{under-limit, listed-set}
+use Rattle.scan_queue.proofs.ScanLaws.{leaver-level}
 
 pub record Running (w h : ℕ) (water : Float) (hs : List Float) (i : ℕ) (s : Scan) (status : List ℕ) (spill : List Float) (recv order queue : List ℕ) : Type 0 where
   pub state : stateOf status spill recv (take i order) ≡ floodAfter floats (gridGround w h water hs) hs i

@@ -15,7 +15,7 @@ use Rattle.heap.specs.Queue.{placeOf, within, Pushed}
 use Rattle.sorted_cells.specs.Sorted.{isSorted}
 use Rattle.sorted_cells.proofs.SortedLaws.{sorted}
 use Rattle.scan_queue.specs.Scans.{endless, limitOf, Queued, Listed, Gathered, Begins, Begun}
-use Rattle.scan_queue.proofs.ScanLaws.{below-endless, waits-inside, first-least, listed-start, listed-end}
+use Rattle.scan_queue.proofs.ListedLaws.{below-endless, waits-inside, first-least, listed-start, listed-end}
 
 -- ---- the waiting cells join the heap
 module _ (status : List ℕ) (spill : List Float) where

@@ -1,6 +1,6 @@
 use native.Mathlib.Omega.{arith}
 use mathlib.Core.Path.{sym, _∙_}
-use Rattle.scan_queue.proofs.ScanLaws.{limit-inside, limit-end}
+use Rattle.scan_queue.proofs.ListedLaws.{limit-inside, limit-end}
 use borrow.Author.Needs.{needs}
 use Rattle.scan_queue.proofs.limit_at.Statement.{statement}
 use Rattle.scan_queue.proofs.limit_at.Tie as tie
