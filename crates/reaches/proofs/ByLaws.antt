@@ -14,7 +14,7 @@ use Rattle.drainage.specs.Flood.{push, pushAll}
 use Rattle.drainage.proofs.KeptLaws.{pushedTo}
 use Rattle.flood_start.specs.Slices.{stateOf}
 use Rattle.scan_queue.specs.Scans.{Queued}
-use Rattle.reaches.specs.Reaches.{Reached, ReachedAll, unpushedTo, Found}
+use Rattle.reaches.specs.Reaches.{Reached, ReachedAll, Found}
 use Rattle.reaches.proofs.FoundLaws.{pushedBy, pushedBy-more, pushedBy-near, unpushed-all}
 
 -- cell c has reached the cells of a list, on any ground

@@ -9,7 +9,7 @@ use native.Mathlib.Decide.{decLt}
 use native.Mathlib.Omega.{arith}
 use lib.Dec.{eqb}
 use lib.ListN.{length, getD, set, take, length-set, List·getD-eq-default}
-use lib.Seq.{getD-set-same, getD-set-other, take-suc, take-suc-set, take-set-le}
+use lib.Seq.{getD-set-same, getD-set-other, take-suc-set, take-set-le}
 use borrow.Author.Tests.{ne-eqb, eqb-false}
 use Rattle.lists.specs.Loops.{turns, tabulate}
 use Rattle.drainage.specs.Ground.{Ground, Kind}

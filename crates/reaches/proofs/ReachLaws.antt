@@ -1,31 +1,27 @@
 -- Laws of a step: a push, the pushes of a leaver, and a cell's leaving.
-use Prim.Native.Nat.{ℕ, suc, _+_, _*_, _^_, _≤_, _<_}
-use mathlib.Core.Path.{_≡_, refl, sym, ap, ap₂, _∙_, subst}
+use Prim.Native.Nat.{ℕ, _+_, _*_, _^_, _≤_, _<_}
+use mathlib.Core.Path.{_≡_, refl, sym, ap, _∙_, subst}
 use mathlib.Core.Bool.{cond}
 use mathlib.Core.Logic.{inl, inr}
 use mathlib.Core.List.{List}
-use native.Mathlib.Numerals.{add-one}
 use native.Mathlib.Decide.{decLt}
 use native.Mathlib.Omega.{arith}
 use lib.ListN.{length, getD, set, length-set, List·getD-eq-default}
 use lib.Seq.{getD-set-same, getD-set-other}
 use lib.Ieee.{Float, nan}
 use borrow.Author.Tests.{eq-eqb, ne-eqb}
-use Rattle.lists.proofs.TurnLaws.{turns-none, turns-more}
 use Rattle.floats.specs.Key.{keyOf}
 use Rattle.floats.specs.Stand.{maxOf}
-use Rattle.grid.specs.Sides.{columnOf, rowOf}
-use Rattle.grid.specs.Directions.{neighbourOf, neighbourAt}
-use Rattle.drainage.specs.Ground.{floats, gridGround}
-use Rattle.drainage.specs.Flood.{Flood, push, pushAll}
+use Rattle.drainage.specs.Ground.{floats}
+use Rattle.drainage.specs.Flood.{Flood, push}
 use Rattle.drainage.specs.Ways.{one}
 use Rattle.drainage.proofs.TallyLaws.{same-or-not, one-same, one-other, one-bound}
-use Rattle.drainage.proofs.KeptLaws.{getD-inside, pushedTo}
+use Rattle.drainage.proofs.KeptLaws.{getD-inside}
 use Rattle.heap.specs.Queue.{placeOf, within, Heap, Pushed}
 use Rattle.heap.proofs.RoomLaws.{heap-same, heap-room}
 use Rattle.flood_start.specs.Slices.{stateOf, Sizes}
 use Rattle.scan_queue.specs.Scans.{Queued, Level}
-use Rattle.reaches.specs.Reaches.{Reached, ReachedAll}
+use Rattle.reaches.specs.Reaches.{Reached}
 
 -- lists of the same lengths
 pub sizes-kept :

@@ -11,7 +11,6 @@ use lib.Ieee.{Float, nan}
 use Rattle.lists.specs.Loops.{tabulate}
 use Rattle.lists.proofs.TableLaws.{length-tabulate, getD-tabulate, filled, filled-length}
 use Rattle.lists.proofs.FillLaws.{Filling, filling-next}
-use Rattle.inner_cells.specs.Inner.{Inner}
 use Rattle.grid.specs.Directions.{Adjacent}
 use Rattle.network.specs.Passes.{Received}
 use Rattle.receiver_blocks.specs.Runs.{finderAs, steepestFrom, steepestAt, InnerRun, NearFinders, Begun, RunReceived}

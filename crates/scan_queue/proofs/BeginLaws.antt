@@ -1,5 +1,5 @@
 -- Laws of the scan's beginning: before a sorted list, or behind a list that is not sorted with every waiting cell in the heap.
-use Prim.Native.Nat.{ℕ, _+_, _≤_, _<_}
+use Prim.Native.Nat.{ℕ, _+_, _<_}
 use mathlib.Core.Path.{_≡_, refl, sym, ap, _∙_, subst}
 use mathlib.Core.Bool.{true}
 use mathlib.Core.Logic.{inl, inr}
@@ -9,12 +9,12 @@ use native.Mathlib.Omega.{arith}
 use lib.ListN.{length, getD}
 use lib.Ieee.{Float, nan}
 use Rattle.float_order.specs.Fit.{Fit}
-use Rattle.drainage.specs.Ways.{one, times}
+use Rattle.drainage.specs.Ways.{times}
 use Rattle.drainage.proofs.TallyLaws.{same-or-not, one-same, one-other}
 use Rattle.heap.specs.Queue.{placeOf, within, Pushed}
 use Rattle.sorted_cells.specs.Sorted.{isSorted}
 use Rattle.sorted_cells.proofs.SortedLaws.{sorted}
-use Rattle.scan_queue.specs.Scans.{endless, limitOf, Queued, Listed, Gathered, Begins, Begun}
+use Rattle.scan_queue.specs.Scans.{endless, limitOf, Listed, Gathered, Begins, Begun}
 use Rattle.scan_queue.proofs.ListedLaws.{below-endless, waits-inside, first-least, listed-start, listed-end}
 
 -- ---- the waiting cells join the heap

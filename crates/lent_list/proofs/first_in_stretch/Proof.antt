@@ -1,7 +1,6 @@
 use Prim.Native.Nat.{_-_}
 use mathlib.Core.Path.{refl, sym, _∙_}
 use native.Mathlib.Omega.{arith}
-use lib.ListN.{getD}
 use borrow.Author.Needs.{needs}
 use Rattle.lent_list.proofs.StretchLaws.{near-whole, Walk, walk-none, walk-outside, walk-twice, walk-early, walk-more, walk-done}
 use Rattle.lent_list.proofs.first_in_stretch.Statement.{statement}

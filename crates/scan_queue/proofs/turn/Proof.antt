@@ -1,4 +1,3 @@
-use native.Mathlib.Omega.{arith}
 use Rattle.scan_queue.proofs.ScanLaws.{heap-before, heap-behind, head-inside, turned-heap}
 use borrow.Author.Needs.{needs}
 use Rattle.scan_queue.proofs.turn.Statement.{statement}

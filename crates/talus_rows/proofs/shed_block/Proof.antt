@@ -1,6 +1,5 @@
 use Prim.Native.Nat.{_-_}
 use native.Mathlib.Omega.{arith}
-use borrow.Author.Needs.{needs}
 use Rattle.talus.proofs.RowLaws.{row-cell-below}
 use Rattle.talus_rows.proofs.BlockLaws.{Shedding, sheds-none, shedding-more, shedding-done}
 use Rattle.talus_rows.proofs.shed_block.Statement.{statement}
