@@ -1,7 +1,7 @@
 -- The endings of a whole-run call.
 use Prim.Native.Nat.{ℕ}
 use mathlib.Core.Path.{_≡_, refl, sym, ap, _∙_}
-use mathlib.Core.Bool.{Bool, true, false, _&&_}
+use mathlib.Core.Bool.{Bool, true, false, _&&_, true≢false}
 use mathlib.Core.Logic.{⊎-elim}
 use mathlib.Core.List.{List}
 use lib.Ieee.{Float}
@@ -14,7 +14,7 @@ use Rattle.runs.specs.Run.{Ran, differenceOf}
 use Rattle.upsample.specs.Samples.{asSource}
 use Rattle.upsample.specs.Samples.{addedOf}
 use Rattle.erosion.specs.Reached.{halted, ranBy, addedTo}
-use Rattle.erosion.specs.Ending.{outcomeOf, ranTo, endingOf, endedWith, refusedTo, Numbered, Answered}
+use Rattle.erosion.specs.Ending.{accepted, outcomeOf, ranTo, endingOf, endedWith, refusedTo, Numbered, Answered}
 use Rattle.erosion.specs.declared.RunAnswer.{RunAnswer}
 use Rattle.erosion.specs.declared.Reached.{Reached}
 
@@ -37,6 +37,13 @@ pub ending-refused : (why : Refusal) (early : Answer) (o : Outcome (Unit {0})) (
     → answerOf early ≡ o
     → endedWith (refusedTo why) map ≡ endingOf o map ran
 ending-refused why early o map ran e f = refused-by why map ran ∙ ap (λ (o : Outcome (Unit {0})). endingOf o map ran) (ap answerOf (sym e) ∙ f)
+
+-- an input that is accepted
+pub done-accepts : {early : Answer} {o : Outcome (Unit {0})} → answerOf early ≡ o → early ≡ Answer.Done → o ≡ gives tt
+done-accepts f e = sym f ∙ ap answerOf e
+
+pub accepts-all : {o : Outcome (Unit {0})} → o ≡ gives tt → accepted o ≡ false → ⊥
+accepts-all e z = true≢false (sym (ap accepted e) ∙ z)
 
 -- a run that was accepted
 pub ending-ran : (r : Reached) (a : RunAnswer) (o : Outcome (Unit {0})) (old map : List Float) (ran : Ran)

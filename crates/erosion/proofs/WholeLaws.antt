@@ -1,6 +1,6 @@
 -- The four ways in which a whole run ends, on any course: what the code has after each of them is the run by its loops.
-use Prim.Native.Nat.{ℕ}
-use mathlib.Core.Path.{_≡_, refl, sym, ap, _∙_}
+use Prim.Native.Nat.{ℕ, _<_}
+use mathlib.Core.Path.{_≡_, refl, sym, ap, _∙_, subst}
 use mathlib.Core.Bool.{Bool, true, false, _&&_, cond}
 use mathlib.Core.Logic.{inl, inr}
 use mathlib.Core.List.{List}
@@ -11,8 +11,9 @@ use Rattle.grid.specs.Heights.{allFinite}
 use Rattle.resample.specs.Blocks.{downsampled}
 use Rattle.upsample.specs.Samples.{asSource, addedOf}
 use Rattle.runs.specs.Machine.{Course}
-use Rattle.runs.specs.Run.{Ran, ranAs, differenceOf, runFrom}
+use Rattle.runs.specs.Run.{Ran, ranAs, differenceOf, runFrom, runOn}
 use Rattle.runs.specs.Nested.{nested}
+use Rattle.runs.proofs.CourseLaws.{run-nested}
 use Rattle.erosion.specs.Reached.{Worked, seen, begun, halted, ranBy, addedTo, Reduced}
 use Rattle.erosion.specs.Ending.{Numbered}
 use Rattle.erosion.specs.declared.Reached.{Reached}
@@ -49,6 +50,14 @@ module _ (w h : ℕ) (c : Course) (map : List Float) where
       go false true true e = back e _
       go false true false e = iterated-numbered c (c .iterations) reducedMap
       go false false d e = inr (inr refl)
+
+  -- it is the run
+  module _ (high : 0 < c .h) (some : 0 < c .passes) where
+    pub whole-run : {x : Ran} → x ≡ wholeRun → x ≡ runOn asSource w h c map
+    whole-run e = e ∙ sym (run-nested asSource w h c map high some)
+
+    pub run-numbered : {x : Ran} → x ≡ runOn asSource w h c map → Numbered (x .number)
+    run-numbered {x} e = subst (λ (x : Ran). Numbered (x .number)) (sym (e ∙ run-nested asSource w h c map high some)) whole-numbered
 
   -- on the map itself
   pub whole-on-map : (new : List Float) (r : Reached) → onMap ≡ true → worked new r ≡ seen (nested c map) → ranBy new r ≡ wholeRun

@@ -1,6 +1,6 @@
 -- What the parts of a run on its working grid ask follows from what it is given, and the run by its loops is the run.
 use Prim.Native.Nat.{ℕ, _*_}
-use mathlib.Core.Path.{_≡_, sym, ap, ap₂, _∙_, subst}
+use mathlib.Core.Path.{_≡_, sym, ap, ap₂, _∙_}
 use mathlib.Core.Bool.{Bool, true, _&&_}
 use mathlib.Core.List.{List}
 use borrow.Author.Tests.{eqb-true}
@@ -13,11 +13,10 @@ use Rattle.flood.specs.Slices.{Accepted}
 use Rattle.flow.specs.Route.{Enough}
 use Rattle.upsample.specs.Samples.{asSource}
 use Rattle.runs.specs.Run.{Ran, runOn}
-use Rattle.runs.proofs.CourseLaws.{run-nested}
 use Rattle.plans.proofs.InputLaws.{within-range}
 use Rattle.erosion.specs.Reached.{Reduced}
 use Rattle.erosion.specs.Ending.{Numbered}
-use Rattle.erosion.proofs.WholeLaws.{wholeRun, whole-numbered}
+use Rattle.erosion.proofs.WholeLaws.{wholeRun, whole-run, run-numbered}
 use Rattle.fluvial_loop.specs.Loops.{courseBy}
 use Rattle.fluvial_loop.specs.declared.FluvialPlan.{FluvialPlan}
 use Rattle.fluvial_grid.specs.Grids.{Erodes}
@@ -25,15 +24,11 @@ use Rattle.fluvial_grid.specs.declared.Scratch.{Scratch}
 
 module _ {w h dw dh : ℕ} {plan : FluvialPlan} {stop : ℕ} {map : List Float} {s : Scratch} (e : Erodes w h dw dh plan stop map s) where
   -- the run by its loops is the run
-  nested-is : runOn asSource w h (courseBy dw dh plan stop) map ≡ wholeRun w h (courseBy dw dh plan stop) map
-  nested-is = run-nested asSource w h (courseBy dw dh plan stop) map (e .sides .dh-low) (e .bounded .some)
-
   pub by-loops : {x : Ran} → x ≡ wholeRun w h (courseBy dw dh plan stop) map → x ≡ runOn asSource w h (courseBy dw dh plan stop) map
-  by-loops f = f ∙ sym nested-is
+  by-loops = whole-run w h (courseBy dw dh plan stop) map (e .sides .dh-low) (e .bounded .some)
 
   pub ran-numbered : {x : Ran} → x ≡ runOn asSource w h (courseBy dw dh plan stop) map → Numbered (x .number)
-  ran-numbered {x} f =
-      subst (λ (x : Ran). Numbered (x .number)) (sym (f ∙ nested-is)) (whole-numbered w h (courseBy dw dh plan stop) map)
+  ran-numbered = run-numbered w h (courseBy dw dh plan stop) map (e .sides .dh-low) (e .bounded .some)
 
   -- the slices of the loops, where n is the length of the heights
   pub erodes-enough : {n : ℕ} → n ≡ dw * dh

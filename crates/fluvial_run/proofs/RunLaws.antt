@@ -1,7 +1,7 @@
 -- The run on its working grid, and the whole call: what its parts ask follows from what they are given, and its ends are the run's.
 use Prim.Native.Nat.{ℕ, _*_, _≤_, min}
 use mathlib.Core.Path.{_≡_, refl, sym, ap, ap₂, _∙_, subst}
-use mathlib.Core.Bool.{Bool, false, true≢false}
+use mathlib.Core.Bool.{Bool, false}
 use mathlib.Core.List.{List}
 use native.Mathlib.Nat.{le-trans}
 use native.Mathlib.Omega.{arith}
@@ -31,7 +31,7 @@ use Rattle.erosion.specs.Reached.{ranBy}
 use Rattle.erosion.specs.Ending.{endedWith, accepted, refusedTo, Answered}
 use Rattle.erosion.specs.declared.Reached.{Reached}
 use Rattle.erosion.specs.declared.RunAnswer.{RunAnswer}
-use Rattle.erosion.proofs.EndingLaws.{ending-refused, ending-ran}
+use Rattle.erosion.proofs.EndingLaws.{ending-refused, ending-ran, done-accepts, accepts-all}
 use Rattle.fluvial_loop.specs.Loops.{planOf, courseBy}
 use Rattle.fluvial_loop.specs.declared.FluvialPlan.{FluvialPlan}
 use Rattle.fluvial_grid.specs.Grids.{scratchOf, Erodes}
@@ -93,10 +93,10 @@ module _ (w h : ℕ) (conf : FluvialSettings) (stop : ℕ) (map small eroded cop
 
   module _ {early : Answer} (f : answerOf early ≡ outcome) (e : early ≡ Answer.Done) where
     accepts : outcome ≡ gives tt
-    accepts = sym f ∙ ap answerOf e
+    accepts = done-accepts f e
 
     not-refused : accepted outcome ≡ false → ⊥
-    not-refused z = true≢false (sym (ap accepted accepts) ∙ z)
+    not-refused = accepts-all accepts
 
     pub run-accepted : Input.Accepted w h (badFluvial conf) map (shortestOf lengths)
     run-accepted = accepted-by w h (badFluvial conf) map _ accepts

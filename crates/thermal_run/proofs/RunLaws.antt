@@ -1,7 +1,7 @@
 -- The run on its working grid, and the whole call: what its parts ask follows from what they are given, and its ends are the run's.
 use Prim.Native.Nat.{ℕ, _*_, _≤_, min}
 use mathlib.Core.Path.{_≡_, refl, sym, ap, ap₂, _∙_, subst}
-use mathlib.Core.Bool.{Bool, true, false, _&&_, true≢false}
+use mathlib.Core.Bool.{Bool, true, false, _&&_}
 use mathlib.Core.List.{List}
 use native.Mathlib.Omega.{arith}
 use borrow.Author.Tests.{eqb-true}
@@ -21,7 +21,6 @@ use Rattle.runs.specs.Run.{Ran, thermalCourse, runOn, thermalRun}
 use Rattle.runs.specs.Refusals.{badThermal}
 use Rattle.runs.specs.declared.ThermalSettings.{ThermalSettings}
 use Rattle.runs.proofs.PlanLaws.{Counted, thermal-passes}
-use Rattle.runs.proofs.CourseLaws.{run-nested}
 use Rattle.plans.specs.Accepted.{refusalOn, Accepted}
 use Rattle.plans.proofs.RefusalLaws.{accepted-by}
 use Rattle.plans.proofs.InputLaws.{within-range, within-cells, accepted-within, thermal-iterations}
@@ -29,21 +28,18 @@ use Rattle.erosion.specs.Reached.{ranBy}
 use Rattle.erosion.specs.Ending.{endedWith, accepted, refusedTo, Numbered, Answered}
 use Rattle.erosion.specs.declared.Reached.{Reached}
 use Rattle.erosion.specs.declared.RunAnswer.{RunAnswer}
-use Rattle.erosion.proofs.EndingLaws.{ending-refused, ending-ran}
-use Rattle.erosion.proofs.WholeLaws.{wholeRun, whole-numbered}
+use Rattle.erosion.proofs.EndingLaws.{done-accepts, accepts-all, ending-refused, ending-ran}
+use Rattle.erosion.proofs.WholeLaws.{wholeRun, whole-run, run-numbered}
 use Rattle.thermal_run.specs.ThermalRun.{inputRefusal, slideCourse, ThermalRun, Slides, Reduces, Erodes}
 
 module _ {w h dw dh : ℕ} (n : Within w h dw dh) where
   module _ (params : ThermalParams) (passes stop : ℕ) (map : List Float) where
     -- the run by its loops is the run
     pub by-loops : {x : Ran} → x ≡ wholeRun w h (slideCourse dw dh params passes stop) map → x ≡ runOn asSource w h (slideCourse dw dh params passes stop) map
-    by-loops e = e ∙ sym (run-nested asSource w h (slideCourse dw dh params passes stop) map (n .dh-low) (omega arith))
+    by-loops = whole-run w h (slideCourse dw dh params passes stop) map (n .dh-low) (omega arith)
 
     pub ran-numbered : {x : Ran} → x ≡ runOn asSource w h (slideCourse dw dh params passes stop) map → Numbered (x .number)
-    ran-numbered {x} e =
-        subst (λ (x : Ran). Numbered (x .number))
-        (sym (e ∙ run-nested asSource w h (slideCourse dw dh params passes stop) map (n .dh-low) (omega arith)))
-        (whole-numbered w h (slideCourse dw dh params passes stop) map)
+    ran-numbered = run-numbered w h (slideCourse dw dh params passes stop) map (n .dh-low) (omega arith)
 
 module _ {w h dw dh : ℕ} {passes map small eroded copy : ℕ} where
   module _ (e : Erodes w h dw dh passes map small eroded copy) where
@@ -95,10 +91,10 @@ module _ (w h : ℕ) (conf : ThermalSettings) (stop : ℕ) (map small eroded cop
 
   module _ {early : Answer} (f : answerOf early ≡ outcome) (e : early ≡ Answer.Done) where
     accepts : outcome ≡ gives tt
-    accepts = sym f ∙ ap answerOf e
+    accepts = done-accepts f e
 
     not-refused : accepted outcome ≡ false → ⊥
-    not-refused z = true≢false (sym (ap accepted accepts) ∙ z)
+    not-refused = accepts-all accepts
 
     pub run-accepted : Accepted w h (badThermal conf) map (min (length small) (min (length eroded) (length copy)))
     run-accepted = accepted-by w h (badThermal conf) map _ accepts
