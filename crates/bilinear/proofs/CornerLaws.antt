@@ -14,7 +14,7 @@ use Rattle.grid.specs.Sides.{badSides}
 use Rattle.grid.specs.Directions.{Place}
 use Rattle.grid.proofs.SidesLaws.{cells-bound, good-sides}
 use Rattle.bilinear.specs.Places.{Grid}
-use Rattle.bilinear.specs.Samples.{asSource, northEast, southWest, southEast, between, bilinearAt, bilinearOf}
+use Rattle.bilinear.specs.Samples.{asSource, northEast, southWest, southEast, between, northOf, southOf, bilinearAt, bilinearOf}
 
 -- row y ends within the grid
 pub row-end : (w h y : ℕ) → y < h → y * w + w ≤ w * h
@@ -50,12 +50,17 @@ module _ {w h x y : ℕ} (p : Place w h x y) where
       go false b l m = nw-in
 
 -- the sample from its corners
-pub sample-is : (v : List Float) (w h x y : ℕ) (dx dy : Float) {ne sw se : ℕ} {n s r : Float}
-    → ne ≡ northEast asSource w h x y → sw ≡ southWest asSource w h x y → se ≡ southEast asSource w h x y
-    → n ≡ between dx (getD v (x + y * w) nan) (getD v ne nan) → s ≡ between dx (getD v sw nan) (getD v se nan) → r ≡ between dy n s
-    → r ≡ bilinearAt asSource v w h x dx y dy
-sample-is v w h x y dx dy a b c d e f =
-    f ∙ ap₂ (between dy) (d ∙ ap (λ (k : ℕ). between dx (getD v (x + y * w) nan) (getD v k nan)) a) (e ∙ ap₂ (λ (k l : ℕ). between dx (getD v k nan) (getD v l nan)) b c)
+module _ (v : List Float) (w h x y : ℕ) (dx : Float) where
+  pub north-is : {ne : ℕ} {r : Float} → ne ≡ northEast asSource w h x y → r ≡ between dx (getD v (x + y * w) nan) (getD v ne nan) → r ≡ northOf asSource v w h x dx y
+  north-is a e = e ∙ ap (λ (k : ℕ). between dx (getD v (x + y * w) nan) (getD v k nan)) a
+
+  pub south-is : {sw se : ℕ} {r : Float} → sw ≡ southWest asSource w h x y → se ≡ southEast asSource w h x y → r ≡ between dx (getD v sw nan) (getD v se nan)
+      → r ≡ southOf asSource v w h x dx y
+  south-is a b e = e ∙ ap₂ (λ (k l : ℕ). between dx (getD v k nan) (getD v l nan)) a b
+
+  pub sample-is : (dy : Float) {n s r : Float} → n ≡ northOf asSource v w h x dx y → s ≡ southOf asSource v w h x dx y → r ≡ between dy n s
+      → r ≡ bilinearAt asSource v w h x dx y dy
+  sample-is dy a b e = e ∙ ap₂ (between dy) a b
 
 -- an index of a side lies within it
 pub index-in : (side : ℕ) (x : Float) {i : ℕ} → i ≡ indexOf side x → 1 ≤ side → i < side

@@ -31,14 +31,16 @@ southEast asSource w h x y = cond (ltb x (w - 1) && ltb y (h - 1)) (x + 1 + (y +
 abbrev pub between : Float → Float → Float → Float
 between d a b = add binary32 (mul binary32 (sub binary32 (ofBits binary32 0x3f80_0000) d) a) (mul binary32 d b)
 
+-- between the two cells to the north, and between the two to the south, dx of the way from column ix to the next
+abbrev pub northOf : FarEdge → List Float → ℕ → ℕ → ℕ → Float → ℕ → Float
+northOf kind v w h ix dx iy = between dx (getD v (ix + iy * w) nan) (getD v (northEast kind w h ix iy) nan)
+
+abbrev pub southOf : FarEdge → List Float → ℕ → ℕ → ℕ → Float → ℕ → Float
+southOf kind v w h ix dx iy = between dx (getD v (southWest kind w h ix iy) nan) (getD v (southEast kind w h ix iy) nan)
+
 -- the sample at column ix, row iy, with dx and dy of the way to the next ones
 abbrev pub bilinearAt : FarEdge → List Float → ℕ → ℕ → ℕ → Float → ℕ → Float → Float
-bilinearAt kind v w h ix dx iy dy =
-    let nw = getD v (ix + iy * w) nan in
-    let ne = getD v (northEast kind w h ix iy) nan in
-    let sw = getD v (southWest kind w h ix iy) nan in
-    let se = getD v (southEast kind w h ix iy) nan in
-    between dy (between dx nw ne) (between dx sw se)
+bilinearAt kind v w h ix dx iy dy = between dy (northOf kind v w h ix dx iy) (southOf kind v w h ix dx iy)
 
 -- the sample at column x, row y, both in cells
 unfoldable pub bilinearOf : FarEdge → List Float → ℕ → ℕ → Float → Float → Float

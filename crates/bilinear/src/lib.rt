@@ -14,7 +14,7 @@ ghost use Prim.Native.Nat.{_*_, _≤_};
 ghost use lib.ListN.{length};
 ghost use Rattle.answers.specs.Outcome.{valueOf};
 ghost use Rattle.grid.specs.Directions.{Place};
-ghost use Rattle.bilinear.specs.Samples.{asSource, northEast, southWest, southEast, between, bilinearAt, bilinearOf, badCoordinate, bilinearAnswer};
+ghost use Rattle.bilinear.specs.Samples.{asSource, northEast, southWest, southEast, between, northOf, southOf, bilinearAt, bilinearOf, badCoordinate, bilinearAnswer};
 ghost use Rattle.bilinear.specs.Places.{Grid};
 
 // The cell of the north-east sample: the north-west one at the east edge.
@@ -54,23 +54,43 @@ fn south_east(size: Sides, x: usize, y: usize) -> usize
 }
 
 // (1 - d) × a + d × b.
-fn mixed(d: f32, a: f32, b: f32) -> f32
+pub fn mixed(d: f32, a: f32, b: f32) -> f32
     ensures { λ r. ⌜ r ≡ between d a b ⌝ }
 {
     (1.0 - d) * a + d * b
 }
 
+// Between the two cells to the north, dx of the way from column x to the next.
+pub fn north_at(v: &[f32], size: Sides, x: usize, dx: f32, y: usize) -> f32
+    requires { ⌜ Place (size .w) (size .h) x y ⌝ }
+    requires { ⌜ length (now v) ≡ size .w * size .h ⌝ }
+    ensures { λ r. ⌜ r ≡ northOf asSource (now (v .entry)) (size .w) (size .h) x dx y ⌝ }
+{
+    let nw = v[x + y * size.w];
+    let ne = v[north_east(size, x, y)];
+    mixed(dx, nw, ne)
+}
+
+// Between the two cells to the south.
+pub fn south_at(v: &[f32], size: Sides, x: usize, dx: f32, y: usize) -> f32
+    requires { ⌜ Place (size .w) (size .h) x y ⌝ }
+    requires { ⌜ length (now v) ≡ size .w * size .h ⌝ }
+    ensures { λ r. ⌜ r ≡ southOf asSource (now (v .entry)) (size .w) (size .h) x dx y ⌝ }
+{
+    let sw = v[south_west(size, x, y)];
+    let se = v[south_east(size, x, y)];
+    mixed(dx, sw, se)
+}
+
 // The sample at column x, row y, with dx and dy of the way to the next ones.
-pub fn sample_at(v: &[f32], size: Sides, x: usize, dx: f32, y: usize, dy: f32) -> f32
+fn sample_at(v: &[f32], size: Sides, x: usize, dx: f32, y: usize, dy: f32) -> f32
     requires { ⌜ Place (size .w) (size .h) x y ⌝ }
     requires { ⌜ length (now v) ≡ size .w * size .h ⌝ }
     ensures { λ r. ⌜ r ≡ bilinearAt asSource (now (v .entry)) (size .w) (size .h) x dx y dy ⌝ }
 {
-    let nw = v[x + y * size.w];
-    let ne = v[north_east(size, x, y)];
-    let sw = v[south_west(size, x, y)];
-    let se = v[south_east(size, x, y)];
-    mixed(dy, mixed(dx, nw, ne), mixed(dx, sw, se))
+    let n = north_at(v, size, x, dx, y);
+    let s = south_at(v, size, x, dx, y);
+    mixed(dy, n, s)
 }
 
 // The sample at column x, row y, both in cells, held inside the grid.

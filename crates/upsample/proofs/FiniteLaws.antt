@@ -1,33 +1,25 @@
 -- Values f 0, f 1, … that are all finite, as a loop finds them so, and `allFinite` of their list.
 use Prim.Native.Nat.{ℕ, _+_, _-_, _*_, _≤_, _<_}
-use mathlib.Core.Path.{_≡_, refl, sym, ap, _∙_, subst}
-use mathlib.Core.Bool.{Bool, true, false, true≢false}
+use mathlib.Core.Path.{_≡_, refl, sym, ap, ap₂, _∙_, subst}
+use mathlib.Core.Bool.{Bool, true, false, true≢false, _&&_, and-true}
+use mathlib.Core.List.{[], _∷_}
 use native.Mathlib.Nat.{mul-comm}
 use native.Mathlib.Decide.{decLt}
+use native.Mathlib.Numerals.{add-one}
 use native.Mathlib.Omega.{arith}
 use lib.Ieee.{Float, nan}
 use lib.Ieee.Scale.{finite}
 use Rattle.lists.specs.Loops.{tabulate}
 use Rattle.lists.proofs.TableLaws.{length-tabulate, getD-tabulate}
-use Rattle.grid.specs.Heights.{allFinite}
-use Rattle.grid.proofs.HeightsLaws.{below-all, all-at}
+use Rattle.grid.specs.Heights.{firstNotFinite, allFinite}
+use Rattle.grid.proofs.HeightsLaws.{below-all, all-at, all-cons, all-append}
 use Rattle.bilinear.proofs.CornerLaws.{row-end}
 
 pub record Finites (f : ℕ → Float) (n : ℕ) : Type 0 where
   pub each : (k : ℕ) → k < n → finite (f k) ≡ true
 
-pub finites-none : {f : ℕ → Float} → Finites f 0
-finites-none = record { each = λ k l. absurd (omega arith) }
-
 pub finites-start : {f : ℕ → Float} (w : ℕ) → Finites f (0 * w)
 finites-start w = record { each = λ k l. absurd (omega arith) }
-
-pub finites-more : {f : ℕ → Float} {i : ℕ} → Finites f i → finite (f i) ≡ true → Finites f (i + 1)
-finites-more {f} {i} p e = record { each = λ k l. go k l (decLt k i) }
-  where
-    go : (k : ℕ) → k < i + 1 → Dec (k < i) → finite (f k) ≡ true
-    go k l (yes q) = p .each k q
-    go k l (no q) = let same : k ≡ i = omega arith in ap (λ (j : ℕ). finite (f j)) same ∙ e
 
 module _ (f : ℕ → Float) (n : ℕ) where
   pub finites-all : Finites f n → allFinite (tabulate n f) ≡ true
@@ -43,12 +35,18 @@ module _ (f : ℕ → Float) (n : ℕ) where
         ap finite (sym (getD-tabulate f n k nan l)) ∙ all-at (tabulate n f) e k (subst (λ (m : ℕ). k < m) (sym (length-tabulate f n)) l);
   }
 
-  pub finites-not : (i : ℕ) → i < n → finite (f i) ≡ false → allFinite (tabulate n f) ≡ false
-  finites-not i l e = go (allFinite (tabulate n f)) refl
-    where
-      go : (b : Bool) → allFinite (tabulate n f) ≡ b → b ≡ false
-      go true q = absurd (true≢false (sym (finites-back q .each i l) ∙ e))
-      go false q = refl
+-- a loop that looks at them one after the other
+pub all-none : (f : ℕ → Float) → true ≡ allFinite (tabulate 0 f)
+unfolding tabulate allFinite firstNotFinite
+all-none f = refl
+
+pub all-more : (f : ℕ → Float) (i : ℕ) {good next : Bool} → good ≡ allFinite (tabulate i f) → next ≡ finite (f i) → (good && next) ≡ allFinite (tabulate (i + 1) f)
+unfolding tabulate allFinite
+all-more f i e g =
+    ap₂ _&&_ e (g ∙ sym (all-one (f i))) ∙ sym (all-append (tabulate i f) (f i ∷ [])) ∙ ap (λ (n : ℕ). allFinite (tabulate n f)) (sym (add-one i))
+  where
+    all-one : (x : Float) → allFinite (x ∷ []) ≡ finite x
+    all-one x = all-cons x [] ∙ and-true (finite x)
 
 -- row by row, w values each
 module _ (f : ℕ → Float) (w h y : ℕ) (l : y < h) where

@@ -8,44 +8,27 @@ use native.Mathlib.Omega.{arith}
 use lib.ListN.{length, getD, take, drop, length-take, length-drop}
 use lib.Seq.{getD-take, getD-drop, take-at, drop-at, drop-drop}
 use lib.Arith.{digits-div, digits-mod}
-use lib.Ieee.{Float, nan, binary32, add, div}
+use lib.Ieee.{Float, nan, binary32, add}
 use lib.Ieee.Fits.{add-fits}
 use borrow.Rule.Slice.PartMut.{putMid, post-is}
-use Rattle.floats.specs.Stand.{fractOf, indexOf}
 use Rattle.grid.specs.Heights.{allFinite}
 use Rattle.lists.specs.Loops.{tabulate}
 use Rattle.lists.proofs.TableLaws.{length-tabulate, tabulate-same}
 use Rattle.lists.proofs.FillLaws.{Filling, filling-none, filling-next, filling-done}
 use Rattle.resample.proofs.FillLaws.{table-values}
-use Rattle.resample.specs.WorkSize.{float}
 use Rattle.resample.specs.Blocks.{Values}
-use Rattle.bilinear.specs.Samples.{asSource, bilinearAt, bilinearOf}
-use Rattle.upsample.specs.Samples.{centreBy, centreOf, addedIn, addedRow, addedAt, addedOf}
-
--- a height with the sample in column u, in row y and dy of the way to the next
-pub added-by : (height : Float) (v : List Float) (w h : ℕ) {u t : Float} (y : ℕ) (dy : Float) {i : ℕ} {d r : Float}
-    → u ≡ t → i ≡ indexOf w u → d ≡ fractOf u → r ≡ bilinearAt asSource v w h i d y dy
-    → add binary32 height r ≡ addedIn asSource height v w h t y dy
-added-by height v w h y dy a b c e =
-    ap (add binary32 height) (e ∙ ap₂ (λ (k : ℕ) (f : Float). bilinearAt asSource v w h k f y dy) b c)
-    ∙ ap (λ (z : Float). addedIn asSource height v w h z y dy) a
+use Rattle.bilinear.specs.Samples.{asSource, between, bilinearAt, bilinearOf}
+use Rattle.sample_rows.specs.Rows.{centreOf, columnOf, wayOf, Mixes}
+use Rattle.upsample.specs.Samples.{summedRow, addedAt, addedOf}
 
 -- the sum at column x of a row
-abbrev pub rowAt : List Float → Float → List Float → ℕ → ℕ → Float → ℕ → Float
-rowAt row coef delta dw dh v x = addedIn asSource (getD row x nan) delta dw dh (centreBy coef x) (indexOf dh v) (fractOf v)
-
-pub row-value : (height : Float) (coef : Float) (delta : List Float) (dw dh : ℕ) (v : Float) (x : ℕ) {y : ℕ} {dy r : Float}
-    → y ≡ indexOf dh v → dy ≡ fractOf v → r ≡ addedIn asSource height delta dw dh (centreBy coef x) y dy
-    → r ≡ addedIn asSource height delta dw dh (centreBy coef x) (indexOf dh v) (fractOf v)
-row-value height coef delta dw dh v x p q e = e ∙ ap₂ (λ (j : ℕ) (d : Float). addedIn asSource height delta dw dh (centreBy coef x) j d) p q
+abbrev pub sumAt : List Float → List Float → List Float → Float → ℕ → Float
+sumAt row north south dy x = add binary32 (getD row x nan) (between dy (getD north x nan) (getD south x nan))
 
 -- the sum that a loop stores at column x, worked out from the row as it then stands
-pub row-next : (old : List Float) (coef : Float) (delta : List Float) (dw dh : ℕ) (v : Float) {x : ℕ} {now : List Float} {y : ℕ} {dy r : Float}
-    → Filling (rowAt old coef delta dw dh v) x old now → y ≡ indexOf dh v → dy ≡ fractOf v → r ≡ addedIn asSource (getD now x nan) delta dw dh (centreBy coef x) y dy
-    → r ≡ rowAt old coef delta dw dh v x
-row-next old coef delta dw dh v {x} {now} f p q e =
-    row-value (getD now x nan) coef delta dw dh v x p q e
-    ∙ ap (λ (z : Float). addedIn asSource z delta dw dh (centreBy coef x) (indexOf dh v) (fractOf v)) (filling-next f nan)
+pub sum-next : (north south : List Float) (dy : Float) {old now : List Float} {x : ℕ} {r : Float} → Filling (sumAt old north south dy) x old now
+    → r ≡ between dy (getD north x nan) (getD south x nan) → add binary32 (getD now x nan) r ≡ sumAt old north south dy x
+sum-next north south dy f e = ap₂ (add binary32) (filling-next f nan) e
 
 -- f 0 … f (a + b - 1) in two parts
 tabulate-add : {A : Type 0} (f : ℕ → A) (a b : ℕ) → tabulate (a + b) f ≡ tabulate a f ++ tabulate b (λ x. f (a + x))
@@ -66,18 +49,25 @@ module _ (map : List Float) (w h : ℕ) (delta : List Float) (dw dh y : ℕ) (in
   part-at : (x : ℕ) → x < w → getD part x nan ≡ getD map (y * w + x) nan
   part-at x l = getD-take (y * w + w - y * w) (drop (y * w) map) x nan (omega arith) ∙ getD-drop (y * w) map x nan
 
-  -- its sums are those of the whole map
-  pub row-sums : (v : Float) → v ≡ centreOf h dh y
-      → addedRow asSource part (div binary32 (float dw) (float w)) delta dw dh v ≡ tabulate w (λ x. addedAt asSource map w h delta dw dh (y * w + x))
-  unfolding addedRow bilinearOf
-  row-sums v e =
-      ap (λ (n : ℕ). tabulate n (rowAt part (div binary32 (float dw) (float w)) delta dw dh v)) part-length
-      ∙ tabulate-same (rowAt part (div binary32 (float dw) (float w)) delta dw dh v) (λ x. addedAt asSource map w h delta dw dh (y * w + x)) w
-      (λ x l. rw (part-at x l, e, digits-div y l, digits-mod y l))
+  module _ {j : ℕ} {dy : Float} {north south : List Float} (m : Mixes delta dw dh w j north south) (p : j ≡ columnOf h dh y) (q : dy ≡ wayOf h dh y) where
+    -- the sample at column x lies between the reduced rows
+    sample-at : (x : ℕ) → x < w → between dy (getD north x nan) (getD south x nan) ≡ bilinearOf asSource delta dw dh (centreOf w dw x) (centreOf h dh y)
+    unfolding bilinearOf
+    sample-at x l =
+        ap₂ (between dy) (m .northern x l) (m .southern x l)
+        ∙ ap₂ (λ (k : ℕ) (d : Float). bilinearAt asSource delta dw dh (columnOf w dw x) (wayOf w dw x) k d) p q
 
-  pub row-tested : (v : Float) (t : Bool) → v ≡ centreOf h dh y → t ≡ allFinite (addedRow asSource part (div binary32 (float dw) (float w)) delta dw dh v)
-      → t ≡ allFinite (tabulate w (λ x. addedAt asSource map w h delta dw dh (y * w + x)))
-  row-tested v t e q = q ∙ ap allFinite (row-sums v e)
+    -- the row's sums are those of the whole map
+    pub row-sums : summedRow part north south dy ≡ tabulate w (λ x. addedAt asSource map w h delta dw dh (y * w + x))
+    unfolding summedRow
+    row-sums =
+        ap (λ (n : ℕ). tabulate n (sumAt part north south dy)) part-length
+        ∙ tabulate-same (sumAt part north south dy) (λ x. addedAt asSource map w h delta dw dh (y * w + x)) w
+        (λ x l. ap₂ (add binary32) (part-at x l) (sample-at x l)
+        ∙ ap₂ (λ (a b : ℕ). add binary32 (getD map (y * w + x) nan) (bilinearOf asSource delta dw dh (centreOf w dw a) (centreOf h dh b))) (sym (digits-mod y l)) (sym (digits-div y l)))
+
+    pub row-tested : (t : Bool) → t ≡ allFinite (summedRow part north south dy) → t ≡ allFinite (tabulate w (λ x. addedAt asSource map w h delta dw dh (y * w + x)))
+    row-tested t r = r ∙ ap allFinite row-sums
 
 pub filling-start : {f : ℕ → Float} {old : List Float} (w : ℕ) → Filling f (0 * w) old old
 filling-start {f} {old} w = let e : 0 ≡ 0 * w = omega arith in subst (λ (i : ℕ). Filling f i old old) e filling-none
@@ -102,15 +92,15 @@ stored-row {f} {old} {now} w y p inside row e =
       within = inside;
     })
 
-module _ (map : List Float) (w h : ℕ) (delta : List Float) (dw dh y : ℕ) (inside : y * w + w ≤ length map) {now row : List Float} {v : Float} where
+module _ (map : List Float) (w h : ℕ) (delta : List Float) (dw dh y : ℕ) (inside : y * w + w ≤ length map) {now row : List Float} where
   -- one row more of the sum
-  pub rows-more : Filling (addedAt asSource map w h delta dw dh) (y * w) map now → v ≡ centreOf h dh y
-      → row ≡ addedRow asSource (take (y * w + w - y * w) (drop (y * w) now)) (div binary32 (float dw) (float w)) delta dw dh v
+  pub rows-more : {j : ℕ} {dy : Float} {north south : List Float} → Filling (addedAt asSource map w h delta dw dh) (y * w) map now
+      → Mixes delta dw dh w j north south → j ≡ columnOf h dh y → dy ≡ wayOf h dh y
+      → row ≡ summedRow (take (y * w + w - y * w) (drop (y * w) now)) north south dy
       → Filling (addedAt asSource map w h delta dw dh) ((y + 1) * w) map (putMid (y * w) (y * w + w - y * w) now row)
-  rows-more p e r =
-      stored-row w y p inside row
-      (r ∙ ap (λ (l : List Float). addedRow asSource (take (y * w + w - y * w) l) (div binary32 (float dw) (float w)) delta dw dh v) (filling-drop p)
-      ∙ row-sums map w h delta dw dh y inside v e)
+  rows-more {j} {dy} {north} {south} f m p q r =
+      stored-row w y f inside row
+      (r ∙ ap (λ (l : List Float). summedRow (take (y * w + w - y * w) l) north south dy) (filling-drop f) ∙ row-sums map w h delta dw dh y inside m p q)
 
 -- every row
 pub filling-rows : {f : ℕ → Float} (w : ℕ) {h y : ℕ} {old now : List Float} → Filling f (y * w) old now → length old ≡ w * h → h ≤ y → now ≡ tabulate (w * h) f

@@ -4,34 +4,21 @@ use mathlib.Core.Path.{_≡_}
 use mathlib.Core.Bool.{cond}
 use mathlib.Core.List.{List}
 use lib.ListN.{length, getD}
-use lib.Ieee.{Float, nan, binary32, ofBits, add, sub, mul, div}
+use lib.Ieee.{Float, nan, binary32, add}
 use Rattle.answers.specs.Outcome.{Outcome, gives, refused, refusedAt, answerOf}
 use Rattle.answers.specs.declared.Answer.{Answer}
-use Rattle.floats.specs.Stand.{maxOf, fractOf, indexOf}
 use Rattle.lists.specs.Loops.{tabulate}
 use Rattle.grid.specs.Heights.{firstNotFinite, allFinite}
-use Rattle.resample.specs.WorkSize.{float}
 use Rattle.resample.specs.Blocks.{shapeRefusal}
-use Rattle.bilinear.specs.Samples.{bilinearAt, bilinearOf}
+use Rattle.bilinear.specs.Samples.{between, bilinearOf}
+use Rattle.sample_rows.specs.Rows.{centreOf}
 pub use Rattle.bilinear.specs.Samples.{FarEdge, asSource}
 
--- where the centre of column (or row) x of a side lies on the reduced one: max((x + 0.5) × coef - 0.5, 0), where coef is reduced / side
-abbrev pub centreBy : Float → ℕ → Float
-centreBy coef x =
-    maxOf (sub binary32 (mul binary32 (add binary32 (float x) (ofBits binary32 0x3f00_0000)) coef) (ofBits binary32 0x3f00_0000)) (ofBits binary32 0)
-
-abbrev pub centreOf : ℕ → ℕ → ℕ → Float
-centreOf side reduced x = centreBy (div binary32 (float reduced) (float side)) x
-
--- a height with the sample of `delta` at column u added to it, in row iy and dy of the way to the next
-abbrev pub addedIn : FarEdge → Float → List Float → ℕ → ℕ → Float → ℕ → Float → Float
-addedIn kind height delta dw dh u iy dy = add binary32 height (bilinearAt kind delta dw dh (indexOf dw u) (fractOf u) iy dy)
-
--- a row with the samples of `delta` added to it; `coef` is that of the columns, and the row's centre lies at v
-unfoldable pub addedRow : FarEdge → List Float → Float → List Float → ℕ → ℕ → Float → List Float
+-- a row of the map with the samples added to it, which lie dy of the way from what lies at each column in the reduced row to the north to what lies there
+-- in the one to the south
+unfoldable pub summedRow : List Float → List Float → List Float → Float → List Float
 unfolding tabulate
-addedRow kind row coef delta dw dh v =
-    tabulate (length row) (λ x. addedIn kind (getD row x nan) delta dw dh (centreBy coef x) (indexOf dh v) (fractOf v))
+summedRow row north south dy = tabulate (length row) (λ x. add binary32 (getD row x nan) (between dy (getD north x nan) (getD south x nan)))
 
 -- cell c of the map with the reduced grid `delta`, upsampled on cell centres, added to it
 abbrev pub addedAt : FarEdge → List Float → ℕ → ℕ → List Float → ℕ → ℕ → ℕ → Float

@@ -1,74 +1,50 @@
 // The source's resample.rs, the way back from the reduced grid: the reduced grid, sampled bilinearly, added to the full one.
 use answers::Answer;
 use answers::Refusal;
-use bilinear::sample_at;
-use floats::fract;
-use floats::index;
+use bilinear::mixed;
 use floats::is_finite;
-use floats::max;
 use grid::Sides;
 use grid::all_finite;
 use grid::first_not_finite;
 use resample::shape_refusal;
+use sample_rows::columns;
+use sample_rows::mix_rows;
+use sample_rows::prepare;
+use sample_rows::way;
+use sample_rows::ways;
 ghost use mathlib.Core.Path.{_≡_};
-ghost use Prim.Native.Nat.{_<_, _≤_};
+ghost use Prim.Native.Nat.{_≤_};
 ghost use lib.ListN.{length};
 ghost use Rattle.grid.specs.Heights.{allFinite};
 ghost use Rattle.bilinear.specs.Places.{Grid};
 ghost use Rattle.bilinear.specs.Samples.{asSource};
-ghost use Rattle.upsample.specs.Samples.{centreBy, addedIn, addedRow, addedOf, Added};
+ghost use Rattle.upsample.specs.Samples.{summedRow, addedOf, Added};
 
-// Where the centre of column (or row) x lies on the reduced side.
-fn centre(x: usize, coef: f32) -> f32
-    requires { ⌜ x ≤ 4096 ⌝ }
-    ensures { λ r. ⌜ r ≡ centreBy coef x ⌝ }
-{
-    max((x as f32 + 0.5) * coef - 0.5, 0.0)
-}
-
-// A height of column x with the sample of delta added to it; the sample's row is y and dy of the way to the next.
-fn added(height: f32, x: usize, coef: f32, delta: &[f32], dsize: Sides, y: usize, dy: f32) -> f32
-    requires { ⌜ x ≤ 4096 ⌝ }
-    requires { ⌜ Grid (dsize .w) (dsize .h) (length (now delta)) ⌝ }
-    requires { ⌜ y < dsize .h ⌝ }
-    ensures { λ r. ⌜ r ≡ addedIn asSource height (now (delta .entry)) (dsize .w) (dsize .h) (centreBy coef x) y dy ⌝ }
-{
-    let u = centre(x, coef);
-    height + sample_at(delta, dsize, index(u, dsize.w), fract(u), y, dy)
-}
-
-// Whether every height of a row stays finite with the samples added.
-fn row_finite(row: &[f32], coef: f32, delta: &[f32], dsize: Sides, v: f32) -> bool
+// Whether every height of a row stays finite with the samples added, dy of the way from north to south. No height is looked at apart, so that several are tested at a time.
+fn row_finite(row: &[f32], north: &[f32; 4096], south: &[f32; 4096], dy: f32) -> bool
     requires { ⌜ length (now row) ≤ 4096 ⌝ }
-    requires { ⌜ Grid (dsize .w) (dsize .h) (length (now delta)) ⌝ }
-    ensures { λ r. ⌜ r ≡ allFinite (addedRow asSource (now (row .entry)) coef (now (delta .entry)) (dsize .w) (dsize .h) v) ⌝ }
+    ensures { λ r. ⌜ r ≡ allFinite (summedRow (now (row .entry)) (now (north .entry)) (now (south .entry)) dy) ⌝ }
 {
-    let y = index(v, dsize.h);
-    let dy = fract(v);
     let w = row.len();
+    let mut good = true;
     let mut x: usize = 0;
     while x < w {
-        if !is_finite(added(row[x], x, coef, delta, dsize, y, dy)) {
-            return false;
-        }
+        good = good & is_finite(row[x] + mixed(dy, north[x], south[x]));
         x += 1;
     }
-    true
+    good
 }
 
 // Adds the samples to a row.
-fn add_row(row: &mut [f32], coef: f32, delta: &[f32], dsize: Sides, v: f32)
+fn add_row(row: &mut [f32], north: &[f32; 4096], south: &[f32; 4096], dy: f32)
     requires { ⌜ length (now row) ≤ 4096 ⌝ }
-    requires { ⌜ Grid (dsize .w) (dsize .h) (length (now delta)) ⌝ }
-    ensures { λ _. ⌜ now (row .exit) ≡ addedRow asSource (now (row .entry)) coef (now (delta .entry)) (dsize .w) (dsize .h) v ⌝ }
+    ensures { λ _. ⌜ now (row .exit) ≡ summedRow (now (row .entry)) (now (north .entry)) (now (south .entry)) dy ⌝ }
 {
-    let y = index(v, dsize.h);
-    let dy = fract(v);
     let w = row.len();
     let mut x: usize = 0;
     while x < w {
         let height = row[x];
-        row[x] = added(height, x, coef, delta, dsize, y, dy);
+        row[x] = height + mixed(dy, north[x], south[x]);
         x += 1;
     }
 }
@@ -81,13 +57,28 @@ pub fn sums_finite(map: &[f32], size: Sides, delta: &[f32], dsize: Sides) -> boo
 {
     let w = size.w;
     let h = size.h;
-    let cx = dsize.w as f32 / w as f32;
-    let cy = dsize.h as f32 / h as f32;
+    let cs = columns(w, dsize.w);
+    let ds = ways(w, dsize.w);
+    let mut north: [f32; 4096] = [0.0; 4096];
+    let mut south: [f32; 4096] = [0.0; 4096];
+    mix_rows(delta, dsize, &cs, &ds, w, 0, &mut north, &mut south);
+    let mut held: usize = 0;
     let mut y: usize = 0;
     while y < h {
+        held = prepare(
+            delta,
+            dsize,
+            &cs,
+            &ds,
+            size,
+            y,
+            held,
+            &mut north,
+            &mut south,
+        );
         let from = y * w;
         let to = from + w;
-        if !row_finite(&map[from..to], cx, delta, dsize, centre(y, cy)) {
+        if !row_finite(&map[from..to], &north, &south, way(h, dsize.h, y)) {
             return false;
         }
         y += 1;
@@ -103,14 +94,29 @@ pub fn add_into(map: &mut [f32], size: Sides, delta: &[f32], dsize: Sides)
 {
     let w = size.w;
     let h = size.h;
-    let cx = dsize.w as f32 / w as f32;
-    let cy = dsize.h as f32 / h as f32;
+    let cs = columns(w, dsize.w);
+    let ds = ways(w, dsize.w);
+    let mut north: [f32; 4096] = [0.0; 4096];
+    let mut south: [f32; 4096] = [0.0; 4096];
+    mix_rows(delta, dsize, &cs, &ds, w, 0, &mut north, &mut south);
+    let mut held: usize = 0;
     let mut y: usize = 0;
     while y < h {
+        held = prepare(
+            delta,
+            dsize,
+            &cs,
+            &ds,
+            size,
+            y,
+            held,
+            &mut north,
+            &mut south,
+        );
+        let dy = way(h, dsize.h, y);
         let from = y * w;
         let to = from + w;
-        let v = centre(y, cy);
-        add_row(&mut map[from..to], cx, delta, dsize, v);
+        add_row(&mut map[from..to], &north, &south, dy);
         y += 1;
     }
 }

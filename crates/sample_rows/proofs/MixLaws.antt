@@ -1,0 +1,90 @@
+-- The arrays of columns, of ways and of mixes: how a loop fills them, and what is read from them.
+use Prim.Native.Nat.{ℕ, _+_, _*_, _≤_, _<_}
+use mathlib.Core.Path.{_≡_, sym, ap, ap₂, _∙_, subst}
+use mathlib.Core.List.{List}
+use native.Mathlib.Omega.{arith}
+use lib.ListN.{length, getD, drop, replicate, List·getD-append}
+use lib.Ieee.{Float, nan, binary32, ofBits}
+use Rattle.floats.specs.Stand.{fractOf, indexOf}
+use Rattle.lists.specs.Loops.{tabulate}
+use Rattle.lists.proofs.TableLaws.{length-tabulate, getD-tabulate, filled}
+use Rattle.lists.proofs.FillLaws.{Filling, filling-length}
+use Rattle.grid.specs.Directions.{Place}
+use Rattle.bilinear.specs.Places.{Grid}
+use Rattle.bilinear.specs.Samples.{asSource, northOf, southOf}
+use Rattle.bilinear.proofs.CornerLaws.{place-in}
+use Rattle.sample_rows.specs.Rows.{Sampled, centreOf, columnOf, wayOf, columnsOf, waysOf, Mixes}
+
+-- the columns of a grid and its rows, on a reduced grid
+pub all-columns : {w h len dw dh dlen : ℕ} → Grid w h len → Grid dw dh dlen → Sampled w dw w
+all-columns g d = record { full = g .w-high; small = d .w-high; inside = omega arith }
+
+pub row-in : {w h len dw dh dlen : ℕ} → Grid w h len → Grid dw dh dlen → (y : ℕ) → y < h → Sampled h dh y
+row-in g d y l = record { full = g .h-high; small = d .h-high; inside = omega arith }
+
+-- what a loop has stored is read
+filled-at : {A : Type 0} (f : ℕ → A) (n : ℕ) (old : List A) (i : ℕ) (d : A) → i < n → getD (filled f n old) i d ≡ f i
+filled-at f n old i d l =
+    List·getD-append (tabulate n f) (drop n old) d i (subst (λ (k : ℕ). i < k) (sym (length-tabulate f n)) l) ∙ getD-tabulate f n i d l
+
+filling-at : {A : Type 0} {f : ℕ → A} {n : ℕ} {old new : List A} → Filling f n old new → (i : ℕ) (d : A) → i < n → getD new i d ≡ f i
+filling-at {A} {f} {n} {old} p i d l = ap (λ (t : List A). getD t i d) (p .held) ∙ filled-at f n old i d l
+
+-- a loop that has stored n values
+stored : {A : Type 0} {f : ℕ → A} {i n : ℕ} {old new : List A} → Filling f i old new → i ≤ n → n ≤ i → new ≡ filled f n old
+stored {A} {f} {i} {n} {old} p a b = let same : i ≡ n = omega arith in p .held ∙ ap (λ (k : ℕ). filled f k old) same
+
+module _ (w dw : ℕ) where
+  pub columns-done : {i : ℕ} {cs : List ℕ} → Filling (columnOf w dw) i (replicate 4096 0) cs → i ≤ w → w ≤ i → cs ≡ columnsOf w dw
+  unfolding columnsOf
+  columns-done p a b = stored p a b
+
+  pub ways-done : {i : ℕ} {ds : List Float} → Filling (wayOf w dw) i (replicate 4096 (ofBits binary32 0)) ds → i ≤ w → w ≤ i → ds ≡ waysOf w dw
+  unfolding waysOf
+  ways-done p a b = stored p a b
+
+  -- as the code works them out
+  module _ (x : ℕ) {u : Float} (e : u ≡ centreOf w dw x) where
+    pub column-is : {i : ℕ} → i ≡ indexOf dw u → i ≡ columnOf w dw x
+    column-is f = f ∙ ap (indexOf dw) e
+
+    pub way-is : {d : Float} → d ≡ fractOf u → d ≡ wayOf w dw x
+    way-is f = f ∙ ap fractOf e
+
+  module _ (x : ℕ) (l : x < w) {cs : List ℕ} {ds : List Float} (e : cs ≡ columnsOf w dw) (f : ds ≡ waysOf w dw) where
+    column-read : getD cs x 0 ≡ columnOf w dw x
+    unfolding columnsOf
+    column-read = ap (λ (t : List ℕ). getD t x 0) e ∙ filled-at (columnOf w dw) w (replicate 4096 0) x 0 l
+
+    way-read : getD ds x nan ≡ wayOf w dw x
+    unfolding waysOf
+    way-read = ap (λ (t : List Float). getD t x nan) f ∙ filled-at (wayOf w dw) w (replicate 4096 (ofBits binary32 0)) x nan l
+
+    -- a place of the reduced grid
+    pub place-read : {dh len y : ℕ} → Grid dw dh len → y < dh → Place dw dh (getD cs x 0) y
+    place-read g m = place-in g (omega (arith, column-read, g .w-low)) m
+
+    module _ (delta : List Float) (dh y : ℕ) {r : Float} where
+      pub north-read : r ≡ northOf asSource delta dw dh (getD cs x 0) (getD ds x nan) y → r ≡ northOf asSource delta dw dh (columnOf w dw x) (wayOf w dw x) y
+      north-read q = q ∙ ap₂ (λ (k : ℕ) (d : Float). northOf asSource delta dw dh k d y) column-read way-read
+
+      pub south-read : r ≡ southOf asSource delta dw dh (getD cs x 0) (getD ds x nan) y → r ≡ southOf asSource delta dw dh (columnOf w dw x) (wayOf w dw x) y
+      south-read q = q ∙ ap₂ (λ (k : ℕ) (d : Float). southOf asSource delta dw dh k d y) column-read way-read
+
+-- the two arrays while they are made: n columns are done
+pub record Mixing (delta : List Float) (dw dh w y n : ℕ) (north₀ south₀ north south : List Float) : Type 0 where
+  pub norths : Filling (λ x. northOf asSource delta dw dh (columnOf w dw x) (wayOf w dw x) y) n north₀ north
+  pub souths : Filling (λ x. southOf asSource delta dw dh (columnOf w dw x) (wayOf w dw x) y) n south₀ south
+
+pub mixing-done : {delta : List Float} {dw dh w y n : ℕ} {north₀ south₀ north south : List Float} → Mixing delta dw dh w y n north₀ south₀ north south
+    → length north₀ ≡ 4096 → length south₀ ≡ 4096 → w ≤ n → Mixes delta dw dh w y north south
+mixing-done m a b l = record {
+  northern = λ x h. filling-at (m .norths) x nan (omega arith);
+  southern = λ x h. filling-at (m .souths) x nan (omega arith);
+  north-long = filling-length (m .norths) ∙ a;
+  south-long = filling-length (m .souths) ∙ b;
+}
+
+-- the arrays of one row are those of the same row
+pub mixes-same : {delta : List Float} {dw dh w held y : ℕ} {north south : List Float} → y ≡ held → Mixes delta dw dh w held north south → Mixes delta dw dh w y north south
+mixes-same {delta} {dw} {dh} {w} {held} {y} {north} {south} e m = subst (λ (k : ℕ). Mixes delta dw dh w k north south) (sym e) m

@@ -1,0 +1,45 @@
+-- Samples row by row.
+use Prim.Native.Nat.{ℕ, _≤_, _<_}
+use mathlib.Core.Path.{_≡_}
+use mathlib.Core.List.{List, _++_}
+use lib.ListN.{length, getD, drop, replicate}
+use lib.Ieee.{Float, nan, binary32, ofBits, add, sub, mul, div}
+use Rattle.floats.specs.Stand.{maxOf, fractOf, indexOf}
+use Rattle.lists.specs.Loops.{tabulate}
+use Rattle.resample.specs.WorkSize.{float}
+use Rattle.bilinear.specs.Samples.{asSource, northOf, southOf}
+
+-- column (or row) x of a side, or the end past the last one, and a reduced side, each at most 4,096
+pub record Sampled (side reduced x : ℕ) : Type 0 where
+  pub full : side ≤ 4096
+  pub small : reduced ≤ 4096
+  pub inside : x ≤ side
+
+-- where the centre of column (or row) x lies on the reduced side: max((x + 0.5) × coef - 0.5, 0), where coef is reduced / side
+abbrev pub centreOf : ℕ → ℕ → ℕ → Float
+centreOf side reduced x =
+    let coef = div binary32 (float reduced) (float side) in
+    maxOf (sub binary32 (mul binary32 (add binary32 (float x) (ofBits binary32 0x3f00_0000)) coef) (ofBits binary32 0x3f00_0000)) (ofBits binary32 0)
+
+-- the reduced column (or row) that the centre of column x lies in, and how much of the way to the next lies before it
+abbrev pub columnOf : ℕ → ℕ → ℕ → ℕ
+columnOf side reduced x = indexOf reduced (centreOf side reduced x)
+
+abbrev pub wayOf : ℕ → ℕ → ℕ → Float
+wayOf side reduced x = fractOf (centreOf side reduced x)
+
+-- of every column, in arrays of 4,096 places, with 0 from the side's end on
+unfoldable pub columnsOf : ℕ → ℕ → List ℕ
+unfolding tabulate
+columnsOf side reduced = tabulate side (columnOf side reduced) ++ drop side (replicate 4096 0)
+
+unfoldable pub waysOf : ℕ → ℕ → List Float
+unfolding tabulate
+waysOf side reduced = tabulate side (wayOf side reduced) ++ drop side (replicate 4096 (ofBits binary32 0))
+
+-- arrays of 4,096 places that hold, for each of w columns, what lies there in row y of the reduced grid and in the next
+pub record Mixes (delta : List Float) (dw dh w y : ℕ) (north south : List Float) : Type 0 where
+  pub northern : (x : ℕ) → x < w → getD north x nan ≡ northOf asSource delta dw dh (columnOf w dw x) (wayOf w dw x) y
+  pub southern : (x : ℕ) → x < w → getD south x nan ≡ southOf asSource delta dw dh (columnOf w dw x) (wayOf w dw x) y
+  pub north-long : length north ≡ 4096
+  pub south-long : length south ≡ 4096
