@@ -1,5 +1,5 @@
 use native.Mathlib.Omega.{arith}
-use Rattle.resample.proofs.WorkLaws.{float-in}
+use Rattle.floats.proofs.WholeLaws.{float-in}
 use borrow.Author.Needs.{needs}
 use Rattle.sample_rows.proofs.centre.Statement.{statement}
 use Rattle.sample_rows.proofs.centre.Tie as tie
