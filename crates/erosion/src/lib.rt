@@ -1,12 +1,12 @@
 // What thermal and fluvial runs share: what a run has reached, one pass of it, and the way onto the reduced grid and back.
 use answers::Answer;
 use answers::Refusal;
+use downsample::downsample_into;
 use generators::Progress;
 use generators::fresh;
 use grid::Sides;
 use grid::all_finite;
 use grid::copy_heights;
-use resample::downsample_into;
 use thermal_erosion::ThermalParams;
 use thermal_erosion::slide_pass_into;
 use upsample::add_into;

@@ -98,7 +98,7 @@ pub extern "C" fn harness_downsample(
 {
     let size = Sides { w, h };
     let dsize = Sides { w: dw, h: dh };
-    word(resample::downsample(src, size, dst, dsize))
+    word(downsample::downsample(src, size, dst, dsize))
 }
 
 // `add_upsampled`.

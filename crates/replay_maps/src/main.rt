@@ -60,7 +60,7 @@ fn replay_downsample() {
     let n = next_length(&space);
     let src = &mut space[..n];
     read_floats(src);
-    put_answer(resample::downsample(src, size, dst, dsize));
+    put_answer(downsample::downsample(src, size, dst, dsize));
     put_floats(dst);
 }
 

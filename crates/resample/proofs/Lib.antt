@@ -4,4 +4,4 @@ pub mod BlockLaws
 pub mod WorkLaws
 pub mod SumLaws
 pub mod FillLaws
-pub mod DownsampleLaws
+pub mod RowFillLaws

@@ -3,13 +3,12 @@ use Prim.Native.Nat.{ℕ, _≤_, _<_}
 use mathlib.Core.Path.{_≡_, sym, ap, ap₂, _∙_, subst}
 use mathlib.Core.List.{List}
 use native.Mathlib.Omega.{arith}
-use lib.ListN.{length, getD, drop, replicate, List·getD-append}
+use lib.ListN.{length, getD, replicate}
 use lib.Ieee.{Float, nan, binary32, ofBits}
 use Rattle.floats.specs.Stand.{fractOf, indexOf}
-use Rattle.lists.specs.Loops.{tabulate}
-use Rattle.lists.proofs.TableLaws.{length-tabulate, getD-tabulate, filled}
 use Rattle.lists.proofs.FillLaws.{Filling, filling-length}
 use Rattle.grid.specs.Directions.{Place}
+use Rattle.resample.proofs.RowFillLaws.{filled-at, filling-at, stored}
 use Rattle.bilinear.specs.Places.{Grid}
 use Rattle.bilinear.specs.Samples.{asSource, northOf, southOf}
 use Rattle.bilinear.proofs.CornerLaws.{place-in}
@@ -21,18 +20,6 @@ all-columns g d = record { full = g .w-high; small = d .w-high; inside = omega a
 
 pub row-in : {w h len dw dh dlen : ℕ} → Grid w h len → Grid dw dh dlen → (y : ℕ) → y < h → Sampled h dh y
 row-in g d y l = record { full = g .h-high; small = d .h-high; inside = omega arith }
-
--- what a loop has stored is read
-filled-at : {A : Type 0} (f : ℕ → A) (n : ℕ) (old : List A) (i : ℕ) (d : A) → i < n → getD (filled f n old) i d ≡ f i
-filled-at f n old i d l =
-    List·getD-append (tabulate n f) (drop n old) d i (subst (λ (k : ℕ). i < k) (sym (length-tabulate f n)) l) ∙ getD-tabulate f n i d l
-
-filling-at : {A : Type 0} {f : ℕ → A} {n : ℕ} {old new : List A} → Filling f n old new → (i : ℕ) (d : A) → i < n → getD new i d ≡ f i
-filling-at {A} {f} {n} {old} p i d l = ap (λ (t : List A). getD t i d) (p .held) ∙ filled-at f n old i d l
-
--- a loop that has stored n values
-stored : {A : Type 0} {f : ℕ → A} {i n : ℕ} {old new : List A} → Filling f i old new → i ≤ n → n ≤ i → new ≡ filled f n old
-stored {A} {f} {i} {n} {old} p a b = let same : i ≡ n = omega arith in p .held ∙ ap (λ (k : ℕ). filled f k old) same
 
 module _ (w dw : ℕ) where
   pub columns-done : {i : ℕ} {cs : List ℕ} → Filling (columnOf w dw) i (replicate 4096 0) cs → i ≤ w → w ≤ i → cs ≡ columnsOf w dw

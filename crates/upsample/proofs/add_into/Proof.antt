@@ -9,7 +9,8 @@ use Rattle.bilinear.proofs.CornerLaws.{grid-row}
 use Rattle.sample_rows.specs.Rows.{Mixes}
 use Rattle.sample_rows.proofs.MixLaws.{all-columns, row-in}
 use Rattle.upsample.specs.Samples.{addedAt, addedOf}
-use Rattle.upsample.proofs.RowLaws.{filling-start, rows-more, filling-rows, part-small}
+use Rattle.upsample.proofs.RowLaws.{rows-more, part-small}
+use Rattle.resample.proofs.RowFillLaws.{filling-start, filling-rows}
 use Rattle.upsample.proofs.add_into.Statement.{statement}
 use Rattle.upsample.proofs.add_into.Tie as tie
 

@@ -1,8 +1,8 @@
 use borrow.Author.Needs.{needs}
 use native.Mathlib.Nat.{mul-le-mul}
 use native.Mathlib.Omega.{arith}
-use Rattle.resample.proofs.first_of.Statement.{statement}
-use Rattle.resample.proofs.first_of.Tie as tie
+use Rattle.downsample.proofs.first_of.Statement.{statement}
+use Rattle.downsample.proofs.first_of.Tie as tie
 
 mul-result : tie.Need-mul-result
 mul-result c = omega (arith, mul-le-mul (c .pre .end) (c .pre .side-high))

@@ -1,10 +1,10 @@
 use Prim.Native.Nat.{_≤_, _-_}
 use mathlib.Core.Path.{_≡_}
 use native.Mathlib.Omega.{arith}
 use Rattle.resample.specs.Blocks.{blockSum}
 use Rattle.resample.proofs.SumLaws.{block-none, block-more, part-row}
-use Rattle.resample.proofs.block_sum.Statement.{statement}
-use Rattle.resample.proofs.block_sum.Tie as tie
+use Rattle.downsample.proofs.block_sum.Statement.{statement}
+use Rattle.downsample.proofs.block_sum.Tie as tie
 
 abbrev Inv-loop : tie.InvT-loop
 Inv-loop src w x n y rows sum₀ i₀ sum i = (sum ≡ blockSum src w x n y i) × (i ≤ rows)

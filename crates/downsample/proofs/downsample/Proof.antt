@@ -2,11 +2,11 @@ use mathlib.Core.Path.{sym, _∙_}
 use denote.Ref.{now}
 use lib.ListN.{length}
 use borrow.Author.Tests.{not-true, not-false}
 use Rattle.resample.proofs.RefusalLaws.{Shaped, shape-good}
-use Rattle.resample.proofs.DownsampleLaws.{down-refused, down-height, down-run-off, down-done}
+use Rattle.downsample.proofs.DownsampleLaws.{down-refused, down-height, down-run-off, down-done}
 use borrow.Author.Needs.{needs}
-use Rattle.resample.proofs.downsample.Statement.{statement}
-use Rattle.resample.proofs.downsample.Tie as tie
+use Rattle.downsample.proofs.downsample.Statement.{statement}
+use Rattle.downsample.proofs.downsample.Tie as tie
 
 shape-refusal-requires : tie.Need-shape-refusal-requires
 shape-refusal-requires c κs = search needs

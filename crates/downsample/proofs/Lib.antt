@@ -1,0 +1,3 @@
+-- Laws of the definitions in specs/, and each way out of `downsample`.
+pub mod FirstsLaws
+pub mod DownsampleLaws

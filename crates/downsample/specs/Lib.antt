@@ -1,0 +1,2 @@
+-- The block average, row by row.
+pub mod Firsts

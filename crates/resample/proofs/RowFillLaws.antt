@@ -1,0 +1,60 @@
+-- A loop that fills a list from the front: what is read from it, and a map filled row by row.
+use Prim.Native.Nat.{ℕ, zero, suc, _+_, _-_, _*_, _≤_, _<_}
+use mathlib.Core.Path.{_≡_, sym, ap, ap₂, _∙_, subst}
+use mathlib.Core.List.{List, [], _∷_, _++_, append-assoc, append-nil}
+use native.Mathlib.Nat.{mul-comm, mul-le-mul-right}
+use native.Mathlib.Omega.{arith}
+use lib.ListN.{length, getD, take, drop, List·getD-append}
+use lib.Seq.{take-at, drop-at, drop-drop}
+use lib.Ieee.{Float}
+use borrow.Rule.Slice.PartMut.{putMid, post-is}
+use Rattle.lists.specs.Loops.{tabulate}
+use Rattle.lists.proofs.TableLaws.{length-tabulate, getD-tabulate, filled}
+use Rattle.lists.proofs.FillLaws.{Filling, filling-none, filling-done}
+
+-- what a loop has stored is read
+pub filled-at : {A : Type 0} (f : ℕ → A) (n : ℕ) (old : List A) (i : ℕ) (d : A) → i < n → getD (filled f n old) i d ≡ f i
+filled-at f n old i d l =
+    List·getD-append (tabulate n f) (drop n old) d i (subst (λ (k : ℕ). i < k) (sym (length-tabulate f n)) l) ∙ getD-tabulate f n i d l
+
+pub filling-at : {A : Type 0} {f : ℕ → A} {n : ℕ} {old new : List A} → Filling f n old new → (i : ℕ) (d : A) → i < n → getD new i d ≡ f i
+filling-at {A} {f} {n} {old} p i d l = ap (λ (t : List A). getD t i d) (p .held) ∙ filled-at f n old i d l
+
+-- a loop that has stored n values
+pub stored : {A : Type 0} {f : ℕ → A} {i n : ℕ} {old new : List A} → Filling f i old new → i ≤ n → n ≤ i → new ≡ filled f n old
+stored {A} {f} {i} {n} {old} p a b = let same : i ≡ n = omega arith in p .held ∙ ap (λ (k : ℕ). filled f k old) same
+
+-- f 0 … f (a + b - 1) in two parts
+tabulate-add : {A : Type 0} (f : ℕ → A) (a b : ℕ) → tabulate (a + b) f ≡ tabulate a f ++ tabulate b (λ x. f (a + x))
+unfolding tabulate
+tabulate-add f a zero = let e : a + 0 ≡ a = omega arith in ap (λ (n : ℕ). tabulate n f) e ∙ sym (append-nil (tabulate a f))
+tabulate-add f a (suc b) =
+    let e : a + suc b ≡ suc (a + b) = omega arith in
+    ap (λ (n : ℕ). tabulate n f) e ∙ ap (λ l. l ++ (f (a + b) ∷ [])) (tabulate-add f a b) ∙ append-assoc (tabulate a f) (tabulate b (λ x. f (a + x))) (f (a + b) ∷ [])
+
+pub filling-start : {f : ℕ → Float} {old : List Float} (w : ℕ) → Filling f (0 * w) old old
+filling-start {f} {old} w = let e : 0 ≡ 0 * w = omega arith in subst (λ (i : ℕ). Filling f i old old) e filling-none
+
+-- what a loop has not reached is as it was
+pub filling-drop : {f : ℕ → Float} {i : ℕ} {old now : List Float} → Filling f i old now → drop i now ≡ drop i old
+filling-drop {f} {i} {old} p = ap (drop i) (p .held) ∙ drop-at (tabulate i f) (drop i old) i (length-tabulate f i)
+
+-- a row of values put in the place of row y
+pub stored-row : {f : ℕ → Float} {old now : List Float} (w y : ℕ) → Filling f (y * w) old now → y * w + w ≤ length old → (row : List Float)
+    → row ≡ tabulate w (λ x. f (y * w + x)) → Filling f ((y + 1) * w) old (putMid (y * w) (y * w + w - y * w) now row)
+stored-row {f} {old} {now} w y p inside row e =
+    let a = y * w in
+    let n : a + w ≡ (y + 1) * w = omega arith in
+    subst (λ (i : ℕ). Filling f i old (putMid a (a + w - a) now row)) n
+    (record {
+      held =
+          ap₂ _++_ (ap (take a) (p .held) ∙ take-at (tabulate a f) (drop a old) a (length-tabulate f a))
+          (ap₂ _++_ e (post-is a (a + w) now (omega arith) ∙ sym (drop-drop w a now) ∙ ap (drop w) (filling-drop p) ∙ drop-drop w a old))
+          ∙ sym (append-assoc (tabulate a f) (tabulate w (λ x. f (a + x))) (drop (a + w) old))
+          ∙ ap (λ (l : List Float). l ++ drop (a + w) old) (sym (tabulate-add f a w));
+      within = inside;
+    })
+
+-- every row
+pub filling-rows : {f : ℕ → Float} (w : ℕ) {h y : ℕ} {old now : List Float} → Filling f (y * w) old now → length old ≡ w * h → h ≤ y → now ≡ tabulate (w * h) f
+filling-rows {f} w {h} {y} p e l = filling-done p (w * h) e (omega (arith, mul-comm w h, mul-le-mul-right w l))
