@@ -1,9 +1,10 @@
 -- 'All heights are finite': what the first bad cell says of the heights before it, and that it is the only such cell.
 use Prim.Native.Nat.{ℕ, zero, suc, _+_, min, _≤_, _<_}
 use native.Mathlib.Omega.{arith}
+use native.Mathlib.Numerals.{add-one}
 use native.Mathlib.Decide.{decLt, ℕ-discrete}
-use mathlib.Core.Path.{_≡_, refl, sym, _∙_, ap}
-use mathlib.Core.Bool.{Bool, true, false, cond, _&&_, and-assoc}
+use mathlib.Core.Path.{_≡_, refl, sym, _∙_, ap, ap₂}
+use mathlib.Core.Bool.{Bool, true, false, cond, _&&_, and-assoc, and-true}
 use mathlib.Core.List.{List, [], _∷_, _++_}
 use lib.ListN.{length, getD, take, set, length-set}
 use lib.Seq.{getD-set-same, getD-set-other}
@@ -12,6 +13,8 @@ use lib.Ieee.{Float, nan}
 use lib.Ieee.Scale.{finite}
 use borrow.Author.Tests.{eq-eqb, ne-eqb, eqb-true, eqb-false}
 use lib.Arith.{lt-of-le-ne}
+use Rattle.lists.specs.Loops.{tabulate}
+use Rattle.lists.proofs.TableLaws.{tabulate-getD}
 use Rattle.grid.specs.Heights.{firstNotFinite, allFinite, FiniteBelow, FirstBad}
 
 pub below-none : (hs : List Float) (n : ℕ) → n ≤ 0 → FiniteBelow hs n
@@ -171,3 +174,21 @@ all-set hs j v e f = below-all (record { each = λ i l. go i (rw length-set at l
     go : (i : ℕ) → i < length hs → Dec (i ≡ j) → finite (getD (set hs j v) i nan) ≡ true
     go i l (yes s) = rw s (ap finite (getD-set-same hs j v nan (rw s at l)) ∙ f)
     go i l (no d) = ap finite (getD-set-other hs j i v nan d) ∙ all-at hs e i l
+
+-- a loop that looks at values f 0, f 1, … one after the other
+pub all-none : (f : ℕ → Float) → true ≡ allFinite (tabulate 0 f)
+unfolding tabulate allFinite firstNotFinite
+all-none f = refl
+
+pub all-more : (f : ℕ → Float) (i : ℕ) {good next : Bool} → good ≡ allFinite (tabulate i f) → next ≡ finite (f i) → (good && next) ≡ allFinite (tabulate (i + 1) f)
+unfolding tabulate allFinite
+all-more f i e g =
+    ap₂ _&&_ e (g ∙ sym (all-one (f i))) ∙ sym (all-append (tabulate i f) (f i ∷ [])) ∙ ap (λ (n : ℕ). allFinite (tabulate n f)) (sym (add-one i))
+  where
+    all-one : (x : Float) → allFinite (x ∷ []) ≡ finite x
+    all-one x = all-cons x [] ∙ and-true (finite x)
+
+pub all-done : (hs : List Float) (i : ℕ) {good : Bool} → good ≡ allFinite (tabulate i (λ k. getD hs k nan)) → i ≤ length hs → length hs ≤ i → good ≡ allFinite hs
+all-done hs i e a b =
+    let all : i ≡ length hs = omega arith in
+    e ∙ ap (λ (n : ℕ). allFinite (tabulate n (λ k. getD hs k nan))) all ∙ ap allFinite (tabulate-getD hs nan)
