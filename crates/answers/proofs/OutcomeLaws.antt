@@ -2,15 +2,9 @@
 use Prim.Native.Nat.{ℕ}
 use mathlib.Core.Path.{_≡_, refl, ap}
 use mathlib.Core.Bool.{Bool, true, false, cond, false≢true}
-use Rattle.answers.specs.Outcome.{Outcome, gives, refused, refusedAt, refusalOf}
+use Rattle.answers.specs.Outcome.{Outcome, gives, refused, refusedAt, refusalOf, given}
 use Rattle.answers.specs.declared.Refusal.{Refusal}
 use Rattle.answers.specs.declared.Refusal.the-variants.{Side, ReducedSide, Length, Setting, Height, Receiver, List, Stream, Cells, Stopped, RunOff}
-
--- whether an outcome is no refusal
-abbrev pub given : {A : Type 0} → Outcome A → Bool
-given (gives x) = true
-given (refused n) = false
-given (refusedAt n c) = false
 
 pub refusal-given : (r : Refusal) → given (refusalOf {A = Unit {0}} r) ≡ false
 refusal-given Side = refl

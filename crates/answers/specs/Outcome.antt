@@ -1,6 +1,6 @@
 -- Every answer as document 01 has it: what the call gives, or the number of a refusal with the cell or position that it carries.
 use Prim.Native.Nat.{ℕ}
-use mathlib.Core.Bool.{Bool, not, _&&_}
+use mathlib.Core.Bool.{Bool, true, false, not, _&&_}
 use lib.Ieee.{Float, le}
 use Rattle.answers.specs.declared.Refusal.{Refusal}
 use Rattle.answers.specs.declared.Refusal.the-variants.{Side, ReducedSide, Length, Setting, Height, Receiver, List, Stream, Cells, Stopped, RunOff}
@@ -26,6 +26,12 @@ refusalOf Stream = refused 8
 refusalOf Cells = refused 9
 refusalOf Stopped = refused 21
 refusalOf RunOff = refused 22
+
+-- whether an outcome is no refusal
+abbrev pub given : {A : Type 0} → Outcome A → Bool
+given (gives x) = true
+given (refused n) = false
+given (refusedAt n c) = false
 
 -- the number of a refusal, and the place that it carries (0 where it carries none), both as `refusalOf` has them
 abbrev pub numberIn : Outcome (Unit {0}) → ℕ

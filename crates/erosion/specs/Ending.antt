@@ -6,7 +6,7 @@ use mathlib.Core.Logic.{_⊎_}
 use mathlib.Core.List.{List}
 use lib.Dec.{eqb}
 use lib.Ieee.{Float}
-use Rattle.answers.specs.Outcome.{Outcome, gives, refused, refusedAt, answerOf}
+use Rattle.answers.specs.Outcome.{Outcome, gives, refused, refusedAt, answerOf, given}
 use Rattle.answers.specs.declared.Answer.{Answer}
 use Rattle.answers.specs.declared.Refusal.{Refusal}
 use Rattle.runs.specs.Run.{Ran}
@@ -41,9 +41,7 @@ endedWith r map =
 
 -- whether an input was accepted
 abbrev pub accepted : Outcome (Unit {0}) → Bool
-accepted (gives _) = true
-accepted (refused number) = false
-accepted (refusedAt number place) = false
+accepted = given
 
 abbrev pub refusedTo : Refusal → RunAnswer
 refusedTo why = record { answer = Answer.Refused why; incisions = 0; passes = 0; questions = 0 }

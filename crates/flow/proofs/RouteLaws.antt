@@ -8,11 +8,10 @@ use lib.Ieee.{Float}
 use lib.Ieee.Scale.{finite}
 use borrow.Author.Tests.{eqb-true, ltb-false, not-true, not-false}
 use Rattle.lists.proofs.TestLaws.{neither, both, chosen, passed}
-use Rattle.answers.specs.Outcome.{Outcome, gives, refused, refusedAt, answerOf}
+use Rattle.answers.specs.Outcome.{Outcome, gives, refused, refusedAt, answerOf, given}
 use Rattle.answers.specs.declared.Answer.{Answer}
 use Rattle.grid.specs.Sides.{badSides}
 use Rattle.grid.specs.Heights.{firstNotFinite, allFinite}
-use Rattle.answers.proofs.OutcomeLaws.{given}
 use Rattle.grid.proofs.SidesLaws.{good-sides}
 use Rattle.flood.specs.Slices.{Accepted}
 use Rattle.flow.specs.declared.Lent.{Lent}

@@ -10,12 +10,12 @@ use lib.Dec.{eqb, ltb}
 use lib.Ieee.{Float}
 use borrow.Author.Tests.{lt-ltb, le-ltb, ltb-false, eqb-true, not-false}
 use Rattle.lists.proofs.TestLaws.{neither}
-use Rattle.answers.specs.Outcome.{Outcome, gives, refused, refusedAt, answerOf}
+use Rattle.answers.specs.Outcome.{Outcome, gives, refused, refusedAt, answerOf, given}
 use Rattle.answers.specs.declared.Answer.{Answer}
 use Rattle.answers.specs.declared.Refusal.{Refusal}
 use Rattle.grid.specs.Sides.{badSides, InRange}
 use Rattle.grid.specs.Heights.{firstNotFinite, allFinite}
-use Rattle.answers.proofs.OutcomeLaws.{given, refusal-given}
+use Rattle.answers.proofs.OutcomeLaws.{refusal-given}
 use Rattle.grid.proofs.SidesLaws.{good-sides, cells-bound, cell-back}
 use Rattle.grid.proofs.HeightsLaws.{all-finite, not-all-finite}
 use Rattle.lent_receivers.specs.Receivers.{firstBadReceiver, receiverTest}

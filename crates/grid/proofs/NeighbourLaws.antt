@@ -52,7 +52,7 @@ close-step x (negsuc k) side n s e l = go (ltb k x) refl e
     go true t e = let q : k < x = ltb-true k x t in (omega arith, omega arith)
     go false t e = absurd (omega arith)
 
-abbrev isZero : ℤ → Bool
+abbrev pub isZero : ℤ → Bool
 isZero (pos zero) = true
 isZero (pos (suc n)) = false
 isZero (negsuc n) = false

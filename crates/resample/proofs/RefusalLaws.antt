@@ -8,11 +8,11 @@ use lib.Dec.{eqb, ltb}
 use lib.Ieee.{Float}
 use borrow.Author.Tests.{eqb-true, eqb-false, ltb-false, not-false}
 use Rattle.lists.proofs.TestLaws.{neither}
-use Rattle.answers.specs.Outcome.{Outcome, gives, refused, answerOf}
+use Rattle.answers.specs.Outcome.{Outcome, gives, refused, answerOf, given}
 use Rattle.answers.specs.declared.Answer.{Answer}
 use Rattle.answers.specs.declared.Refusal.{Refusal}
 use Rattle.grid.specs.Sides.{badSides}
-use Rattle.answers.proofs.OutcomeLaws.{given, refusal-given}
+use Rattle.answers.proofs.OutcomeLaws.{refusal-given}
 use Rattle.grid.proofs.SidesLaws.{good-sides}
 use Rattle.resample.specs.WorkSize.{Within}
 use Rattle.resample.specs.Blocks.{badReduced, shapeRefusal}

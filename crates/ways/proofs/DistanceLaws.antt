@@ -14,7 +14,7 @@ use Rattle.lists.specs.Loops.{turns}
 use Rattle.grid.specs.Sides.{cellOf, columnOf, rowOf}
 use Rattle.grid.specs.Directions.{shiftedOf, neighbourAt, Adjacent}
 use Rattle.grid.proofs.SidesLaws.{column-cell, row-cell}
-use Rattle.grid.proofs.NeighbourLaws.{stepX, stepY, each-direction, Beside, beside, outside-or-beside, neighbour-apart}
+use Rattle.grid.proofs.NeighbourLaws.{stepX, stepY, each-direction, Beside, beside, outside-or-beside, neighbour-apart, isZero}
 use Rattle.drainage.specs.Ground.{gridGround, distances}
 use Rattle.drainage.specs.Receivers.{directionTo, distanceTo}
 use Rattle.ways.specs.Apart.{apart}
@@ -40,11 +40,6 @@ last-at (suc n) f r i l e = go (eqb (f n) r) refl (λ k. last-at n f r i k e)
         let other : i ≢ n = λ q. eqb-false (f n) r t (ap f (sym q) ∙ e) in
         let s = h (omega arith) in
         (s .0, s .1, omega (arith, s .2), s .3)
-
-abbrev isZero : ℤ → Bool
-isZero (pos zero) = true
-isZero (pos (suc n)) = false
-isZero (negsuc n) = false
 
 -- 1 where a direction keeps the column or the row
 by-steps : (d : ℕ) → 1 ≤ d → d ≤ 8

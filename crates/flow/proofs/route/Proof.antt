@@ -1,7 +1,7 @@
 use Rattle.flow.specs.Route.{lentOf}
 use mathlib.Core.Path.{refl, sym, ap, _∙_}
-use Rattle.answers.specs.Outcome.{answerOf}
-use Rattle.answers.proofs.OutcomeLaws.{given, refusal-given}
+use Rattle.answers.specs.Outcome.{answerOf, given}
+use Rattle.answers.proofs.OutcomeLaws.{refusal-given}
 use Rattle.flow.proofs.RouteLaws.{answered, accepted-enough, accepted-grid, routed-refused, routed-done}
 use borrow.Author.Needs.{needs}
 use Rattle.flow.proofs.route.Statement.{statement}
