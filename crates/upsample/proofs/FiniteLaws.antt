@@ -1,18 +1,16 @@
 -- Values f 0, f 1, … that are all finite, as a loop finds them so, and `allFinite` of their list.
 use Prim.Native.Nat.{ℕ, _+_, _-_, _*_, _≤_, _<_}
-use mathlib.Core.Path.{_≡_, refl, sym, ap, ap₂, _∙_, subst}
-use mathlib.Core.Bool.{Bool, true, false, true≢false, _&&_, and-true}
-use mathlib.Core.List.{[], _∷_}
+use mathlib.Core.Path.{_≡_, refl, sym, ap, _∙_, subst}
+use mathlib.Core.Bool.{Bool, true, false, true≢false}
 use native.Mathlib.Nat.{mul-comm}
 use native.Mathlib.Decide.{decLt}
-use native.Mathlib.Numerals.{add-one}
 use native.Mathlib.Omega.{arith}
 use lib.Ieee.{Float, nan}
 use lib.Ieee.Scale.{finite}
 use Rattle.lists.specs.Loops.{tabulate}
 use Rattle.lists.proofs.TableLaws.{length-tabulate, getD-tabulate}
-use Rattle.grid.specs.Heights.{firstNotFinite, allFinite}
-use Rattle.grid.proofs.HeightsLaws.{below-all, all-at, all-cons, all-append}
+use Rattle.grid.specs.Heights.{allFinite}
+use Rattle.grid.proofs.HeightsLaws.{below-all, all-at}
 use Rattle.bilinear.proofs.CornerLaws.{row-end}
 
 pub record Finites (f : ℕ → Float) (n : ℕ) : Type 0 where
@@ -34,19 +32,6 @@ module _ (f : ℕ → Float) (n : ℕ) where
     each = λ k l.
         ap finite (sym (getD-tabulate f n k nan l)) ∙ all-at (tabulate n f) e k (subst (λ (m : ℕ). k < m) (sym (length-tabulate f n)) l);
   }
-
--- a loop that looks at them one after the other
-pub all-none : (f : ℕ → Float) → true ≡ allFinite (tabulate 0 f)
-unfolding tabulate allFinite firstNotFinite
-all-none f = refl
-
-pub all-more : (f : ℕ → Float) (i : ℕ) {good next : Bool} → good ≡ allFinite (tabulate i f) → next ≡ finite (f i) → (good && next) ≡ allFinite (tabulate (i + 1) f)
-unfolding tabulate allFinite
-all-more f i e g =
-    ap₂ _&&_ e (g ∙ sym (all-one (f i))) ∙ sym (all-append (tabulate i f) (f i ∷ [])) ∙ ap (λ (n : ℕ). allFinite (tabulate n f)) (sym (add-one i))
-  where
-    all-one : (x : Float) → allFinite (x ∷ []) ≡ finite x
-    all-one x = all-cons x [] ∙ and-true (finite x)
 
 -- row by row, w values each
 module _ (f : ℕ → Float) (w h y : ℕ) (l : y < h) where

@@ -8,7 +8,7 @@ use lib.Ieee.Scale.{finite}
 use Rattle.lists.specs.Loops.{tabulate}
 use Rattle.grid.specs.Heights.{allFinite}
 use Rattle.upsample.specs.Samples.{summedRow}
-use Rattle.upsample.proofs.FiniteLaws.{all-none, all-more}
+use Rattle.grid.proofs.HeightsLaws.{all-none, all-more}
 use Rattle.upsample.proofs.RowLaws.{sumAt}
 use Rattle.upsample.proofs.row_finite.Statement.{statement}
 use Rattle.upsample.proofs.row_finite.Tie as tie
