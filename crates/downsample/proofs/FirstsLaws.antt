@@ -8,7 +8,6 @@ use lib.ListN.{length, getD, replicate}
 use lib.Arith.{digits-div, digits-mod}
 use lib.Ieee.{Float, binary32, div}
 use borrow.Rule.Slice.PartMut.{putMid}
-use Rattle.lists.specs.Loops.{tabulate}
 use Rattle.lists.proofs.TableLaws.{tabulate-same}
 use Rattle.lists.proofs.FillLaws.{Filling}
 use Rattle.resample.specs.WorkSize.{Within, float}
