@@ -29,7 +29,7 @@ fn parse(line: &str) -> Option<Row> {
 
 const COLOURS: [&str; 6] = ["#1f77b4", "#d62728", "#2ca02c", "#9467bd", "#ff7f0e", "#8c564b"];
 const PANEL: (f64, f64) = (360.0, 320.0);
-const LEFT: f64 = 60.0;
+const LEFT: f64 = 76.0;
 const TOP: f64 = 40.0;
 
 /// Where a value stands between two ends on a logarithmic scale, from 0 to 1.
