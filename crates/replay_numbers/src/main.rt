@@ -1,25 +1,64 @@
 // Replays the oracle's list of the square root, the working sides and the stop marks: reads tasks, calls the library, writes the
 // answers, which the file stdout fixes. oracle/README.md has the words of each task and answer.
+use answers::Refusal;
+use answers::Value;
 use generators::Go;
 use generators::Progress;
-use replay::next_float;
-use replay::next_sides;
-use replay::put;
-use replay::put_accepted;
-use replay::put_flag;
-use replay::put_refusal;
-use replay::put_size;
-use replay::put_value;
-use replay::word;
+use grid::Sides;
 use resample::Work;
 
+// The next word of the input, 0 once it has ended.
+fn word() -> u32 {
+    let mut b = [0u8; 4];
+    io::read_full(0, &mut b);
+    words::word(&b)
+}
+
+fn put(x: u32) {
+    let b = words::bytes(x);
+    io::write_all(1, &b);
+}
+
+fn put_size(x: usize) {
+    put((x % 0x1_0000_0000) as u32);
+}
+
+fn put_flag(x: bool) {
+    if x {
+        put(1);
+    } else {
+        put(0);
+    }
+}
+
+// Every answer begins with the refusal's number, 0 if none, and the place that it carries.
+fn put_accepted() {
+    put(0);
+    put(0);
+}
+
+fn put_refusal(r: Refusal) {
+    put(answers::number(r));
+    put_size(answers::place(r));
+}
+
 fn replay_root() {
-    put_value(square_root::root(next_float()));
+    match square_root::root(floats::from_bits(word())) {
+        Value::Given(x) => {
+            put_accepted();
+            put(floats::to_bits(x));
+        }
+        Value::Refused(r) => {
+            put_refusal(r);
+            put(0);
+        }
+    }
 }
 
 fn replay_work_size() {
-    let size = next_sides();
-    match resample::work_size(size, word()) {
+    let w = word() as usize;
+    let h = word() as usize;
+    match resample::work_size(Sides { w, h }, word()) {
         Work::Of(size) => {
             put_accepted();
             put_size(size.w);

@@ -1,21 +1,115 @@
 // Replays the oracle's list of whole runs: reads tasks, calls the library, writes the answers, which the file stdout fixes.
 // oracle/README.md has the words of each task and answer.
+use answers::Answer;
+use answers::Refusal;
 use erosion::RunAnswer;
-use replay::cells;
-use replay::next_cells;
-use replay::next_float;
-use replay::next_length;
-use replay::next_sides;
-use replay::next_states;
-use replay::put;
-use replay::put_answer;
-use replay::put_floats;
-use replay::read_floats;
-use replay::room;
-use replay::states;
-use replay::word;
+use grid::Sides;
 use runs::FluvialSettings;
 use runs::ThermalSettings;
+ghost use mathlib.Core.Path.{_≡_};
+ghost use Prim.Native.Nat.{_≤_};
+ghost use lib.ListN.{length, take};
+
+// Room for the values of a task: heights, cells and states, each x at first.
+fn room(x: f32) -> [f32; 4100]
+    ensures { λ r. ⌜ 4100 ≡ length r ⌝ }
+{
+    [x; 4100]
+}
+
+fn cells(x: u32) -> [u32; 4100]
+    ensures { λ r. ⌜ 4100 ≡ length r ⌝ }
+{
+    [x; 4100]
+}
+
+fn states(x: u8) -> [u8; 4100]
+    ensures { λ r. ⌜ 4100 ≡ length r ⌝ }
+{
+    [x; 4100]
+}
+
+// The next word of the input, 0 once it has ended.
+fn word() -> u32 {
+    let mut b = [0u8; 4];
+    io::read_full(0, &mut b);
+    words::word(&b)
+}
+
+fn next_float() -> f32 {
+    floats::from_bits(word())
+}
+
+fn next_sides() -> Sides {
+    let w = word() as usize;
+    let h = word() as usize;
+    Sides { w, h }
+}
+
+// n, or the most where n is more.
+fn shorter(n: usize, most: usize) -> usize
+    ensures { λ r. ⌜ r ≤ most ⌝ }
+{
+    if n < most {
+        return n;
+    }
+    most
+}
+
+// The next length, at most that of space. The second part is what a part of space with that length asks.
+fn next_length(space: &[f32]) -> usize
+    ensures { λ r. ⌜ (r ≤ length (now (space .entry))) × (r ≡ length (take r (now (space .entry)))) ⌝ }
+{
+    let n = word() as usize;
+    shorter(n, space.len())
+}
+
+fn next_cells(space: &[u32]) -> usize
+    ensures { λ r. ⌜ (r ≤ length (now (space .entry))) × (r ≡ length (take r (now (space .entry)))) ⌝ }
+{
+    let n = word() as usize;
+    shorter(n, space.len())
+}
+
+fn next_states(space: &[u8]) -> usize
+    ensures { λ r. ⌜ (r ≤ length (now (space .entry))) × (r ≡ length (take r (now (space .entry)))) ⌝ }
+{
+    let n = word() as usize;
+    shorter(n, space.len())
+}
+
+fn read_floats(v: &mut [f32]) {
+    for i in 0..v.len() {
+        v[i] = next_float();
+    }
+}
+
+fn put(x: u32) {
+    let b = words::bytes(x);
+    io::write_all(1, &b);
+}
+
+fn put_floats(v: &[f32]) {
+    for i in 0..v.len() {
+        put(floats::to_bits(v[i]));
+    }
+}
+
+fn put_refusal(r: Refusal) {
+    put(answers::number(r));
+    put((answers::place(r) % 0x1_0000_0000) as u32);
+}
+
+// Every answer begins with the refusal's number, 0 if none, and the place that it carries.
+fn put_answer(a: Answer) {
+    match a {
+        Answer::Done => {
+            put(0);
+            put(0);
+        }
+        Answer::Refused(r) => put_refusal(r),
+    }
+}
 
 fn put_ended(r: RunAnswer) {
     let answer = r.answer;

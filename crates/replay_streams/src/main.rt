@@ -1,12 +1,10 @@
 // Replays the oracle's list of streams: reads each stream, runs it, writes its output, which the file stdout fixes.
 // oracle/README.md has the form of the list.
 use output::Written;
-use replay::held;
-use replay::put;
-use replay::put_size;
 use stream_run::relief;
 ghost use mathlib.Core.Path.{_≡_};
-ghost use lib.ListN.{length};
+ghost use Prim.Native.Nat.{_≤_};
+ghost use lib.ListN.{length, take};
 
 // Room for the longest output: 22 bytes, and 6 for each of 4,096 rows of one cell.
 fn output_room() -> [u8; 24598]
@@ -15,9 +13,31 @@ fn output_room() -> [u8; 24598]
     [0; 24598]
 }
 
+// n, or the most where n is more.
+fn shorter(n: usize, most: usize) -> usize
+    ensures { λ r. ⌜ r ≤ most ⌝ }
+{
+    if n < most {
+        return n;
+    }
+    most
+}
+
+// n, at most the length of space. The second part is what a part of space with that length asks.
+fn held(n: usize, space: &[u8]) -> usize
+    ensures { λ r. ⌜ (r ≤ length (now (space .entry))) × (r ≡ length (take r (now (space .entry)))) ⌝ }
+{
+    shorter(n, space.len())
+}
+
+fn put(x: u32) {
+    let b = words::bytes(x);
+    io::write_all(1, &b);
+}
+
 // An output: its length, and its bytes.
 fn put_output(bytes: &[u8]) {
-    put_size(bytes.len());
+    put((bytes.len() % 0x1_0000_0000) as u32);
     io::write_all(1, bytes);
 }
 

@@ -2,8 +2,8 @@
 use borrow.Author.Needs.{needs}
 use mathlib.Core.Path.{sym}
 use lib.Seq.{length-take-le}
-use Rattle.replay.proofs.next_cells.Statement.{statement}
-use Rattle.replay.proofs.next_cells.Tie as tie
+use Rattle.replay_runs.proofs.next_cells.Statement.{statement}
+use Rattle.replay_runs.proofs.next_cells.Tie as tie
 
 word-requires : tie.Need-word-requires
 word-requires c κs = search needs

@@ -3,8 +3,8 @@ use Prim.Native.Nat.{_-_, _≤_}
 use mathlib.Core.Path.{_≡_}
 use native.Mathlib.Omega.{arith}
 use lib.ListN.{length, length-set}
-use Rattle.replay.proofs.read_cells.Statement.{statement}
-use Rattle.replay.proofs.read_cells.Tie as tie
+use Rattle.replay_runs.proofs.read_floats.Statement.{statement}
+use Rattle.replay_runs.proofs.read_floats.Tie as tie
 
 abbrev Inv-loop : tie.InvT-loop
 Inv-loop v₀ i₀ i-end v i = (length v ≡ length v₀) × (i-end ≡ length v₀) × (i ≤ i-end)
@@ -15,8 +15,8 @@ abbrev μ-loop : tie.MeasureT-loop
 loop-holds : tie.Need-loop-holds Inv-loop μ-loop
 loop-holds c = omega arith
 
-word-requires : tie.Need-word-requires Inv-loop μ-loop
-word-requires c κs = tt
+next-float-requires : tie.Need-next-float-requires Inv-loop μ-loop
+next-float-requires c κs = tt
 
 mul-v : tie.Need-mul-v Inv-loop μ-loop
 mul-v c = omega arith
@@ -39,7 +39,7 @@ same-length c = omega arith
 returns : tie.Need-returns Inv-loop μ-loop
 returns c = tt
 
-pub read-cells-spec : {M : Type 1} → statement M
-read-cells-spec =
+pub read-floats-spec : {M : Type 1} → statement M
+read-floats-spec =
     tie.close
-    (tie.spec Inv-loop μ-loop loop-holds word-requires mul-v slice-write-v add-i loop-less loop-again same-length returns)
+    (tie.spec Inv-loop μ-loop loop-holds next-float-requires mul-v slice-write-v add-i loop-less loop-again same-length returns)

@@ -3,8 +3,8 @@ use Prim.Native.Nat.{_-_, _≤_}
 use mathlib.Core.Path.{_≡_}
 use native.Mathlib.Omega.{arith}
 use lib.ListN.{length}
-use Rattle.replay.proofs.put_floats.Statement.{statement}
-use Rattle.replay.proofs.put_floats.Tie as tie
+use Rattle.replay_route.proofs.put_floats.Statement.{statement}
+use Rattle.replay_route.proofs.put_floats.Tie as tie
 
 abbrev Inv-loop : tie.InvT-loop
 Inv-loop v i₀ i-end i = (i-end ≡ length v) × (i ≤ i-end)

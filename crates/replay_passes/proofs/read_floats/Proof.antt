@@ -3,8 +3,8 @@ use Prim.Native.Nat.{_-_, _≤_}
 use mathlib.Core.Path.{_≡_}
 use native.Mathlib.Omega.{arith}
 use lib.ListN.{length, length-set}
-use Rattle.replay.proofs.read_floats.Statement.{statement}
-use Rattle.replay.proofs.read_floats.Tie as tie
+use Rattle.replay_passes.proofs.read_floats.Statement.{statement}
+use Rattle.replay_passes.proofs.read_floats.Tie as tie
 
 abbrev Inv-loop : tie.InvT-loop
 Inv-loop v₀ i₀ i-end v i = (length v ≡ length v₀) × (i-end ≡ length v₀) × (i ≤ i-end)

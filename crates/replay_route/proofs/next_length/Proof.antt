@@ -2,8 +2,8 @@
 use borrow.Author.Needs.{needs}
 use mathlib.Core.Path.{sym}
 use lib.Seq.{length-take-le}
-use Rattle.replay.proofs.next_length.Statement.{statement}
-use Rattle.replay.proofs.next_length.Tie as tie
+use Rattle.replay_route.proofs.next_length.Statement.{statement}
+use Rattle.replay_route.proofs.next_length.Tie as tie
 
 word-requires : tie.Need-word-requires
 word-requires c κs = search needs

@@ -2,8 +2,8 @@
 use borrow.Author.Needs.{needs}
 use mathlib.Core.Path.{sym}
 use lib.Seq.{length-take-le}
-use Rattle.replay.proofs.held.Statement.{statement}
-use Rattle.replay.proofs.held.Tie as tie
+use Rattle.replay_streams.proofs.held.Statement.{statement}
+use Rattle.replay_streams.proofs.held.Tie as tie
 
 shorter-requires : tie.Need-shorter-requires
 shorter-requires c κs = search needs

@@ -1,0 +1,21 @@
+-- The length lies within the slice, so its part has that length.
+use borrow.Author.Needs.{needs}
+use mathlib.Core.Path.{sym}
+use lib.Seq.{length-take-le}
+use Rattle.replay_passes.proofs.next_cells.Statement.{statement}
+use Rattle.replay_passes.proofs.next_cells.Tie as tie
+
+word-requires : tie.Need-word-requires
+word-requires c κs = search needs
+
+cast-n : tie.Need-cast-n
+cast-n c = search needs
+
+shorter-requires : tie.Need-shorter-requires
+shorter-requires c κs = search needs
+
+returns : tie.Need-returns
+returns c = (c .shorter .ensures, sym (length-take-le _ _ (c .shorter .ensures)))
+
+pub next-cells-spec : {M : Type 1} → statement M
+next-cells-spec = tie.close (tie.spec word-requires cast-n shorter-requires returns)
