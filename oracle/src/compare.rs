@@ -3,6 +3,7 @@
 #[path = "bench/calls.rs"]
 #[allow(dead_code)]
 mod calls;
+mod counts;
 #[path = "compare/exported.rs"]
 mod exported;
 #[path = "bench/runs.rs"]

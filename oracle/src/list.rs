@@ -5,6 +5,7 @@ use std::fs;
 use std::io;
 use std::path::Path;
 
+use crate::counts::{by_call, Counts};
 use crate::rules::Answer;
 
 const NAN_BITS: u32 = 0x7fc0_0000;
@@ -14,14 +15,14 @@ pub struct List {
     asked: Vec<u8>,
     given: Vec<u8>,
     /// how many answers of each call have each number
-    counts: BTreeMap<(&'static str, u32), usize>,
+    counts: Counts,
     /// how many answers of each call have a remark of the list's maker
     notes: BTreeMap<(&'static str, &'static str), usize>,
 }
 
 impl List {
     pub fn new(program: &'static str) -> List {
-        List { program, asked: Vec::new(), given: Vec::new(), counts: BTreeMap::new(), notes: BTreeMap::new() }
+        List { program, asked: Vec::new(), given: Vec::new(), counts: Counts::new(), notes: BTreeMap::new() }
     }
 
     pub fn ask(&mut self, words: &[u32]) {
@@ -103,11 +104,7 @@ impl List {
     pub fn summary(&self) -> String {
         let mut text =
             format!("{}: stdin {} bytes, stdout {} bytes\n", self.program, self.asked.len(), self.given.len());
-        let mut calls: Vec<&str> = self.counts.keys().map(|k| k.0).collect();
-        calls.dedup();
-        for call in calls {
-            let of: Vec<(u32, usize)> =
-                self.counts.iter().filter(|(k, _)| k.0 == call).map(|(k, n)| (k.1, *n)).collect();
+        for (call, of) in by_call(&self.counts) {
             let total: usize = of.iter().map(|c| c.1).sum();
             text.push_str(&format!("  {call}: {total} tasks"));
             for (number, n) in of {

@@ -1,6 +1,7 @@
 //! The oracle: the published Rust source behind document 01's refusals. `oracle lists CRATES` writes the replay lists into
 //! the crates folder, `oracle verify CRATES` says whether the files there are those lists, and `oracle powf` counts the
 //! floats on which `powf` with 0.5 is not the square root. `oracle relief` answers the stream on standard input as document 01's program does.
+mod counts;
 mod incisions;
 mod list;
 mod maps;

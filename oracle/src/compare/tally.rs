@@ -1,11 +1,12 @@
 //! What was compared: how many answers of each call have which number, and the smallest input of each call on which the two differ.
 use std::collections::BTreeMap;
 
+use crate::counts::{by_call, Counts};
 use crate::rules::{Answer, Sides};
 
 #[derive(Default)]
 pub struct Tally {
-    counts: BTreeMap<(&'static str, u32), usize>,
+    counts: Counts,
     differ: BTreeMap<&'static str, usize>,
     /// the number of cells, and the input
     smallest: BTreeMap<&'static str, (usize, String)>,
@@ -53,11 +54,7 @@ impl Tally {
         println!("{title}: {total} comparisons");
         println!("| call | compared | accepted | refused (number: times) | differ |");
         println!("|---|---|---|---|---|");
-        let mut calls: Vec<&str> = self.counts.keys().map(|k| k.0).collect();
-        calls.dedup();
-        for call in calls {
-            let of: Vec<(u32, usize)> =
-                self.counts.iter().filter(|(k, _)| k.0 == call).map(|(k, n)| (k.1, *n)).collect();
+        for (call, of) in by_call(&self.counts) {
             let all: usize = of.iter().map(|c| c.1).sum();
             let done = of.iter().find(|c| c.0 == 0).map_or(0, |c| c.1);
             let refused: Vec<String> = of.iter().filter(|c| c.0 > 0).map(|c| format!("{}: {}", c.0, c.1)).collect();
