@@ -20,7 +20,7 @@ offsets-requires : tie.Need-offsets-requires Inv-loop μ-loop
 offsets-requires c κs = c .before .before .before .before .before .before .pre .0 .sides .wide
 
 sort-cells-requires : tie.Need-sort-cells-requires Inv-loop μ-loop
-sort-cells-requires c κs = omega (arith, c .before .before .before .before .before .before .before .before .before .pre .1 .1 .few, c .before .before .before .before .before .before .before .before .before .pre .1 .1 .finders)
+sort-cells-requires c κs = omega (arith, c .before .before .before .before .before .before .before .before .before .pre .1 .1 .few, c .before .before .before .before .before .before .before .before .before .pre .1 .1 .heights)
 
 start-requires : tie.Need-start-requires Inv-loop μ-loop
 start-requires c κs = let z = c .before .before .before .before .before .before .before .before .before .before .before .before .before .before .before .before .before .pre .1 .1 in (z .few, (z .heights, (z .statuses, (z .spills, c .before .before .before .before .before .before .before .sort-cells .kept .1 .1 .0 ∙ z .finders))))
