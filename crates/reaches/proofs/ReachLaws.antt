@@ -21,6 +21,7 @@ use Rattle.heap.specs.Queue.{placeOf, within, Heap, Pushed}
 use Rattle.heap.proofs.RoomLaws.{heap-same, heap-room}
 use Rattle.flood_start.specs.Slices.{stateOf, Sizes}
 use Rattle.scan_queue.specs.Scans.{Queued, Level}
+use Rattle.scan_queue.proofs.ScanLaws.{unlike-zero}
 use Rattle.reaches.specs.Reaches.{Reached}
 
 -- lists of the same lengths
@@ -66,9 +67,6 @@ module _ (hs : List Float) (limit : ℕ) (status : List ℕ) (spill : List Float
           | inr z ↦ ap (λ (y : Float). keyOf y * 2 ^ 32 + c) (sym (ap (λ t. getD t c nan) f ∙ getD-set-other spill m c x nan z))
         ]
 
-unlike-zero : {v : ℕ} → v ≡ 2 → v ≡ 0 → ⊥
-unlike-zero z y = omega arith
-
 module _ (hs : List Float) (limit c m : ℕ) (status : List ℕ) (spill : List Float) (recv : List ℕ) (len : ℕ) (queue : List ℕ)
     (q : Queued hs limit status spill len queue) (left : getD status c 0 ≡ 2) where
   stays : (getD status m 1 ≡ 0 → ⊥) → Reached hs limit c m status spill recv len status spill recv queue
@@ -92,7 +90,14 @@ module _ (hs : List Float) (limit c m : ℕ) (status : List ℕ) (spill : List F
 
   -- a cell not pushed yet: t and y are the statuses and the spill heights after it
   module _ (l : m < length status) (e : getD status m 0 ≡ 0) (status′ : List ℕ) (spill′ : List Float) (recv′ : List ℕ) (a : status′ ≡ set status m 1)
-      (x : Float) (r : x ≡ maxOf (getD hs m nan) (getD spill c nan)) (s : spill′ ≡ set spill m x) (f : recv′ ≡ set recv m c) where
+      (x : Float) (top : x ≡ maxOf (getD spill m nan) (getD spill c nan)) (s : spill′ ≡ set spill m x) (f : recv′ ≡ set recv m c) where
+    -- its spill height so far is its own height
+    r : x ≡ maxOf (getD hs m nan) (getD spill c nan)
+    r = top ∙ ap (λ y. maxOf y (getD spill c nan)) (q .unraised m e)
+
+    own-place : placeOf spill m ≡ placeOf hs m
+    own-place = ap (λ (y : Float). keyOf y * 2 ^ 32 + m) (q .unraised m e)
+
     here : getD status′ m 0 ≡ 1
     here = ap (λ t. getD t m 0) a ∙ getD-set-same status m 1 0 l
 
@@ -111,6 +116,12 @@ module _ (hs : List Float) (limit c m : ℕ) (status : List ℕ) (spill : List F
       | inr z ↦ q .gone j (sym (other j z) ∙ w)
     ]
 
+    unraised : (j : ℕ) → getD status′ j 0 ≡ 0 → getD spill′ j nan ≡ getD hs j nan
+    unraised j w = elim (same-or-not j m) [
+      | inl z ↦ let no : ⊥ = omega (arith, here, ap (λ i. getD status′ i 0) z) in absurd no
+      | inr z ↦ other-spill j z ∙ q .unraised j (sym (other j z) ∙ w)
+    ]
+
     reached : (len′ : ℕ) (queue′ : List ℕ) → Queued hs limit status′ spill′ len′ queue′ → Reached hs limit c m status spill recv len′ status′ spill′ recv′ queue′
     reached len′ queue′ q′ = record {
       left = other c apart ∙ left;
@@ -123,27 +134,31 @@ module _ (hs : List Float) (limit c m : ℕ) (status : List ℕ) (spill : List F
 
     -- one that the scan has not passed waits in the list
     pub reached-listed :
-        m < length spill → m < length hs → Level hs limit (getD spill c nan) → limit ≤ placeOf hs m
+        m < length spill → m < length hs → Level hs limit (getD spill c nan) → limit ≤ placeOf spill m
         → Reached hs limit c m status spill recv len status′ spill′ recv′ queue
-    reached-listed b i v h = reached len queue (record {
+    reached-listed b i v o = reached len queue (record {
       heap = respilled hs limit status spill len queue q m e spill′ x s;
       below = λ j k. q .below j k ∙ ap (λ t. one t 1) (sym (other j (under j k)));
       above = q .above;
-      own = λ j k w. elim (same-or-not j m) [
+      own = λ j k. elim (same-or-not j m) [
         | inl z ↦
             ap (λ j. getD spill′ j nan) z ∙ ap (λ t. getD t m nan) s ∙ getD-set-same spill m x nan b ∙ r ∙ v .keeps m i h
             ∙ ap (λ j. getD hs j nan) (sym z)
-        | inr z ↦ other-spill j z ∙ q .own j k (sym (other j z) ∙ w)
+        | inr z ↦ other-spill j z ∙ q .own j k
       ];
+      unraised = unraised;
       gone = gone;
     })
       where
+        h : limit ≤ placeOf hs m
+        h = omega (arith, own-place)
+
         under : (j : ℕ) → placeOf hs j < limit → j ≡ m → ⊥
-        under j k z = omega (arith, ap (placeOf hs) z)
+        under j k z = omega (arith, ap (placeOf hs) z, h)
 
     -- another joins the heap
     pub reached-heaped :
-        (queue′ : List ℕ) → placeOf hs m < limit → Pushed (placeOf spill′) (length spill′) len queue m queue′
+        (queue′ : List ℕ) → placeOf spill m < limit → Pushed (placeOf spill′) (length spill′) len queue m queue′
         → Reached hs limit c m status spill recv (len + 1) status′ spill′ recv′ queue′
     reached-heaped queue′ h p = reached (len + 1) queue′ (record {
       heap = p .heap;
@@ -159,7 +174,8 @@ module _ (hs : List Float) (limit c m : ℕ) (status : List ℕ) (spill : List F
         | inr z ↦ omega (arith, q .below j k, one-other m j z, ap (λ v. one v 1) (other j (λ y. z (sym y))))
       ];
       above = λ j k. p .cells j ∙ omega (arith, q .above j k, one-other m j (λ z. over j k (sym z)));
-      own = λ j k w. other-spill j (over j k) ∙ q .own j k (sym (other j (over j k)) ∙ w);
+      own = λ j k. other-spill j (over j k) ∙ q .own j k;
+      unraised = unraised;
       gone = gone;
     })
       where
@@ -167,4 +183,4 @@ module _ (hs : List Float) (limit c m : ℕ) (status : List ℕ) (spill : List F
         unlike z y = omega arith
 
         over : (j : ℕ) → limit ≤ placeOf hs j → j ≡ m → ⊥
-        over j k z = omega (arith, ap (placeOf hs) z)
+        over j k z = omega (arith, ap (placeOf hs) z, own-place)

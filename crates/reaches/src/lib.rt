@@ -19,8 +19,8 @@ ghost use Rattle.scan_queue.specs.Scans.{Queued, Level};
 ghost use Rattle.flood_start.specs.Slices.{Sizes};
 ghost use Rattle.reaches.specs.Reaches.{Reached, ReachedAll, Found};
 
-// Cell c reaches cell m: a cell not pushed yet gets its spill height and its finder and waits from now on, in the heap if the scan has passed it,
-// else where it stands in the list. Outside the grid m is no cell.
+// Cell c reaches cell m: a cell not pushed yet, whose spill height so far is its own height, gets its spill height and its finder and waits from now on,
+// in the heap if the scan has passed it, else where it stands in the list. Outside the grid m is no cell.
 fn reach(
     h: &[f32],
     limit: u64,
@@ -45,10 +45,11 @@ fn reach(
     if status[m] != 0 {
         return len;
     }
+    let own = place(m as u32, spill);
     status[m] = 1;
-    spill[m] = max(h[m], spill[c]);
+    spill[m] = max(spill[m], spill[c]);
     recv[m] = c as u32;
-    if limit <= place(m as u32, h) {
+    if limit <= own {
         return len;
     }
     push(queue, len, spill, m as u32);

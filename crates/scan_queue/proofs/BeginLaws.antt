@@ -78,7 +78,8 @@ module _ (hs : List Float) (list status : List ℕ) (spill : List Float) (queue 
       };
       below = λ c h. within-none c queue ∙ sym (one-other (getD status c 0) 1 (none c h));
       above = λ c h. within-none c queue;
-      own = λ c h w. ap (λ t. getD t c nan) (b .spills);
+      own = λ c h. ap (λ t. getD t c nan) (b .spills);
+      unraised = λ c w. ap (λ t. getD t c nan) (b .spills);
       gone = λ c w. absurd (b .fresh c w);
     };
   }
@@ -101,7 +102,8 @@ module _ (hs : List Float) (list status : List ℕ) (spill : List Float) (queue 
         | yes l ↦ let z : ⊥ = omega (arith, below-endless hs fit c (omega (arith, b .statuses, b .few))) in absurd z
         | no l ↦ g .above c (omega arith)
       ];
-      own = λ c h w. ap (λ t. getD t c nan) (b .spills);
+      own = λ c h. ap (λ t. getD t c nan) (b .spills);
+      unraised = λ c w. ap (λ t. getD t c nan) (b .spills);
       gone = λ c w. absurd (b .fresh c w);
     };
   }

@@ -92,6 +92,22 @@ listed-end hs list fit few long = record {
   many = omega (arith, count-none (length hs) (atLimit hs endless) (λ c l. under-limit hs endless c (below-endless hs fit c (omega arith))));
 }
 
+-- the next limit by the spill heights, which those of the cells at the limit or above it are
+pub limit-own :
+    (hs : List Float) (list : List ℕ) (head limit : ℕ) → Listed hs head limit list → head < length list
+    → (status : List ℕ) (spill : List Float) (len : ℕ) (queue : List ℕ) → Queued hs limit status spill len queue
+    → limitOf spill list (head + 1) ≡ limitOf hs list (head + 1)
+limit-own hs list head limit ls l status spill len queue q = elim (decLt (head + 1) (length list)) [
+  | yes m ↦
+      limit-inside spill list (head + 1) m
+      ∙ ap (λ x. keyOf x * 2 ^ 32 + getD list (head + 1) 0) (q .own (getD list (head + 1) 0) (high m))
+      ∙ sym (limit-inside hs list (head + 1) m)
+  | no m ↦ limit-end spill list (head + 1) (omega arith) ∙ sym (limit-end hs list (head + 1) (omega arith))
+]
+  where
+    high : head + 1 < length list → limit ≤ placeOf hs (getD list (head + 1) 0)
+    high m = omega (arith, ls .limit-is, limit-inside hs list head l, ls .rising head (head + 1) (omega arith) (omega arith) m)
+
 -- the scan goes past the list's first cell
 module _ (hs : List Float) (list : List ℕ) (head limit : ℕ) (ls : Listed hs head limit list) (l : head < length list) (fit : Fit hs)
     (small : length hs ≤ 2 ^ 24) (limit′ : ℕ) (e : limit′ ≡ limitOf hs list (head + 1)) where
@@ -170,15 +186,19 @@ module _ (hs : List Float) (list : List ℕ) (head limit : ℕ) (ls : Listed hs 
   pub queued-past :
       (status status′ : List ℕ) (spill : List Float) (len : ℕ) (queue : List ℕ) → Queued hs limit status spill len queue
       → length status′ ≡ length hs → ((c : ℕ) → (c ≡ here → ⊥) → getD status′ c 0 ≡ getD status c 0) → (getD status′ here 0 ≡ 1 → ⊥)
-      → Queued hs limit′ status′ spill len queue
-  queued-past status status′ spill len queue q n same left = record {
+      → (getD status′ here 0 ≡ 0 → getD status here 0 ≡ 0) → Queued hs limit′ status′ spill len queue
+  queued-past status status′ spill len queue q n same left was = record {
     heap = q .heap;
     below = λ c h. elim (decLt (placeOf hs c) limit) [
       | yes k ↦ q .below c k ∙ ap (λ v. one v 1) (sym (same c (under c k)))
       | no k ↦ q .above c (omega arith) ∙ sym (one-other (getD status′ c 0) 1 (λ w. left (subst (λ b. getD status′ b 0 ≡ 1) (at c h k w) w)))
     ];
     above = λ c h. q .above c (omega (arith, limit-rises));
-    own = λ c h w. q .own c (omega (arith, limit-rises)) (sym (same c (over c h)) ∙ w);
+    own = λ c h. q .own c (omega (arith, limit-rises));
+    unraised = λ c w. elim (same-or-not c here) [
+      | inl z ↦ q .unraised c (ap (λ b. getD status b 0) z ∙ was (ap (λ b. getD status′ b 0) (sym z) ∙ w))
+      | inr z ↦ q .unraised c (sym (same c z) ∙ w)
+    ];
     gone = λ c w. elim (same-or-not c here) [
       | inl z ↦ omega (arith, ap (placeOf hs) z, first-place, limit-rises)
       | inr z ↦ omega (arith, q .gone c (sym (same c z) ∙ w), limit-rises)
@@ -187,9 +207,6 @@ module _ (hs : List Float) (list : List ℕ) (head limit : ℕ) (ls : Listed hs 
     where
       under : (c : ℕ) → placeOf hs c < limit → c ≡ here → ⊥
       under c k z = omega (arith, ap (placeOf hs) z, first-place)
-
-      over : (c : ℕ) → limit′ ≤ placeOf hs c → c ≡ here → ⊥
-      over c k z = omega (arith, ap (placeOf hs) z, first-place, limit-rises)
 
       at : (c : ℕ) → placeOf hs c < limit′ → (placeOf hs c < limit → ⊥) → getD status′ c 0 ≡ 1 → c ≡ here
       at c h k w = between c (omega (arith, waits-inside status′ c w)) (omega (arith, k)) h

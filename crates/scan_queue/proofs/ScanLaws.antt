@@ -25,7 +25,7 @@ use Rattle.heap.proofs.HeapLaws.{root-least}
 use Rattle.heap.proofs.RoomLaws.{times-at}
 use Rattle.scan_queue.specs.declared.Scan.{Scan}
 use Rattle.scan_queue.specs.Scans.{limitOf, Listed, Queued, Level, Turned, Ready, Waits}
-use Rattle.scan_queue.proofs.ListedLaws.{below-endless, first-inside, first-place, limit-end, limit-rises, listed-next, queued-past, waits-inside}
+use Rattle.scan_queue.proofs.ListedLaws.{below-endless, first-inside, first-place, limit-end, limit-own, limit-rises, listed-next, queued-past, waits-inside}
 
 -- ---- the heap
 -- whether the heap's first cell, of place q, comes before the limit
@@ -40,13 +40,17 @@ unfolding times
 none-within x l zero h k = omega arith
 none-within x l (suc m) h k = omega arith
 
+-- a cell that has left is not one that was never pushed
+pub unlike-zero : {v : ℕ} → v ≡ 2 → v ≡ 0 → ⊥
+unlike-zero z y = omega arith
+
 module _ (hs : List Float) (limit : ℕ) (status : List ℕ) (spill : List Float) (len : ℕ) (queue : List ℕ) (q : Queued hs limit status spill len queue) where
   -- a waiting cell is no lower than the limit and every cell of the heap
   pub least-waiting :
       (x : ℕ) → x ≤ limit → ((b : ℕ) → 0 < within b len queue → x ≤ placeOf spill b) → (b : ℕ) → getD status b 0 ≡ 1 → x ≤ placeOf spill b
   least-waiting x top low b w = elim (decLt (placeOf hs b) limit) [
     | yes h ↦ low b (omega (arith, q .below b h, one-same (getD status b 0) 1 w))
-    | no h ↦ omega (arith, ap (λ y. keyOf y * 2 ^ 32 + b) (q .own b (omega arith) w))
+    | no h ↦ omega (arith, ap (λ y. keyOf y * 2 ^ 32 + b) (q .own b (omega arith)))
   ]
 
   -- the heap's first cell leaves
@@ -79,9 +83,10 @@ module _ (hs : List Float) (limit : ℕ) (status : List ℕ) (spill : List Float
         | inr z ↦ omega (arith, q .below b h, p .cells b, one-other c b z, ap (λ v. one v 1) (other b (λ y. z (sym y))))
       ];
       above = λ b h. omega (arith, q .above b h, p .cells b);
-      own = λ b h w. elim (same-or-not b c) [
-        | inl z ↦ absurd (unlike (ap (λ i. getD (set status c 2) i 0) z ∙ getD-set-same status c 2 0 l) w)
-        | inr z ↦ q .own b h (sym (other b z) ∙ w)
+      own = q .own;
+      unraised = λ b w. elim (same-or-not b c) [
+        | inl z ↦ absurd (unlike-zero (ap (λ i. getD (set status c 2) i 0) z ∙ getD-set-same status c 2 0 l) w)
+        | inr z ↦ q .unraised b (sym (other b z) ∙ w)
       ];
       gone = λ b w. elim (same-or-not b c) [
         | inl z ↦ subst (λ i. placeOf hs i < limit) (sym z) passed
@@ -165,7 +170,10 @@ module _ (hs : List Float) (list status : List ℕ) (spill : List Float) (s : Sc
       low = heap-before hs (s .limit) status spill (s .len) queue (r .begun .queued) b e f .1 c (p .least)
 
   -- the scan goes past the list's first cell
-  module _ (fit : Fit hs) (l : s .head < length list) (limit′ : ℕ) (e : limit′ ≡ limitOf hs list (s .head + 1)) where
+  module _ (fit : Fit hs) (l : s .head < length list) (limit′ : ℕ) (f : limit′ ≡ limitOf spill list (s .head + 1)) where
+    e : limit′ ≡ limitOf hs list (s .head + 1)
+    e = f ∙ limit-own hs list (s .head) (s .limit) (r .begun .listed) l status spill (s .len) queue (r .begun .queued)
+
     abbrev cell : ℕ
     cell = getD list (s .head) 0
 
@@ -177,7 +185,7 @@ module _ (hs : List Float) (list status : List ℕ) (spill : List Float) (s : Sc
       listed = listed-next hs list (s .head) (s .limit) (r .begun .listed) l fit (r .few) limit′ e;
       queued =
           queued-past hs list (s .head) (s .limit) (r .begun .listed) l fit (r .few) limit′ e status status spill (s .len) queue (r .begun .queued) (r .statuses)
-          (λ c _. refl) d;
+          (λ c _. refl) d (λ z. z);
       onward = omega arith;
       leaves = λ (m : length hs < length hs). let z : ⊥ = omega arith in absurd z;
       passes = λ _. omega arith;
@@ -192,7 +200,7 @@ module _ (hs : List Float) (list status : List ℕ) (spill : List Float) (s : Sc
       listed = listed-next hs list (s .head) (s .limit) ls l fit (r .few) limit′ e;
       queued =
           queued-past hs list (s .head) (s .limit) ls l fit (r .few) limit′ e status (set status cell 2) spill (s .len) queue (r .begun .queued)
-          (length-set status cell 2 ∙ r .statuses) (λ c d. getD-set-other status cell c 2 0 d) unlike;
+          (length-set status cell 2 ∙ r .statuses) (λ c d. getD-set-other status cell c 2 0 d) unlike (λ z. absurd (unlike-zero two z));
       onward = omega arith;
       leaves = λ _. record {
         inside = inside;
@@ -215,10 +223,13 @@ module _ (hs : List Float) (list status : List ℕ) (spill : List Float) (s : Sc
         at = first-place hs list (s .head) (s .limit) ls l fit (r .few) limit′ e
 
         place : placeOf spill cell ≡ s .limit
-        place = ap (λ y. keyOf y * 2 ^ 32 + cell) (r .begun .queued .own cell (omega (arith, at)) w) ∙ at
+        place = ap (λ y. keyOf y * 2 ^ 32 + cell) (r .begun .queued .own cell (omega (arith, at))) ∙ at
+
+        two : getD (set status cell 2) cell 0 ≡ 2
+        two = getD-set-same status cell 2 0 (omega (arith, inside, r .statuses))
 
         unlike : getD (set status cell 2) cell 0 ≡ 1 → ⊥
-        unlike z = omega (arith, getD-set-same status cell 2 0 (omega (arith, inside, r .statuses)))
+        unlike z = omega (arith, two)
 
 -- a cell that leaves below the limit raises no cell at the limit or above it
 pub leaver-level :

@@ -19,13 +19,14 @@ endless = 0xffff_ffff_ffff_ffff
 abbrev pub limitOf : List Float → List ℕ → ℕ → ℕ
 limitOf hs list head = cond (ltb head (length list)) (placeOf hs (getD list head 0)) endless
 
--- The queue holds, each once, the waiting cells whose own heights lie below the limit of the scan; every other waiting cell has its own height as
--- its spill height. All cells that have left lie below the limit.
+-- The queue holds, each once, the waiting cells whose own heights lie below the limit of the scan. Every cell at the limit or above it, and every
+-- cell not pushed yet, has its own height as its spill height. All cells that have left lie below the limit.
 pub record Queued (hs : List Float) (limit : ℕ) (status : List ℕ) (spill : List Float) (len : ℕ) (queue : List ℕ) : Type 0 where
   pub heap : Heap (placeOf spill) (length spill) len queue
   pub below : (c : ℕ) → placeOf hs c < limit → within c len queue ≡ one (getD status c 0) 1
   pub above : (c : ℕ) → limit ≤ placeOf hs c → within c len queue ≡ 0
-  pub own : (c : ℕ) → limit ≤ placeOf hs c → getD status c 0 ≡ 1 → getD spill c nan ≡ getD hs c nan
+  pub own : (c : ℕ) → limit ≤ placeOf hs c → getD spill c nan ≡ getD hs c nan
+  pub unraised : (c : ℕ) → getD status c 0 ≡ 0 → getD spill c nan ≡ getD hs c nan
   pub gone : (c : ℕ) → getD status c 0 ≡ 2 → placeOf hs c < limit
 
 -- whether cell c lies at the limit or above it

@@ -54,7 +54,7 @@ fn gather_all(status: &[u8], spill: &[f32], queue: &mut [u32]) -> usize
     len
 }
 
-// The limit of a scan before entry head of the list: the place of its cell by its own height; behind the last entry, above all places.
+// The limit of a scan before entry head of the list: the place of its cell by its height; behind the last entry, above all places.
 fn limit_at(h: &[f32], list: &[u32], head: usize) -> u64
     requires { ⌜ (head < length (now list) → getD (now list) head 0 < length (now h)) ⌝ }
     ensures { λ r. ⌜ r ≡ limitOf (now (h .entry)) (now (list .entry)) head ⌝ }
@@ -108,7 +108,8 @@ fn heap_first(queue: &[u32], len: usize, spill: &[f32], limit: u64) -> bool
     place(queue[0], spill) < limit
 }
 
-// The scan goes past the list's first cell, which leaves if it waits. No cell is the number of cells.
+// The scan goes past the list's first cell, which leaves if it waits. No cell is the number of cells. The cells that the scan has not passed have their
+// own heights as spill heights, so that only these are read.
 fn pass(h: &[f32], list: &[u32], s: Scan, spill: &[f32], queue: &[u32], status: &mut [u8]) -> Scan
     requires { ⌜ Ready (now h) (now list) (now status) (now spill) s (now queue) ⌝ }
     requires { ⌜ s .head < length (now list) ⌝ }
@@ -118,7 +119,7 @@ fn pass(h: &[f32], list: &[u32], s: Scan, spill: &[f32], queue: &[u32], status: 
     let head = s.head;
     let c = list[head];
     let at = c as usize;
-    let limit = limit_at(h, list, head + 1);
+    let limit = limit_at(spill, list, head + 1);
     if status[at] != 1 {
         return Scan {
             head: head + 1,
