@@ -1,2 +1,2 @@
--- Laws of one cell.
-pub mod CellLaws
+-- Laws of distances and of one cell.
+pub mod DistanceLaws

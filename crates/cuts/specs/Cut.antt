@@ -1,19 +1,29 @@
--- The incision of one cell, with the two formulas of document 01, 'Incision'.
-use Prim.Native.Nat.{ℕ, _≤_, _<_}
+-- The coefficients of all cells and the incision of one, with the two formulas of document 01, 'Incision'.
+use Prim.Native.Nat.{ℕ, _+_, _*_, _≤_, _<_}
 use mathlib.Core.Path.{_≡_}
-use mathlib.Core.Bool.{cond}
+use mathlib.Core.Bool.{Bool, _||_, cond}
 use mathlib.Core.List.{List}
 use lib.ListN.{length, getD}
 use lib.Dec.{eqb}
 use lib.Ieee.{Float, nan, binary32, ofBits, add, mul, div, le}
+use Rattle.lists.specs.Loops.{tabulate}
 use Rattle.floats.specs.Stand.{maxOf}
 use Rattle.ways.specs.Apart.{apart}
-use Rattle.rates.specs.Rate.{rateOf, ratesOf}
-use Rattle.steps.specs.Step.{distanceTable, Near}
+use Rattle.rates.specs.Rate.{rateOf}
+use Rattle.steps.specs.Step.{Near}
 
 -- k × root(max(area, 1e-4 × n) / n) / d
 abbrev pub incisionCoef : Float → Float → Float → Float → Float
 incisionCoef area n k d = div binary32 (rateOf area n k) d
+
+-- the numbers of cells i and r differ by a row of w cells and one, or by a row less one
+abbrev pub aslantOf : ℕ → ℕ → ℕ → Bool
+aslantOf w i r = ((eqb r (i + w + 1) || eqb (r + w + 1) i) || eqb (r + 1) (i + w)) || eqb (i + 1) (r + w)
+
+-- each cell's rate divided by the distance to its receiver
+unfoldable pub overDistances : ℕ → List ℕ → List Float → List Float
+unfolding tabulate
+overDistances w recv rates = tabulate (length rates) (λ c. div binary32 (getD rates c nan) (apart w c (getD recv c 0)))
 
 -- (height + uplift + c × H) / (1 + c)
 abbrev pub solved : Float → Float → Float → Float → Float
@@ -24,25 +34,25 @@ solved height uplift c down =
 abbrev pub drainedTo : ℕ → ℕ → Float → Float → Float
 drainedTo c r below water = cond (eqb r c) water (maxOf below water)
 
--- the new height of cell c of a grid with w columns and n cells
-abbrev pub cutAt : ℕ → Float → Float → Float → Float → List Float → List ℕ → List Float → ℕ → Float
-cutAt w k uplift water n areas recv hs c =
-    let r = getD recv c 0 in
-    let height = getD hs c nan in
-    cond (le height water) height
-    (solved height uplift (incisionCoef (getD areas c nan) n k (apart w c r)) (drainedTo c r (getD hs r nan) water))
+-- a cell with height ≤ water level is skipped
+abbrev pub cutOf : Float → Float → Float → Float → Float → Float
+cutOf height uplift water c down = cond (le height water) height (solved height uplift c down)
+
+-- the new height of cell c of the map hs, by its coefficient and the new height of its receiver
+abbrev pub cutAt : Float → Float → List Float → List ℕ → ℕ → Float → Float → Float
+cutAt uplift water hs recv c coef below = cutOf (getD hs c nan) uplift water coef (drainedTo c (getD recv c 0) below water)
+
+-- the receivers of n cells on a grid of w columns, each its own cell or a neighbour
+pub record Steps (w n : ℕ) (recv : List ℕ) : Type 0 where
+  pub wide : w ≤ 4096
+  pub few : n ≤ 4096 * 4096
+  pub receivers : length recv ≡ n
+  pub inside : (c : ℕ) → c < n → getD recv c 0 < n
+  pub near : (c : ℕ) → c < n → Near w c (getD recv c 0)
 
 -- c is a cell of the slices, and so is its receiver
-pub record CellOf (w : ℕ) (areas : List Float) (recv : List ℕ) (hs : List Float) (c : ℕ) : Type 0 where
-  pub column : 0 < w
-  pub area : c < length areas
-  pub receiver : c < length recv
+pub record CellOf (hs : List Float) (recv : List ℕ) (out : List Float) (c : ℕ) : Type 0 where
   pub height : c < length hs
-  pub below : getD recv c 0 < length hs
-  pub step : Near w c (getD recv c 0)
-
--- what is prepared once for all cells: the rates of the whole areas below m, and the distances by their place
-pub record Prepared (m : ℕ) (n k : Float) (rates ds : List Float) : Type 0 where
-  pub few : m ≤ 1024
-  pub rated : rates ≡ ratesOf m n k
-  pub apart-by : ds ≡ distanceTable
+  pub receiver : c < length recv
+  pub result : c < length out
+  pub below : getD recv c 0 < length out

@@ -27,15 +27,15 @@ same-areas n few recv a b v w =
 
 -- a cell after its incision, as a combination of its own height and that of its receiver
 module _ (g : Ground) (p : FluvialParams) (areas : List Float) (recv : List ℕ) where
-  abbrev cut : ℕ → Float → Float → Float
+  abbrev pub cut : ℕ → Float → Float → Float
   cut c own down =
       incisedHeight p (g .cells) (getD areas c nan) (distanceTo g c (getD recv c 0)) own
       (cond (eqb (getD recv c 0) c) (p .«water_level») (maxOf down (p .«water_level»)))
 
-  cut-alone : (c : ℕ) (x y z : Float) → getD recv c 0 ≡ c → cut c x y ≡ cut c x z
+  pub cut-alone : (c : ℕ) (x y z : Float) → getD recv c 0 ≡ c → cut c x y ≡ cut c x z
   cut-alone c x y z e = rw (eq-eqb (getD recv c 0) c e)
 
-  cut-along : (list : List ℕ) (hs : List Float) → inciseAlong g p areas recv list hs ≡ madeAlong nan recv cut list hs
+  pub cut-along : (list : List ℕ) (hs : List Float) → inciseAlong g p areas recv list hs ≡ madeAlong nan recv cut list hs
   unfolding inciseAlong madeAlong
   cut-along [] hs = refl
   cut-along (c ∷ rest) hs = cut-along rest (set hs c (incisedAt g p areas recv hs c))

@@ -22,7 +22,7 @@ use Rattle.lent_receivers.specs.Receivers.{firstBadReceiver, receiverTest}
 use Rattle.lent_list.specs.Entries.{firstBadEntry, goodEntry}
 use Rattle.lent_list.specs.Seen.{Lengths, Near}
 use Rattle.lists.proofs.FirstLaws.{first-of, all-first}
-use Rattle.lent_list.proofs.ListLaws.{good-at}
+use Rattle.lent_list.proofs.ListLaws.{good-at, good-work}
 use Rattle.lent_receivers.proofs.ReceiverLaws.{good-cell, good-is}
 use Rattle.steps.proofs.PlaceLaws.{near-of}
 use Rattle.fluvial_erosion.specs.Incise.{badLengths, badIncision, inciseRefusal, InciseMade}
@@ -212,6 +212,7 @@ module _ (w h : ℕ) (hs : List Float) (p : FluvialParams) (recv list : List ℕ
                 entries = λ i l. good-at (w * h) recv list i (entries-good (w * h) recv list (a .entries) i (omega (arith, z .entries))) .cell;
               };
           near = receivers-good w h recv (a .receivers);
+          work = good-work (w * h) recv list (z .entries) (λ i l. good-at (w * h) recv list i (entries-good (w * h) recv list (a .entries) i l));
         }
 
 module _ (w h : ℕ) (hs : List Float) (p : FluvialParams) (recv list : List ℕ) (old scratch : List Float) where

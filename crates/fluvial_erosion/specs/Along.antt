@@ -7,17 +7,18 @@ use lib.ListN.{getD}
 use lib.Ieee.{Float}
 use Rattle.grid.specs.Sides.{InRange}
 use Rattle.drainage.specs.Ground.{gridGround}
-use Rattle.drainage.specs.Ways.{areasAlong}
+use Rattle.drainage.specs.Ways.{WorkList, areasAlong}
 use Rattle.ways.specs.Apart.{Along}
 use Rattle.lent_receivers.specs.Receivers.{goodReceiver}
 use Rattle.fluvial_erosion.specs.Incision.{incisedBy}
 use Rattle.fluvial_erosion.specs.declared.FluvialParams.{FluvialParams}
 
--- receivers and a list on a w × h grid: every receiver is its own cell or a neighbour, and every entry of the list is a cell
+-- receivers and a work list of them on a w × h grid: every receiver is its own cell or a neighbour
 pub record Drains (w h : ℕ) (recv list : List ℕ) : Type 0 where
   pub sides : InRange w h
   pub along : Along (w * h) recv list
   pub near : (c : ℕ) → c < w * h → goodReceiver w h c (getD recv c 0) ≡ true
+  pub work : WorkList (w * h) recv list
 
 -- heights, result and areas of n cells each
 pub record Lengths (n hmap out area : ℕ) : Type 0 where

@@ -3,18 +3,16 @@
 use answers::Answer;
 use answers::Refusal;
 use answers::outside;
+use cuts::divide_by_distances;
 use cuts::incise_cell;
 use floats::is_finite;
 use grid::Sides;
 use grid::all_finite;
 use grid::bad_sides;
-use grid::copy_heights;
 use grid::first_not_finite;
 use lent_list::first_bad_entry;
 use lent_receivers::first_bad_receiver;
-use rates::table;
-use rates::table_size;
-use steps::distances;
+use rates::rates_of;
 use ways::accumulate;
 ghost use mathlib.Core.Path.{_≡_};
 ghost use Prim.Native.Nat.{_*_};
@@ -32,9 +30,11 @@ pub struct FluvialParams {
     pub water_level: f32,
 }
 
-// Incises every cell of `out`, forward along the list, by areas that are given.
+// The heights of `hmap` in `out`, incised along the list by areas that are given. `out` holds the coefficients of the cells at first, and the new
+// height of each as soon as it is incised, so that it is only `hmap` and `out` that are read at random.
 pub fn incise_along(
     size: Sides,
+    hmap: &[f32],
     params: FluvialParams,
     area: &[f32],
     recv: &[u32],
@@ -42,27 +42,19 @@ pub fn incise_along(
     out: &mut [f32],
 )
     requires { ⌜ Drains (size .w) (size .h) (now recv) (now order) ⌝ }
-    requires { ⌜ length (now area) ≡ size .w * size .h ⌝ }
-    requires { ⌜ length (now out) ≡ size .w * size .h ⌝ }
-    ensures { λ _. ⌜ now (out .exit) ≡ inciseAlong (gridGround (size .w) (size .h) (params .«water_level») (now (out .entry))) params (now (area .entry)) (now (recv .entry)) (now (order .entry)) (now (out .entry)) ⌝ }
+    requires { ⌜ Lengths (size .w * size .h) (length (now hmap)) (length (now out)) (length (now area)) ⌝ }
+    ensures { λ _. ⌜ now (out .exit) ≡ inciseAlong (gridGround (size .w) (size .h) (params .«water_level») (now (hmap .entry))) params (now (area .entry)) (now (recv .entry)) (now (order .entry)) (now (hmap .entry)) ⌝ }
 {
     let n_cells = (size.w * size.h) as f32;
-    let m = table_size(size.w * size.h);
-    let rates = table(m, n_cells, params.k);
-    let ds = distances();
+    rates_of(area, n_cells, params.k, out);
+    divide_by_distances(size.w, recv, out);
     let len = order.len();
     let mut i: usize = 0;
     while i < len {
         incise_cell(
-            size.w,
-            params.k,
             params.uplift,
             params.water_level,
-            n_cells,
-            &rates,
-            m,
-            &ds,
-            area,
+            hmap,
             recv,
             out,
             order[i] as usize,
@@ -85,9 +77,8 @@ pub fn incise_into(
     requires { ⌜ Lengths (size .w * size .h) (length (now hmap)) (length (now out)) (length (now area)) ⌝ }
     ensures { λ _. ⌜ Carved (size .w) (size .h) (now (hmap .entry)) params (now (recv .entry)) (now (order .entry)) (now (out .exit)) (now (area .exit)) ⌝ }
 {
-    copy_heights(hmap, out);
     accumulate(recv, order, area);
-    incise_along(size, params, area, recv, order, out);
+    incise_along(size, hmap, params, area, recv, order, out);
 }
 
 // Refusal 3: a slice of another length than n, or a scratch slice of fewer.

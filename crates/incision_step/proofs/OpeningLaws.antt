@@ -13,6 +13,7 @@ use Rattle.grid.specs.Heights.{allFinite}
 use Rattle.generators.specs.Marks.{reportOf}
 use Rattle.generators.specs.declared.Progress.{Progress}
 use Rattle.drainage.specs.Ground.{floats, gridGround}
+use Rattle.drainage.specs.Ways.{WorkList}
 use Rattle.drainage.specs.Theorems.{Network}
 use Rattle.drainage.proofs.TallyLaws.{same-or-not}
 use Rattle.drainage.proofs.GroundLaws.{grid-networks}
@@ -49,17 +50,16 @@ module _ (w h : ℕ) (hs : List Float) (water : Float) (a : Accepted w h hs) (fi
         sides = a .sides;
         along = downward w h hs water a fit (w * h) recv order refl long (r .received) (r .left);
         near = λ c l. subst (λ (t : List ℕ). goodReceiver w h c (getD t c 0) ≡ true) (sym (r .received)) (near c l);
+        work = subst (λ (t : List ℕ). WorkList (w * h) t order) (sym (r .received)) (subst (λ (t : List ℕ). WorkList (w * h) (receiversOf w h hs water) t) (sym (r .left)) (net .work-list));
       }
 
--- the routing, a copy of the heights, and the incision of it by the areas that the routing left
-pub carves : (w h : ℕ) (p : FluvialParams) (hs copy out : List Float) {order recv : List ℕ} {spill area : List Float}
+-- the routing, and the incision by the areas that it left
+pub carves : (w h : ℕ) (p : FluvialParams) (hs out : List Float) {order recv : List ℕ} {spill area : List Float}
     → Holding w h hs (p .«water_level») order recv spill area
-    → copy ≡ hs
-    → out ≡ inciseAlong (gridGround w h (p .«water_level») copy) p area recv order copy
+    → out ≡ inciseAlong (gridGround w h (p .«water_level») hs) p area recv order hs
     → Carves w h p hs out
 unfolding incisionBy incisedBy
-carves w h p hs copy out r c o it =
-    o ∙ (λ i. inciseAlong (gridGround w h (p .«water_level») (c i)) p (r .drained i) (r .received i) (r .left i) (c i))
+carves w h p hs out r o it = o ∙ (λ i. inciseAlong (gridGround w h (p .«water_level») hs) p (r .drained i) (r .received i) (r .left i) hs)
 
 -- the three ends of an opening
 module _ (w h : ℕ) (params : FluvialParams) (p : Float) (stop : ℕ) (hs : List Float) (r : Reached) {m : Progress} (asked : m ≡ reportOf (r .marks) p stop) where

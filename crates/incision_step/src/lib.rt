@@ -16,7 +16,7 @@ ghost use Rattle.flow.specs.Route.{lentOf, Enough};
 ghost use Rattle.erosion.specs.Reached.{Worked};
 ghost use Rattle.incision_step.specs.Opening.{Carves, Counts, afterOpening};
 
-// Routes the heights and incises a copy of them, with the areas that the routing left.
+// Routes the heights and leaves them incised in `copy`, with the areas that the routing left.
 fn carve(
     size: Sides,
     hmap: &[f32],
@@ -43,8 +43,7 @@ fn carve(
         queue,
         status,
     );
-    copy_heights(hmap, copy);
-    incise_along(size, params, area, recv, order, copy);
+    incise_along(size, hmap, params, area, recv, order, copy);
 }
 
 // Opens an iteration at the fraction p of the run. The copy becomes the map only where every height of it is finite; a stop comes before the routing.

@@ -3,18 +3,19 @@ use Prim.Native.Nat.{ℕ, _+_, _^_, _≤_, _<_}
 use mathlib.Core.Path.{_≡_, sym, ap, _∙_}
 use mathlib.Core.List.{List}
 use native.Mathlib.Omega.{arith}
-use lib.ListN.{getD, set, drop, replicate, length-replicate, List·getD-append}
+use lib.ListN.{length, getD, set, drop, replicate, length-replicate, List·getD-append}
 use lib.Dec.{T, le→leb}
 use lib.IntN.{pos}
 use lib.Ieee.{Float, nan, binary32, ofBits, mul, div, inFloat, toBits, fits}
 use Rattle.lists.specs.Loops.{tabulate}
 use Rattle.lists.proofs.TableLaws.{length-tabulate, getD-tabulate, filled, filled-more}
+use Rattle.lists.proofs.FillLaws.{Filling, filling-done}
 use Rattle.floats.specs.Stand.{maxOf}
 use Rattle.square_root.specs.Root.{rootOf}
 use Rattle.float_order.specs.Whole.{whole}
 use Rattle.float_order.proofs.ValueLaws.{bits-unique}
 use Rattle.float_order.proofs.WholeLaws.{whole-fits}
-use Rattle.rates.specs.Rate.{rateOf, ratesOf}
+use Rattle.rates.specs.Rate.{rateOf, ratesOf, ratesOver}
 
 -- a number of the table is a float
 pub place-float : (i : ℕ) → i < 1024 → T (inFloat binary32 (pos i))
@@ -50,3 +51,17 @@ module _ (n k : Float) (m : ℕ) where
   rates-read rates i area e l f p q s =
       let same : whole i ≡ area = bits-unique (whole i) area (whole-fits i) f (sym p ∙ s ∙ q) in
       ap (λ (t : List Float). getD t i nan) e ∙ rates-at i l ∙ ap (λ (x : Float). rateOf x n k) same
+
+-- the rates of all cells
+module _ (areas : List Float) (n k : Float) where
+  pub rates-over : {i : ℕ} {old new : List Float} → Filling (λ c. rateOf (getD areas c nan) n k) i old new → length old ≡ length areas → length areas ≤ i → new ≡ ratesOver areas n k
+  unfolding ratesOver
+  rates-over p e l = filling-done p (length areas) e l
+
+  pub rate-over : (c : ℕ) → c < length areas → getD (ratesOver areas n k) c nan ≡ rateOf (getD areas c nan) n k
+  unfolding ratesOver
+  rate-over c l = getD-tabulate (λ c. rateOf (getD areas c nan) n k) (length areas) c nan l
+
+  pub length-over : length (ratesOver areas n k) ≡ length areas
+  unfolding ratesOver
+  length-over = length-tabulate (λ c. rateOf (getD areas c nan) n k) (length areas)

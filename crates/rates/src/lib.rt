@@ -5,7 +5,8 @@ use floats::to_bits;
 use square_root::root_of;
 ghost use mathlib.Core.Path.{_≡_};
 ghost use Prim.Native.Nat.{_/_, min, _≤_};
-ghost use Rattle.rates.specs.Rate.{rateOf, ratesOf};
+ghost use lib.ListN.{length};
+ghost use Rattle.rates.specs.Rate.{rateOf, ratesOf, ratesOver};
 
 // The rate of a cell draining `area` cells out of `n_cells`; areas below 1e-4 of the map share that floor's rate.
 pub fn rate(area: f32, n_cells: f32, k: f32) -> f32
@@ -50,4 +51,19 @@ pub fn rate_at(rates: &[f32; 1024], m: usize, area: f32, n_cells: f32, k: f32) -
         }
     }
     rate(area, n_cells, k)
+}
+
+// The rates of all cells by their areas.
+pub fn rates_of(area: &[f32], n_cells: f32, k: f32, out: &mut [f32])
+    requires { ⌜ length (now out) ≡ length (now area) ⌝ }
+    ensures { λ _. ⌜ now (out .exit) ≡ ratesOver (now (area .entry)) «n_cells» k ⌝ }
+{
+    let n = area.len();
+    let m = table_size(n);
+    let rates = table(m, n_cells, k);
+    let mut i: usize = 0;
+    while i < n {
+        out[i] = rate_at(&rates, m, area[i], n_cells, k);
+        i += 1;
+    }
 }

@@ -1,82 +1,73 @@
 use Prim.Native.Nat.{_-_}
 use mathlib.Core.Path.{sym, _∙_}
 use native.Mathlib.Omega.{arith}
-use borrow.Author.Needs.{needs}
 use lib.ListN.{length}
 use Rattle.grid.proofs.SidesLaws.{cells-fit}
-use Rattle.fluvial_erosion.proofs.CellLaws.{Incising, cells-float, cell-of, incising-none, incising-more, incising-done}
+use Rattle.fluvial_erosion.proofs.CellLaws.{Incising, cells-float, steps-of, cell-of, incising-none, incising-more, incised-along}
 use Rattle.fluvial_erosion.proofs.incise_along.Statement.{statement}
 use Rattle.fluvial_erosion.proofs.incise_along.Tie as tie
 
 abbrev Inv-loop : tie.InvT-loop
-Inv-loop size params area recv order out₀ n-cells m rates ds len i₀ out i = Incising (size .w) (size .h) params area recv order out₀ i out
+Inv-loop hmap params area recv order out₀ n-cells len i₀ out i = Incising params hmap recv order out₀ i out
 
 abbrev μ-loop : tie.MeasureT-loop
-μ-loop size params area recv order out₀ n-cells m rates ds len i₀ out i = length order - i
+μ-loop hmap params area recv order out₀ n-cells len i₀ out i = length order - i
 
--- src/lib.rt:89:20
+-- src/lib.rt:48:20
 mul-n-cells : tie.Need-mul-n-cells Inv-loop μ-loop
-mul-n-cells c = cells-fit _ _ (c .before .before .before .before .before .pre .0 .sides .wide) (c .before .before .before .before .before .pre .0 .sides .high)
+mul-n-cells c = cells-fit _ _ (c .before .before .before .before .before .before .pre .0 .sides .wide) (c .before .before .before .before .before .before .pre .0 .sides .high)
 
--- src/lib.rt:89:19
+-- src/lib.rt:48:19
 int-to-float-n-cells : tie.Need-int-to-float-n-cells Inv-loop μ-loop
-int-to-float-n-cells c = cells-float (c .before .before .before .before .before .before .pre .0 .sides)
+int-to-float-n-cells c = cells-float (c .before .before .before .before .before .before .before .pre .0 .sides)
 
--- src/lib.rt:90:24
-mul-table-size : tie.Need-mul-table-size Inv-loop μ-loop
-mul-table-size c = cells-fit _ _ (c .before .before .before .before .before .before .before .pre .0 .sides .wide) (c .before .before .before .before .before .before .before .pre .0 .sides .high)
+-- src/lib.rt:49:5
+rates-of-requires : tie.Need-rates-of-requires Inv-loop μ-loop
+rates-of-requires c κs = c .before .before .before .before .before .before .before .before .pre .1 .result ∙ sym (c .before .before .before .before .before .before .before .before .pre .1 .areas)
 
--- src/lib.rt:90:9
-table-size-requires : tie.Need-table-size-requires Inv-loop μ-loop
-table-size-requires c κs = search needs
+-- src/lib.rt:50:5
+divide-by-distances-requires : tie.Need-divide-by-distances-requires Inv-loop μ-loop
+divide-by-distances-requires c κs = steps-of (c .before .before .before .before .before .before .before .before .before .before .before .before .pre .0) (c .before .before .before .rates-of .kept .1 .1 .1 .0 ∙ c .before .before .before .before .before .before .before .before .before .before .before .before .pre .1 .result)
 
--- src/lib.rt:91:17
-table-requires : tie.Need-table-requires Inv-loop μ-loop
-table-requires c κs = omega (arith, c .table-size .ensures)
-
--- src/lib.rt:92:14
-distances-requires : tie.Need-distances-requires Inv-loop μ-loop
-distances-requires c κs = search needs
-
--- src/lib.rt:95:5
+-- src/lib.rt:53:5
 loop-holds : tie.Need-loop-holds Inv-loop μ-loop
-loop-holds c = incising-none (c .before .before .before .before .before .before .before .before .before .before .pre .1 .1)
+loop-holds c = incising-none
 
--- src/lib.rt:106:13
+-- src/lib.rt:60:13
 mul-incise-cell : tie.Need-mul-incise-cell Inv-loop μ-loop
-mul-incise-cell c = omega (arith, c .before .before .before .loop-test .taken, c .before .before .before .before .before .before .before .before .before .before .before .before .before .before .before .good)
+mul-incise-cell c = omega (arith, c .before .loop-test .taken, c .before .before .before .before .before .before .before .before .before .before .before .before .before .before .before .before .before .before .good)
 
--- src/lib.rt:106:13
+-- src/lib.rt:60:13
 shared-slice-read-incise-cell : tie.Need-shared-slice-read-incise-cell Inv-loop μ-loop
-shared-slice-read-incise-cell c = c .before .before .before .before .loop-test .taken
+shared-slice-read-incise-cell c = c .before .before .loop-test .taken
 
--- src/lib.rt:106:13
+-- src/lib.rt:60:13
 cast-incise-cell : tie.Need-cast-incise-cell Inv-loop μ-loop
-cast-incise-cell c = omega (arith, c .shared-slice-known4 .given (c .before .before .before .before .before .loop .i))
+cast-incise-cell c = omega (arith, c .shared-slice-known5 .given (c .before .before .before .loop .i))
 
--- src/lib.rt:96:9
+-- src/lib.rt:54:9
 incise-cell-requires : tie.Need-incise-cell-requires Inv-loop μ-loop
-incise-cell-requires c κs = (cell-of (c .before .before .before .before .before .before .before .before .before .before .before .before .before .before .before .before .pre .0) (c .before .before .before .before .before .before .before .before .before .before .before .before .before .before .before .before .args .params) (c .before .before .before .before .before .before .before .before .before .before .before .before .before .before .before .before .args .out .now) _ _ _ (c .before .before .before .before .before .before .before .before .before .before .before .before .before .before .before .before .pre .0 .along .entries _ (c .before .before .before .before .loop-test .taken)) (c .before .before .before .before .before .before .before .before .before .before .before .before .before .before .before .before .pre .1 .0) (c .before .before .before .before .before .loop .inv .long), record { few = omega (arith, c .before .before .before .before .before .before .before .before .table-size .ensures); rated = c .before .before .before .before .before .before .before .table .ensures; apart-by = c .before .before .before .before .before .before .distances .ensures })
+incise-cell-requires c κs = let p = c .before .before .before .before .before .before .before .before .before .before .before .before .before .before .before .before .before .before .before .pre in cell-of (p .0) _ _ _ (p .0 .along .entries _ (c .before .before .loop-test .taken)) (p .1 .heights) (c .before .before .before .loop .inv .long ∙ c .before .before .before .before .before .before .divide-by-distances .kept .1 .1 .0 ∙ c .before .before .before .before .before .before .before .before .before .before .rates-of .kept .1 .1 .1 .0 ∙ p .1 .result)
 
--- src/lib.rt:108:9
+-- src/lib.rt:62:9
 add-i : tie.Need-add-i Inv-loop μ-loop
-add-i c = omega (arith, c .before .before .before .before .before .before .before .loop-test .taken, c .before .before .before .before .before .before .before .before .before .before .before .before .before .before .before .before .before .before .before .good)
+add-i c = omega (arith, c .before .before .before .before .before .loop-test .taken, c .before .before .before .before .before .before .before .before .before .before .before .before .before .before .before .before .before .before .before .before .before .before .good)
 
--- src/lib.rt:95:5
+-- src/lib.rt:53:5
 loop-less : tie.Need-loop-less Inv-loop μ-loop
-loop-less c = omega (arith, c .before .before .before .before .before .before .before .loop-test .taken)
+loop-less c = omega (arith, c .before .before .before .before .before .loop-test .taken)
 
--- src/lib.rt:95:5
+-- src/lib.rt:53:5
 loop-again : tie.Need-loop-again Inv-loop μ-loop
-loop-again c = incising-more (c .before .before .before .before .before .before .before .before .loop .inv) (c .before .before .before .before .before .before .before .before .before .before .before .before .before .before .before .before .before .before .before .pre .0) (c .before .before .before .before .before .before .before .loop-test .taken) (c .before .before .incise-cell .ensures)
+loop-again c = incising-more (c .before .before .before .before .before .before .loop .inv) (c .before .before .before .before .before .loop-test .taken) (c .before .before .incise-cell .ensures)
 
--- src/lib.rt:76:1
+-- src/lib.rt:35:1
 same-length : tie.Need-same-length Inv-loop μ-loop
-same-length c = c .before .loop .inv .long ∙ sym (c .before .before .before .before .before .before .before .before .before .before .before .before .pre .1 .1)
+same-length c = c .before .loop .inv .long ∙ c .before .before .before .before .divide-by-distances .kept .1 .1 .0 ∙ c .before .before .before .before .before .before .before .before .rates-of .kept .1 .1 .1 .0
 
--- src/lib.rt:76:1
+-- src/lib.rt:35:1
 returns : tie.Need-returns Inv-loop μ-loop
-returns c = incising-done (c .before .loop .inv) (c .loop-test .left)
+returns c = let p = c .before .before .before .before .before .before .before .before .before .before .before .before .before .before .before .before .before .pre in incised-along _ _ _ _ (p .0) (p .1 .heights) (p .1 .areas) (c .before .before .before .before .before .before .before .before .rates-of .ensures) (c .before .before .before .before .divide-by-distances .ensures) (c .before .loop .inv) (c .loop-test .left)
 
 pub incise-along-spec : {M : Type 1} → statement M
 incise-along-spec =
@@ -86,10 +77,8 @@ incise-along-spec =
     μ-loop
     mul-n-cells
     int-to-float-n-cells
-    mul-table-size
-    table-size-requires
-    table-requires
-    distances-requires
+    rates-of-requires
+    divide-by-distances-requires
     loop-holds
     mul-incise-cell
     shared-slice-read-incise-cell

@@ -1,40 +1,29 @@
-use mathlib.Core.Path.{_∙_}
 use Rattle.fluvial_erosion.proofs.CellLaws.{carved}
 use borrow.Author.Needs.{needs}
 use Rattle.fluvial_erosion.proofs.incise_into.Statement.{statement}
 use Rattle.fluvial_erosion.proofs.incise_into.Tie as tie
 
 -- src/lib.rt:80:5
-copy-heights-requires : tie.Need-copy-heights-requires
-copy-heights-requires c κs = search needs
+accumulate-requires : tie.Need-accumulate-requires
+accumulate-requires c κs = rw (c .before .before .before .before .before .before .pre .1 .areas) (c .before .before .before .before .before .before .pre .0 .along)
 
 -- src/lib.rt:81:5
-accumulate-requires : tie.Need-accumulate-requires
-accumulate-requires c κs = rw (c .before .before .before .before .before .before .before .before .before .before .pre .1 .areas) (c .before .before .before .before .before .before .before .before .before .before .pre .0 .along)
-
--- src/lib.rt:82:5
 incise-along-requires : tie.Need-incise-along-requires
-incise-along-requires c κs = (c .before .before .before .before .before .before .before .before .before .before .before .before .before .before .before .pre .0, (c .before .before .before .before .accumulate .kept .1 .1 .0 ∙ c .before .before .before .before .before .before .before .before .before .before .before .before .before .before .before .pre .1 .areas, c .before .before .before .before .before .before .before .before .copy-heights .kept .1 .0 ∙ c .before .before .before .before .before .before .before .before .before .before .before .before .before .before .before .pre .1 .result))
+incise-along-requires c κs = search needs
 
--- src/lib.rt:75:1
+-- src/lib.rt:67:1
 same-length : tie.Need-same-length
 same-length c = search needs
 
--- src/lib.rt:75:1
+-- src/lib.rt:67:1
 same-length-2 : tie.Need-same-length-2
 same-length-2 c = search needs
 
--- src/lib.rt:75:1
+-- src/lib.rt:67:1
 returns : tie.Need-returns
-returns c = carved (c .before .before .before .before .before .before .before .before .before .before .before .before .before .before .before .before .before .before .pre .1 .areas) (c .before .before .before .before .before .before .before .before .before .before .before .copy-heights .ensures) (c .before .before .before .before .before .before .before .accumulate .ensures) (c .before .before .incise-along .ensures)
+returns c = carved (c .before .before .before .before .before .before .before .before .before .before .before .before .before .before .pre .1 .areas) (c .before .before .before .before .before .before .before .accumulate .ensures) (c .before .before .incise-along .ensures)
 
 pub incise-into-spec : {M : Type 1} → statement M
 incise-into-spec =
     tie.close
-    (tie.spec
-    copy-heights-requires
-    accumulate-requires
-    incise-along-requires
-    same-length
-    same-length-2
-    returns)
+    (tie.spec accumulate-requires incise-along-requires same-length same-length-2 returns)
