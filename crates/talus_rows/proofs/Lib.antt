@@ -1,4 +1,3 @@
 -- Laws of talus rows.
 pub mod PartLaws
 pub mod RowLaws
-pub mod BlockLaws

@@ -5,7 +5,7 @@ use native.Mathlib.Omega.{arith}
 use Rattle.talus.specs.Places.{InRow}
 use Rattle.inner_cells.specs.Inner.{Inner, innerOf}
 use Rattle.inner_cells.proofs.InnerLaws.{inner-most, inner-each}
-use Rattle.talus_rows.specs.Blocks.{InnerRow}
+use Rattle.talus_directions.specs.Parts.{InnerRow}
 
 module _ (w h y n : ℕ) (e : n ≡ innerOf w h y) where
   pub inner-row : {cells : ℕ} → 1 ≤ w → InRow w h cells y 0 w → InnerRow w h cells y 1 n

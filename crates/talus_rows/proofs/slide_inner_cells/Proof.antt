@@ -9,10 +9,6 @@ use Rattle.talus_rows.proofs.PartLaws.{inner-part}
 use Rattle.talus_rows.proofs.RowLaws.{cells-end, cells-block}
 use Rattle.talus_rows.proofs.slide_inner_cells.Statement.{statement}
 use Rattle.talus_rows.proofs.slide_inner_cells.Tie as tie
-use Rattle.talus_rows.proofs.slide_inner_cells.Reads as reads
-use Rattle.talus_rows.proofs.slide_inner_cells.Lts as lts
-use Rattle.talus_rows.proofs.block_of.Reads as block-of-reads
-use Rattle.talus_rows.proofs.slide_block.Reads as slide-block-reads
 
 abbrev Inv-loop : tie.InvT-loop
 Inv-loop size os ts hmap out₀ strength water y n i₀ out i = (out ≡ slideCells (size .w) (size .h) ts hmap strength water y 1 i out₀) × ((i ≤ n) × (length out ≡ length out₀))

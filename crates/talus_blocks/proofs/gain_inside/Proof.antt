@@ -6,8 +6,8 @@ use lib.ListN.{length}
 use Rattle.talus.specs.Talus.{gainStep, gainsOf}
 use Rattle.talus.proofs.StepLaws.{gain-inside, Around, around-none, around-more, around-done}
 use Rattle.inner_cells.proofs.InnerLaws.{inner-below}
-use Rattle.talus_rows.proofs.gain_inside.Statement.{statement}
-use Rattle.talus_rows.proofs.gain_inside.Tie as tie
+use Rattle.talus_blocks.proofs.gain_inside.Statement.{statement}
+use Rattle.talus_blocks.proofs.gain_inside.Tie as tie
 
 abbrev Inv-loop : tie.InvT-loop
 Inv-loop size os ts hmap out₀ c moved total d₀ out d = Around (gainStep (size .w) (size .h) ts hmap c moved total) out₀ d out × (length out ≡ length out₀)

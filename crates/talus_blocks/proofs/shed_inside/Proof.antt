@@ -7,8 +7,8 @@ use lib.Ieee.{binary32, ofBits}
 use Rattle.talus.specs.Talus.{shedStep, shedOf}
 use Rattle.talus.proofs.StepLaws.{shed-inside, Around, around-none, around-more, around-done}
 use Rattle.inner_cells.proofs.InnerLaws.{inner-below}
-use Rattle.talus_rows.proofs.shed_inside.Statement.{statement}
-use Rattle.talus_rows.proofs.shed_inside.Tie as tie
+use Rattle.talus_blocks.proofs.shed_inside.Statement.{statement}
+use Rattle.talus_blocks.proofs.shed_inside.Tie as tie
 
 abbrev Inv-loop : tie.InvT-loop
 Inv-loop size os ts hmap c s₀ d₀ s d = Around (shedStep (size .w) (size .h) ts hmap c) (record { total = ofBits binary32 0; greatest = ofBits binary32 0 }) d s

@@ -1,0 +1,135 @@
+-- A block of inner cells: totals and losses worked out one after the other, and the cells slid by them.
+use Prim.Native.Nat.{ℕ, zero, suc, _+_, _*_, _≤_, _<_}
+use mathlib.Core.Path.{_≡_, refl, sym, ap, ap₂, _∙_}
+use mathlib.Core.Bool.{Bool, true, false, cond, true≢false}
+use mathlib.Core.List.{List}
+use native.Mathlib.Numerals.{add-one}
+use native.Mathlib.Omega.{arith}
+use native.Mathlib.Decide.{ℕ-discrete}
+use lib.ListN.{length, getD, set, length-set}
+use lib.Seq.{getD-set-same, getD-set-other}
+use lib.Ieee.{Float, nan, binary32, ofBits, sub, lt, le}
+use Rattle.lists.proofs.TurnLaws.{turns-keep}
+use Rattle.talus.specs.Talus.{shedOf, gainsOf, slideCell, slideCells}
+use Rattle.talus.proofs.CellLaws.{slide-under, slide-still, slide-moved}
+use Rattle.talus_blocks.specs.Blocks.{shedTotal, movedFrom, Sheds, shedders}
+
+-- those of the first i cells of n stand in two lists of 64
+pub record Shedding (w h : ℕ) (ts hs : List Float) (strength water : Float) (y x n i : ℕ) (totals moved : List Float) : Type 0 where
+  pub place : i ≤ n
+  pub totals-long : length totals ≡ 64
+  pub moved-long : length moved ≡ 64
+  pub known : Sheds w h ts hs strength water y x i totals moved
+
+-- a list of 64 values of cells, after one store more
+stored : (f : ℕ → Float) (l : List Float) (i : ℕ) (v : Float) → length l ≡ 64 → i < 64 → v ≡ f i → ((j : ℕ) → j < i → getD l j nan ≡ f j)
+    → (j : ℕ) → j < i + 1 → getD (set l i v) j nan ≡ f j
+stored f l i v long few e h j k = go (ℕ-discrete j i)
+  where
+    go : Dec (j ≡ i) → getD (set l i v) j nan ≡ f j
+    go (yes q) = rw q (getD-set-same l i v nan (omega arith) ∙ e)
+    go (no q) = getD-set-other l i j v nan q ∙ h j (omega arith)
+
+module _ (w h : ℕ) (ts hs : List Float) (strength water : Float) (y x : ℕ) where
+  pub sheds-none : (totals moved : List Float) → Sheds w h ts hs strength water y x 0 totals moved
+  sheds-none totals moved = record { total = λ j l. absurd (omega arith); loss = λ j l. absurd (omega arith) }
+
+  pub shedding-more : {n i : ℕ} {totals moved : List Float} {t m : Float} → Shedding w h ts hs strength water y x n i totals moved → i < n → n ≤ 64
+      → t ≡ shedTotal w h ts hs water (x + i + y * w) → m ≡ movedFrom w h ts hs strength (x + i + y * w)
+      → Shedding w h ts hs strength water y x n (i + 1) (set totals i t) (set moved i m)
+  shedding-more {n} {i} {totals} {moved} {t} {m} a l few e f =
+      record {
+        place = omega arith;
+        totals-long = length-set totals i t ∙ a .totals-long;
+        moved-long = length-set moved i m ∙ a .moved-long;
+        known =
+            record {
+              total = stored (λ j. shedTotal w h ts hs water (x + j + y * w)) totals i t (a .totals-long) (omega arith) e (a .known .total);
+              loss = stored (λ j. movedFrom w h ts hs strength (x + j + y * w)) moved i m (a .moved-long) (omega arith) f (a .known .loss);
+            };
+      }
+
+  pub shedding-done : {n i : ℕ} {totals moved : List Float} → Shedding w h ts hs strength water y x n i totals moved → n ≤ i
+      → Sheds w h ts hs strength water y x n totals moved
+  shedding-done a l =
+      record {
+        total = λ j k. a .known .total j (omega arith);
+        loss = λ j k. a .known .loss j (omega arith);
+      }
+
+zero-still : le (ofBits binary32 0) (ofBits binary32 0) ≡ true
+unfolding le ofBits
+zero-still = refl
+
+-- the two ends of a cell that sheds by `total`
+module _ (w h : ℕ) (ts hs : List Float) (strength water : Float) (c : ℕ) (out : List Float) (total : Float) (e : total ≡ shedTotal w h ts hs water c) where
+  under : lt (getD hs c nan) water ≡ true → le total (ofBits binary32 0) ≡ true
+  under u = rw (e, u) zero-still
+
+  above : lt (getD hs c nan) water ≡ false → total ≡ shedOf w h ts hs c .total
+  above u = rw (e, u) refl
+
+  pub cell-still : le total (ofBits binary32 0) ≡ true → out ≡ slideCell w h ts hs strength water c out
+  cell-still t = go (lt (getD hs c nan) water) refl
+    where
+      go : (b : Bool) → lt (getD hs c nan) water ≡ b → out ≡ slideCell w h ts hs strength water c out
+      go true u = slide-under w h ts hs strength water c out u
+      go false u =
+          slide-still w h ts hs strength water c out (shedOf w h ts hs c) refl u (ap (λ (z : Float). le z (ofBits binary32 0)) (sym (above u)) ∙ t)
+
+  pub cell-moved : (moved : Float) (r : List Float)
+      → moved ≡ movedFrom w h ts hs strength c
+      → le total (ofBits binary32 0) ≡ false
+      → r ≡ gainsOf w h ts hs c moved total (set out c (sub binary32 (getD out c nan) moved))
+      → r ≡ slideCell w h ts hs strength water c out
+  cell-moved moved r f t g = go (lt (getD hs c nan) water) refl
+    where
+      go : (b : Bool) → lt (getD hs c nan) water ≡ b → r ≡ slideCell w h ts hs strength water c out
+      go true u = absurd (true≢false (sym (under u) ∙ t))
+      go false u =
+          slide-moved w h ts hs strength water c out (shedOf w h ts hs c) refl u r (ap (λ (z : Float). le z (ofBits binary32 0)) (sym (above u)) ∙ t)
+          (g ∙ ap₂ (λ (m a : Float). gainsOf w h ts hs c m a (set out c (sub binary32 (getD out c nan) m))) f (above u))
+
+-- how many shed
+shed-one : (b : Bool) (k n : ℕ) → k ≤ n → k + cond b 0 1 ≤ suc n
+shed-one true k n l = omega arith
+shed-one false k n l = omega arith
+
+pub shedders-most : (totals : List Float) (n : ℕ) → shedders totals n ≤ n
+unfolding shedders
+shedders-most totals zero = omega arith
+shedders-most totals (suc n) = shed-one (le (getD totals n nan) (ofBits binary32 0)) (shedders totals n) n (shedders-most totals n)
+
+pub shedders-more : (totals : List Float) (i k v : ℕ) → k ≡ shedders totals i → v ≡ cond (le (getD totals i nan) (ofBits binary32 0)) 0 1
+    → k + v ≡ shedders totals (i + 1)
+unfolding shedders
+shedders-more totals i k v e f = ap₂ (λ (a b : ℕ). a + b) e f ∙ ap (shedders totals) (sym (add-one i))
+
+pub shedders-end : (totals : List Float) {i n k : ℕ} → k ≡ shedders totals i → i ≤ n → n ≤ i → k ≡ shedders totals n
+shedders-end totals {i} {n} e a b = let same : i ≡ n = omega arith in e ∙ ap (shedders totals) same
+
+shed-none : (b : Bool) (k : ℕ) → k + cond b 0 1 ≡ 0 → (k ≡ 0) × (b ≡ true)
+shed-none true k e = (omega arith, refl)
+shed-none false k e = absurd (omega arith)
+
+shedders-none : (totals : List Float) (n : ℕ) → shedders totals n ≡ 0 → (i : ℕ) → i < n → le (getD totals i nan) (ofBits binary32 0) ≡ true
+unfolding shedders
+shedders-none totals zero e i l = absurd (omega arith)
+shedders-none totals (suc n) e i l =
+    let one = shed-none (le (getD totals n nan) (ofBits binary32 0)) (shedders totals n) e in
+    go (one .1) (shedders-none totals n (one .0) i) (ℕ-discrete i n)
+  where
+    go : le (getD totals n nan) (ofBits binary32 0) ≡ true → (i < n → le (getD totals i nan) (ofBits binary32 0) ≡ true) → Dec (i ≡ n)
+        → le (getD totals i nan) (ofBits binary32 0) ≡ true
+    go a b (yes q) = rw q a
+    go a b (no q) = b (omega arith)
+
+-- a block where none sheds
+pub block-still : (w h : ℕ) (ts hs : List Float) (strength water : Float) (y x n : ℕ) (totals moved out : List Float)
+    → Sheds w h ts hs strength water y x n totals moved
+    → shedders totals n ≡ 0
+    → out ≡ slideCells w h ts hs strength water y x n out
+unfolding slideCells
+block-still w h ts hs strength water y x n totals moved out s e =
+    turns-keep (λ i. slideCell w h ts hs strength water (x + i + y * w)) (λ t. out ≡ t) out n refl
+    (λ i t l q. q ∙ cell-still w h ts hs strength water (x + i + y * w) t (getD totals i nan) (s .total i l) (shedders-none totals n e i l))

@@ -1,0 +1,3 @@
+-- Laws of talus blocks.
+pub mod BlockLaws
+pub mod SlideLaws

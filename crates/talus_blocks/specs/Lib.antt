@@ -1,0 +1,2 @@
+-- Blocks of inner cells of a talus pass.
+pub mod Blocks

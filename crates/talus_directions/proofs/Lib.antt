@@ -1,0 +1,4 @@
+-- Laws of blocks direction by direction.
+pub mod PassLaws
+pub mod ExchangeLaws
+pub mod OrderLaws

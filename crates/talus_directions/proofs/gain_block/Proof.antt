@@ -1,0 +1,135 @@
+use Prim.Native.Nat.{_+_, _-_, _*_, _<_}
+use native.Mathlib.Omega.{arith}
+use borrow.Author.Needs.{needs}
+use lib.ListN.{length, length-set}
+use Rattle.inner_cells.proofs.InnerLaws.{inner-below}
+use Rattle.talus.proofs.RowLaws.{row-cell-below}
+use Rattle.talus_directions.specs.Parts.{gainOf, gainsToward}
+use Rattle.talus_directions.proofs.PassLaws.{Passing, passing-none, passing-more, passing-done, gain-more}
+use Rattle.talus_directions.proofs.gain_block.Statement.{statement}
+use Rattle.talus_directions.proofs.gain_block.Tie as tie
+
+abbrev Inv-loop : tie.InvT-loop
+Inv-loop size os ts hmap out₀ y x n d totals moved w t i₀ out i = Passing (gainOf (size .w) (size .h) ts hmap y x totals moved d) n i out₀ out
+
+abbrev μ-loop : tie.MeasureT-loop
+μ-loop size os ts hmap out₀ y x n d totals moved w t i₀ out i = n - i
+
+-- the cell of this turn is one of the map's, and one of the block's
+below : (c : tie.In-loop Inv-loop μ-loop) → c .before .before .before .before .before .args .x + c .before .loop .i + c .before .before .before .before .before .args .y * c .before .before .before .before .before .args .size .w < length (c .before .before .before .before .before .args .hmap .now)
+below c = row-cell-below (c .before .loop .i) (c .before .before .before .before .before .pre .0 .row) (c .loop-test .taken)
+
+few : (c : tie.In-loop Inv-loop μ-loop) → c .before .loop .i < 64
+few c = omega (arith, c .loop-test .taken, c .before .before .before .before .before .pre .1 .1 .1 .0)
+
+mul-t : tie.Need-mul-t Inv-loop μ-loop
+mul-t c = omega (arith, c .before .before .pre .1 .1 .1 .1 .1)
+
+element-copy-out-t : tie.Need-element-copy-out-t Inv-loop μ-loop
+element-copy-out-t c = c .before .before .pre .1 .1 .1 .1 .1
+
+loop-holds : tie.Need-loop-holds Inv-loop μ-loop
+loop-holds c = passing-none
+
+add-c : tie.Need-add-c Inv-loop μ-loop
+add-c c = omega (arith, below c)
+
+mul-c : tie.Need-mul-c Inv-loop μ-loop
+mul-c c = omega (arith, below c)
+
+add-c-2 : tie.Need-add-c-2 Inv-loop μ-loop
+add-c-2 c = omega (arith, below c)
+
+beside-requires : tie.Need-beside-requires Inv-loop μ-loop
+beside-requires c κs = (c .before .before .before .before .before .pre .0 .inner (c .before .loop .i) (c .loop-test .taken), (c .before .before .before .before .before .pre .1 .0, (c .before .before .before .before .before .pre .1 .1 .1 .1 .0, c .before .before .before .before .before .pre .1 .1 .1 .1 .1)))
+
+-- and so is its neighbour
+near : (c : tie.After-beside Inv-loop μ-loop) → c .beside .result < length (c .before .before .before .before .before .before .args .hmap .now)
+near c = inner-below _ _ _ (c .before .before .before .before .before .before .args .d) (c .before .before .before .before .before .before .pre .1 .1 .1 .1 .0) (omega (arith, c .before .before .before .before .before .before .pre .1 .1 .1 .1 .1)) (c .before .before .before .before .before .before .pre .0 .inner (c .before .before .loop .i) (c .before .loop-test .taken)) _ _ (c .before .before .before .before .before .before .pre .0 .row .size) (c .beside .ensures)
+
+mul-e : tie.Need-mul-e Inv-loop μ-loop
+mul-e c = omega (arith, below (c .before))
+
+shared-slice-read-e : tie.Need-shared-slice-read-e Inv-loop μ-loop
+shared-slice-read-e c = below (c .before .before)
+
+mul-e-2 : tie.Need-mul-e-2 Inv-loop μ-loop
+mul-e-2 c = omega (arith, near (c .before))
+
+shared-slice-read-e-2 : tie.Need-shared-slice-read-e-2 Inv-loop μ-loop
+shared-slice-read-e-2 c = near (c .before .before)
+
+mul-gained : tie.Need-mul-gained Inv-loop μ-loop
+mul-gained c = omega (arith, few (c .before .before .before))
+
+element-copy-out-gained : tie.Need-element-copy-out-gained Inv-loop μ-loop
+element-copy-out-gained c = few (c .before .before .before)
+
+mul-gained-2 : tie.Need-mul-gained-2 Inv-loop μ-loop
+mul-gained-2 c = omega (arith, few (c .before .before .before .before))
+
+element-copy-out-gained-2 : tie.Need-element-copy-out-gained-2 Inv-loop μ-loop
+element-copy-out-gained-2 c = few (c .before .before .before .before)
+
+mul-gained-3 : tie.Need-mul-gained-3 Inv-loop μ-loop
+mul-gained-3 c = omega (arith, near (c .before .before .before .before))
+
+slice-read-gained : tie.Need-slice-read-gained Inv-loop μ-loop
+slice-read-gained c = omega (arith, near (c .before .before .before .before .before), c .before .before .before .before .before .before .before .loop .inv .long, c .before .before .before .before .before .before .before .before .before .before .before .pre .1 .1 .0)
+
+gained-requires : tie.Need-gained-requires Inv-loop μ-loop
+gained-requires c κs = search needs
+
+mul-out : tie.Need-mul-out Inv-loop μ-loop
+mul-out c = omega (arith, near (c .before .before .before .before .before .before))
+
+slice-write-out : tie.Need-slice-write-out Inv-loop μ-loop
+slice-write-out c = omega (arith, near (c .before .before .before .before .before .before), c .before .before .before .before .before .before .before .before .loop .inv .long, c .before .before .before .before .before .before .before .before .before .before .before .before .pre .1 .1 .0)
+
+add-i : tie.Need-add-i Inv-loop μ-loop
+add-i c = omega (arith, few (c .before .before .before .before .before .before .before))
+
+loop-less : tie.Need-loop-less Inv-loop μ-loop
+loop-less c = omega (arith, c .before .before .before .before .before .before .before .loop-test .taken)
+
+loop-again : tie.Need-loop-again Inv-loop μ-loop
+loop-again c = passing-more (c .before .before .before .before .before .before .before .before .loop .inv) (c .before .before .before .before .before .before .before .loop-test .taken) (length-set (c .before .before .before .before .before .before .before .before .loop .out) (c .before .before .before .before .before .before .beside .result) (c .gained .result)) (gain-more _ _ (c .before .before .before .before .before .before .before .before .before .before .before .before .args .ts .now) (c .before .before .before .before .before .before .before .before .before .before .before .before .args .hmap .now) _ _ (c .before .before .before .before .before .before .before .before .before .before .before .before .args .totals .now) (c .before .before .before .before .before .before .before .before .before .before .before .before .args .moved .now) (c .before .before .before .before .before .before .before .before .before .before .before .before .args .d) (c .before .before .before .before .before .before .before .before .loop .i) (c .before .before .before .before .before .before .before .before .loop .out) (c .before .before .before .before .before .before .beside .ensures) (c .gained .ensures))
+
+same-length : tie.Need-same-length Inv-loop μ-loop
+same-length c = c .before .loop .inv .long
+
+returns : tie.Need-returns Inv-loop μ-loop
+unfolding gainsToward
+returns c = passing-done (c .before .loop .inv) (c .loop-test .left)
+
+pub gain-block-spec : {M : Type 1} → statement M
+gain-block-spec =
+    tie.close
+    (tie.spec
+    Inv-loop
+    μ-loop
+    mul-t
+    element-copy-out-t
+    loop-holds
+    add-c
+    mul-c
+    add-c-2
+    beside-requires
+    mul-e
+    shared-slice-read-e
+    mul-e-2
+    shared-slice-read-e-2
+    mul-gained
+    element-copy-out-gained
+    mul-gained-2
+    element-copy-out-gained-2
+    mul-gained-3
+    slice-read-gained
+    gained-requires
+    mul-out
+    slice-write-out
+    add-i
+    loop-less
+    loop-again
+    same-length
+    returns)

@@ -1,0 +1,2 @@
+-- What cells that shed change.
+pub mod Parts

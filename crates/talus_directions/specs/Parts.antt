@@ -1,0 +1,58 @@
+-- What inner cells of a row change in the map, by the total by which each sheds and its loss.
+use Prim.Native.Nat.{ℕ, suc, _+_, _*_, _<_}
+use mathlib.Core.Bool.{cond}
+use mathlib.Core.List.{List}
+use lib.ListN.{getD, set}
+use lib.Ieee.{Float, nan, binary32, ofBits, add, sub, mul, div, lt, le}
+use Rattle.lists.specs.Loops.{turns}
+use Rattle.grid.specs.Directions.{neighbourAt}
+use Rattle.inner_cells.specs.Inner.{Inner}
+use Rattle.talus.specs.Talus.{excessTo}
+use Rattle.talus.specs.Places.{InRow}
+
+-- the n cells from column x on, in row y, are inner cells of a w × h map of `cells` heights
+pub record InnerRow (w h cells y x n : ℕ) : Type 0 where
+  pub inner : (i : ℕ) → i < n → Inner w h (x + i + y * w)
+  pub row : InRow w h cells y x n
+
+-- a height after the loss of its cell, and after its gain by the excess e, if the cell sheds
+abbrev pub lostFrom : Float → Float → Float → Float
+lostFrom total moved old = cond (le total (ofBits binary32 0)) old (sub binary32 old moved)
+
+abbrev pub gainedBy : Float → Float → Float → Float → Float
+gainedBy e total moved old =
+    cond (le total (ofBits binary32 0)) old (cond (lt (ofBits binary32 0) e) (add binary32 old (div binary32 (mul binary32 moved e) total)) old)
+
+-- the height m changed by f
+abbrev pub changed : (Float → Float) → ℕ → List Float → List Float
+changed f m out = set out m (f (getD out m nan))
+
+-- the losses of the first n cells from column x on, in row y
+module _ (w y x : ℕ) (totals moved : List Float) where
+  abbrev pub lossOf : ℕ → List Float → List Float
+  lossOf i = changed (lostFrom (getD totals i nan) (getD moved i nan)) (x + i + y * w)
+
+  unfoldable pub losses : ℕ → List Float → List Float
+  unfolding turns
+  losses n out = turns n lossOf out
+
+-- the gains of their neighbours in direction d
+module _ (w h : ℕ) (ts hs : List Float) (y x : ℕ) (totals moved : List Float) where
+  abbrev pub gainOf : ℕ → ℕ → List Float → List Float
+  gainOf d i =
+      let c = x + i + y * w in
+      let m = neighbourAt w h c d in
+      changed (gainedBy (excessTo ts hs c m d) (getD totals i nan) (getD moved i nan)) m
+
+  unfoldable pub gainsToward : ℕ → ℕ → List Float → List Float
+  unfolding turns
+  gainsToward d n out = turns n (gainOf d) out
+
+  -- cell i by its total and its loss: the loss, then the gains in the order of the directions
+  abbrev pub slideBy : ℕ → List Float → List Float
+  slideBy i out = turns 8 (λ k. gainOf (suc k) i) (lossOf w y x totals moved i out)
+
+  -- the first n cells
+  unfoldable pub slideAll : ℕ → List Float → List Float
+  unfolding turns
+  slideAll n out = turns n slideBy out

@@ -1,2 +1,0 @@
--- Rows of a talus pass.
-pub mod Blocks
