@@ -1,4 +1,3 @@
-use Prim.Native.Nat.{_+_}
 use native.Mathlib.Omega.{arith}
 use Rattle.scan_queue.proofs.ScanLaws.{turned-past, turned-leaves}
 use borrow.Author.Needs.{needs}
@@ -18,7 +17,7 @@ add-limit-at : tie.Need-add-limit-at
 add-limit-at c = search needs
 
 limit-at-requires : tie.Need-limit-at-requires
-limit-at-requires c κs = λ l. let p = c .before .before .before .before .before .before .pre .0 in let i = p .begun .listed .cells (c .before .before .before .before .before .before .args .s .head + 1) (omega arith) l in omega (arith, i, p .spills)
+limit-at-requires c κs = λ l. let p = c .before .before .before .before .before .before .pre .0 in rw (p .spills) (p .begun .listed .cells _ (omega arith) l)
 
 slice-read-if1 : tie.Need-slice-read-if1
 slice-read-if1 c = let l = c .before .before .before .before .before .before .before .before .pre .0 .begun .listed .cells (c .before .before .before .before .before .before .before .before .args .s .head) (omega arith) (c .before .before .before .before .before .before .before .before .pre .1 .0) in omega (arith, l, c .before .before .before .before .before .before .before .before .pre .0 .few, c .before .before .before .before .before .before .before .before .pre .0 .statuses)
