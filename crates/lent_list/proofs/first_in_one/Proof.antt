@@ -1,84 +1,96 @@
 use Prim.Native.Nat.{_-_}
-use mathlib.Core.Path.{refl}
+use mathlib.Core.Path.{_≡_, refl, _∙_}
 use native.Mathlib.Omega.{arith}
-use lib.ListN.{getD}
+use lib.ListN.{length, getD}
 use Rattle.lent_list.proofs.StretchLaws.{Walk, walk-none, walk-outside, walk-twice, walk-early, walk-more, walk-done, stood-marked, noted-marked, lacked-marked}
 use Rattle.lent_list.proofs.first_in_one.Statement.{statement}
 use Rattle.lent_list.proofs.first_in_one.Tie as tie
 
 abbrev Inv-loop : tie.InvT-loop
-Inv-loop n recv list seen₀ p₀ seen p = Walk n recv list 0 n seen p
+Inv-loop n recv list seen₀ p₀ seen p = Walk n n recv list 0 n seen p × (length seen ≡ length seen₀)
 
 abbrev μ-loop : tie.MeasureT-loop
 μ-loop n recv list seen₀ p₀ seen p = n - p
 
 -- src/lib.rt:273:5
 loop-holds : tie.Need-loop-holds Inv-loop μ-loop
-loop-holds c = walk-none refl
+loop-holds c = (walk-none (c .before .before .before .pre .1), refl)
 
 -- src/lib.rt:274:17
 mul-c : tie.Need-mul-c Inv-loop μ-loop
-mul-c c = omega (arith, c .before .before .before .before .pre .0 .entries)
+mul-c c = omega (arith, c .before .before .before .before .before .pre .0 .entries)
 
 -- src/lib.rt:274:17
 shared-slice-read-c : tie.Need-shared-slice-read-c Inv-loop μ-loop
-shared-slice-read-c c = omega (arith, c .before .before .before .before .before .pre .0 .entries)
+shared-slice-read-c c = omega (arith, c .before .before .before .before .before .before .pre .0 .entries)
 
 -- src/lib.rt:274:17
 cast-c : tie.Need-cast-c Inv-loop μ-loop
 cast-c c = omega (arith, c .shared-slice-known3 .given (c .before .before .loop .p))
 
+same-length : tie.Need-same-length Inv-loop μ-loop
+same-length c = c .before .before .before .loop .inv .1
+
 -- src/lib.rt:276:13
 returns : tie.Need-returns Inv-loop μ-loop
-returns c = walk-outside (c .before .before .before .loop .inv) (c .if1 .taken)
+returns c = walk-outside (c .before .before .before .loop .inv .0) (c .if1 .taken)
 
 -- src/lib.rt:278:12
 marked-requires : tie.Need-marked-requires Inv-loop μ-loop
-marked-requires c κs = (omega (arith, c .before .if1 .left, c .before .before .before .before .before .before .before .pre .1))
+marked-requires c κs = omega (arith, c .before .if1 .left, c .before .before .before .before .loop .inv .0 .marks .long)
+
+same-length-2 : tie.Need-same-length-2 Inv-loop μ-loop
+same-length-2 c = c .before .before .before .before .before .before .loop .inv .1
 
 -- src/lib.rt:279:13
 returns-2 : tie.Need-returns-2 Inv-loop μ-loop
-returns-2 c = walk-twice (c .before .before .before .before .before .before .loop .inv) (stood-marked _ _ (omega (arith, c .before .before .before .if1 .left, c .before .before .before .before .before .before .before .before .before .pre .1)) (c .before .marked .ensures) (c .if2 .taken))
+returns-2 c = walk-twice (c .before .before .before .before .before .before .loop .inv .0) (stood-marked _ _ (omega (arith, c .before .before .before .if1 .left)) (c .before .marked .ensures) (c .if2 .taken))
 
 -- src/lib.rt:281:9
 mark-requires : tie.Need-mark-requires Inv-loop μ-loop
-mark-requires c κs = (omega (arith, c .before .before .before .before .if1 .left, c .before .before .before .before .before .before .before .before .before .before .pre .1))
+mark-requires c κs = omega (arith, c .before .before .before .before .if1 .left, c .before .before .before .before .before .before .before .loop .inv .0 .marks .long)
 
 -- src/lib.rt:282:28
 mul-unmarked : tie.Need-mul-unmarked Inv-loop μ-loop
-mul-unmarked c = omega (arith, c .before .before .before .before .before .before .before .before .before .before .before .before .pre .0 .receivers, c .before .before .before .before .before .before .if1 .left)
+mul-unmarked c = omega (arith, c .before .before .before .before .before .before .before .before .before .before .before .before .before .before .before .pre .0 .receivers, c .before .before .before .before .before .before .before .before .if1 .left)
 
 -- src/lib.rt:282:28
 shared-slice-read-unmarked : tie.Need-shared-slice-read-unmarked Inv-loop μ-loop
-shared-slice-read-unmarked c = omega (arith, c .before .before .before .before .before .before .before .before .before .before .before .before .before .pre .0 .receivers, c .before .before .before .before .before .before .before .if1 .left)
+shared-slice-read-unmarked c = omega (arith, c .before .before .before .before .before .before .before .before .before .before .before .before .before .before .before .before .pre .0 .receivers, c .before .before .before .before .before .before .before .before .before .if1 .left)
 
 -- src/lib.rt:282:28
 cast-unmarked : tie.Need-cast-unmarked Inv-loop μ-loop
-cast-unmarked c = omega (arith, c .shared-slice-known4 .given (getD (c .before .before .before .before .before .before .before .before .before .before .before .before .before .args .list .now) (c .before .before .before .before .before .before .before .before .before .before .loop .p) 0))
+cast-unmarked c = omega (arith, c .shared-slice-known4 .given (getD (c .before .before .before .before .before .before .before .before .before .before .before .before .before .before .before .before .args .list .now) (c .before .before .before .before .before .before .before .before .before .before .before .before .loop .p) 0))
 
 -- src/lib.rt:282:12
 unmarked-requires : tie.Need-unmarked-requires Inv-loop μ-loop
-unmarked-requires c κs = omega (arith, c .before .before .before .before .before .before .before .before .before .before .before .before .before .pre .0 .inside (getD (c .before .before .before .before .before .before .before .before .before .before .before .before .before .args .list .now) (c .before .before .before .before .before .before .before .before .before .before .loop .p) 0) (omega (arith, c .before .before .before .before .before .before .before .if1 .left)), c .before .before .before .before .before .before .before .before .before .before .before .before .before .pre .1)
+unmarked-requires c κs = omega (arith, c .before .before .before .before .before .before .before .before .before .before .before .before .before .before .before .before .pre .0 .inside (getD (c .before .before .before .before .before .before .before .before .before .before .before .before .before .before .before .before .args .list .now) (c .before .before .before .before .before .before .before .before .before .before .before .before .loop .p) 0) (omega (arith, c .before .before .before .before .before .before .before .before .before .if1 .left)), c .before .before .before .before .before .before .before .before .before .before .before .before .loop .inv .0 .marks .long, c .before .before .before .before .mark .kept .0)
+
+same-length-3 : tie.Need-same-length-3 Inv-loop μ-loop
+same-length-3 c = c .before .before .before .before .before .before .mark .kept .0 ∙ c .before .before .before .before .before .before .before .before .before .before .before .before .before .before .loop .inv .1
 
 -- src/lib.rt:283:13
 returns-3 : tie.Need-returns-3 Inv-loop μ-loop
-returns-3 c = walk-early (c .before .before .before .before .before .before .before .before .before .before .before .before .loop .inv) (lacked-marked _ (getD (c .before .before .before .before .before .before .before .before .before .before .before .before .before .before .before .args .list .now) (c .before .before .before .before .before .before .before .before .before .before .before .before .loop .p) 0) (omega (arith, c .before .before .before .before .before .before .before .before .before .if1 .left, c .before .before .before .before .before .before .before .before .before .before .before .before .before .before .before .pre .1)) (c .before .before .before .before .before .before .before .before .before .before .before .before .loop .inv .marks .long) (getD (c .before .before .before .before .before .before .before .before .before .before .before .before .before .before .before .args .recv .now) (getD (c .before .before .before .before .before .before .before .before .before .before .before .before .before .before .before .args .list .now) (c .before .before .before .before .before .before .before .before .before .before .before .before .loop .p) 0) 0) (omega (arith, c .before .before .before .before .before .before .before .before .before .before .before .before .before .before .before .pre .0 .inside (getD (c .before .before .before .before .before .before .before .before .before .before .before .before .before .before .before .args .list .now) (c .before .before .before .before .before .before .before .before .before .before .before .before .loop .p) 0) (omega (arith, c .before .before .before .before .before .before .before .before .before .if1 .left)), c .before .before .before .before .before .before .before .before .before .before .before .before .before .before .before .pre .1)) (c .before .before .before .before .mark .ensures) (c .before .unmarked .ensures) (c .if3 .taken))
+returns-3 c = walk-early (c .before .before .before .before .before .before .before .before .before .before .before .before .before .before .loop .inv .0) (lacked-marked _ (getD (c .before .before .before .before .before .before .before .before .before .before .before .before .before .before .before .before .before .before .args .list .now) (c .before .before .before .before .before .before .before .before .before .before .before .before .before .before .loop .p) 0) (omega (arith, c .before .before .before .before .before .before .before .before .before .before .before .if1 .left)) (c .before .before .before .before .before .before .before .before .before .before .before .before .before .before .loop .inv .0 .marks .long) (getD (c .before .before .before .before .before .before .before .before .before .before .before .before .before .before .before .before .before .before .args .recv .now) (getD (c .before .before .before .before .before .before .before .before .before .before .before .before .before .before .before .before .before .before .args .list .now) (c .before .before .before .before .before .before .before .before .before .before .before .before .before .before .loop .p) 0) 0) (omega (arith, c .before .before .before .before .before .before .before .before .before .before .before .before .before .before .before .before .before .before .pre .0 .inside (getD (c .before .before .before .before .before .before .before .before .before .before .before .before .before .before .before .before .before .before .args .list .now) (c .before .before .before .before .before .before .before .before .before .before .before .before .before .before .loop .p) 0) (omega (arith, c .before .before .before .before .before .before .before .before .before .before .before .if1 .left)))) (c .before .before .before .before .before .before .mark .ensures) (c .before .unmarked .ensures) (c .if3 .taken))
 
 -- src/lib.rt:285:9
 add-p : tie.Need-add-p Inv-loop μ-loop
-add-p c = omega (arith, c .before .before .before .before .before .before .before .before .before .before .before .before .before .before .before .pre .0 .entries, c .before .before .before .before .before .before .before .before .before .before .before .loop-test .taken)
+add-p c = omega (arith, c .before .before .before .before .before .before .before .before .before .before .before .before .before .before .before .before .before .before .pre .0 .entries, c .before .before .before .before .before .before .before .before .before .before .before .before .before .loop-test .taken)
 
 -- src/lib.rt:273:5
 loop-less : tie.Need-loop-less Inv-loop μ-loop
-loop-less c = omega (arith, c .before .before .before .before .before .before .before .before .before .before .before .loop-test .taken)
+loop-less c = omega (arith, c .before .before .before .before .before .before .before .before .before .before .before .before .before .loop-test .taken)
 
 -- src/lib.rt:273:5
 loop-again : tie.Need-loop-again Inv-loop μ-loop
-loop-again c = walk-more (c .before .before .before .before .before .before .before .before .before .before .before .before .loop .inv) (c .before .before .before .before .before .before .before .before .before .before .before .loop-test .taken) (omega (arith, c .before .before .before .before .before .before .before .before .before .before .before .before .before .before .before .pre .0 .entries)) (omega (arith, c .before .before .before .before .before .before .before .before .before .if1 .left)) (stood-marked _ _ (omega (arith, c .before .before .before .before .before .before .before .before .before .if1 .left, c .before .before .before .before .before .before .before .before .before .before .before .before .before .before .before .pre .1)) (c .before .before .before .before .before .before .before .marked .ensures) (c .before .before .before .before .before .before .if2 .left)) (lacked-marked _ (getD (c .before .before .before .before .before .before .before .before .before .before .before .before .before .before .before .args .list .now) (c .before .before .before .before .before .before .before .before .before .before .before .before .loop .p) 0) (omega (arith, c .before .before .before .before .before .before .before .before .before .if1 .left, c .before .before .before .before .before .before .before .before .before .before .before .before .before .before .before .pre .1)) (c .before .before .before .before .before .before .before .before .before .before .before .before .loop .inv .marks .long) (getD (c .before .before .before .before .before .before .before .before .before .before .before .before .before .before .before .args .recv .now) (getD (c .before .before .before .before .before .before .before .before .before .before .before .before .before .before .before .args .list .now) (c .before .before .before .before .before .before .before .before .before .before .before .before .loop .p) 0) 0) (omega (arith, c .before .before .before .before .before .before .before .before .before .before .before .before .before .before .before .pre .0 .inside (getD (c .before .before .before .before .before .before .before .before .before .before .before .before .before .before .before .args .list .now) (c .before .before .before .before .before .before .before .before .before .before .before .before .loop .p) 0) (omega (arith, c .before .before .before .before .before .before .before .before .before .if1 .left)), c .before .before .before .before .before .before .before .before .before .before .before .before .before .before .before .pre .1)) (c .before .before .before .before .mark .ensures) (c .before .unmarked .ensures) (c .if3 .left)) (noted-marked _ _ (omega (arith, c .before .before .before .before .before .before .before .before .before .if1 .left, c .before .before .before .before .before .before .before .before .before .before .before .before .before .before .before .pre .1)) (c .before .before .before .before .mark .ensures))
+loop-again c = (walk-more (c .before .before .before .before .before .before .before .before .before .before .before .before .before .before .loop .inv .0) (c .before .before .before .before .before .before .before .before .before .before .before .before .before .loop-test .taken) (omega (arith, c .before .before .before .before .before .before .before .before .before .before .before .before .before .before .before .before .before .before .pre .0 .entries)) (omega (arith, c .before .before .before .before .before .before .before .before .before .before .before .if1 .left)) (stood-marked _ _ (omega (arith, c .before .before .before .before .before .before .before .before .before .before .before .if1 .left)) (c .before .before .before .before .before .before .before .before .before .marked .ensures) (c .before .before .before .before .before .before .before .before .if2 .left)) (lacked-marked _ (getD (c .before .before .before .before .before .before .before .before .before .before .before .before .before .before .before .before .before .before .args .list .now) (c .before .before .before .before .before .before .before .before .before .before .before .before .before .before .loop .p) 0) (omega (arith, c .before .before .before .before .before .before .before .before .before .before .before .if1 .left)) (c .before .before .before .before .before .before .before .before .before .before .before .before .before .before .loop .inv .0 .marks .long) (getD (c .before .before .before .before .before .before .before .before .before .before .before .before .before .before .before .before .before .before .args .recv .now) (getD (c .before .before .before .before .before .before .before .before .before .before .before .before .before .before .before .before .before .before .args .list .now) (c .before .before .before .before .before .before .before .before .before .before .before .before .before .before .loop .p) 0) 0) (omega (arith, c .before .before .before .before .before .before .before .before .before .before .before .before .before .before .before .before .before .before .pre .0 .inside (getD (c .before .before .before .before .before .before .before .before .before .before .before .before .before .before .before .before .before .before .args .list .now) (c .before .before .before .before .before .before .before .before .before .before .before .before .before .before .loop .p) 0) (omega (arith, c .before .before .before .before .before .before .before .before .before .before .before .if1 .left)))) (c .before .before .before .before .before .before .mark .ensures) (c .before .unmarked .ensures) (c .if3 .left)) (noted-marked _ _ (omega (arith, c .before .before .before .before .before .before .before .before .before .before .before .if1 .left)) (c .before .before .before .before .before .before .mark .ensures)), c .before .before .before .before .before .before .mark .kept .0 ∙ c .before .before .before .before .before .before .before .before .before .before .before .before .before .before .loop .inv .1)
+
+same-length-4 : tie.Need-same-length-4 Inv-loop μ-loop
+same-length-4 c = c .before .loop .inv .1
 
 -- src/lib.rt:266:1
 returns-4 : tie.Need-returns-4 Inv-loop μ-loop
-returns-4 c = walk-done (c .before .loop .inv) (c .loop-test .left)
+returns-4 c = walk-done (c .before .loop .inv .0) (c .loop-test .left)
 
 pub first-in-one-spec : {M : Type 1} → statement M
 first-in-one-spec =
@@ -90,16 +102,20 @@ first-in-one-spec =
     mul-c
     shared-slice-read-c
     cast-c
+    same-length
     returns
     marked-requires
+    same-length-2
     returns-2
     mark-requires
     mul-unmarked
     shared-slice-read-unmarked
     cast-unmarked
     unmarked-requires
+    same-length-3
     returns-3
     add-p
     loop-less
     loop-again
+    same-length-4
     returns-4)
