@@ -6,6 +6,7 @@ use std::io;
 use std::path::Path;
 
 use crate::counts::{by_call, Counts};
+use crate::random::Random;
 use crate::rules::Answer;
 
 const NAN_BITS: u32 = 0x7fc0_0000;
@@ -20,11 +21,16 @@ pub struct List {
     notes: BTreeMap<(&'static str, &'static str), usize>,
 }
 
-impl List {
-    pub fn new(program: &'static str) -> List {
-        List { program, asked: Vec::new(), given: Vec::new(), counts: Counts::new(), notes: BTreeMap::new() }
+/// The list of a program, whose parts each draw from the seed anew.
+pub fn of(program: &'static str, seed: u64, parts: [fn(&mut List, &mut Random); 2]) -> List {
+    let mut l = List { program, asked: Vec::new(), given: Vec::new(), counts: Counts::new(), notes: BTreeMap::new() };
+    for part in parts {
+        part(&mut l, &mut Random::new(seed));
     }
+    l
+}
 
+impl List {
     pub fn ask(&mut self, words: &[u32]) {
         for w in words {
             self.asked.extend_from_slice(&w.to_le_bytes());

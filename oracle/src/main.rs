@@ -29,8 +29,13 @@ const SEED: u64 = 7_616_167;
 fn main() -> ExitCode {
     let args: Vec<String> = std::env::args().skip(1).collect();
     let words: Vec<&str> = args.iter().map(String::as_str).collect();
-    let makers = [numbers::list, maps::list, routes::list, passes::list, runs::list, streams::list];
-    let lists = || makers.map(|list| list(SEED));
+    let lists = || {
+        [
+            list::of("replay_maps", SEED, [maps::list, numbers::list]),
+            list::of("replay_passes", SEED, [passes::list, routes::list]),
+            list::of("replay_runs", SEED, [runs::list, streams::list]),
+        ]
+    };
     match words.as_slice() {
         ["lists", crates] => {
             for l in lists() {

@@ -1,4 +1,4 @@
-//! The list of replay_maps: extent and normalisation of a map, block average, bilinear sample and sum.
+//! The first part of the list of replay_maps: extent and normalisation of a map, block average, bilinear sample and sum.
 use crate::list::List;
 use crate::random::Random;
 use crate::rules::{self, Sides};
@@ -11,14 +11,11 @@ const DOWNSAMPLE: u32 = 3;
 const ADD_UPSAMPLED: u32 = 4;
 const BILINEAR: u32 = 5;
 
-pub fn list(seed: u64) -> List {
-    let mut l = List::new("replay_maps");
-    let mut r = Random::new(seed);
-    extents(&mut l, &mut r);
-    downsamples(&mut l, &mut r);
-    sums(&mut l, &mut r);
-    samples(&mut l, &mut r);
-    l
+pub fn list(l: &mut List, r: &mut Random) {
+    extents(l, r);
+    downsamples(l, r);
+    sums(l, r);
+    samples(l, r);
 }
 
 fn get_min_max(l: &mut List, v: &[f32]) {

@@ -1,20 +1,17 @@
-//! The list of replay_numbers: the square root, the working sides, the stop marks.
+//! The second part of the list of replay_maps: the square root, the working sides, the stop marks.
 use crate::list::List;
 use crate::random::Random;
 use crate::rules;
 use crate::source::Record;
 
-const ROOT: u32 = 1;
-const WORK_SIZE: u32 = 2;
-const REPORT: u32 = 3;
+const ROOT: u32 = 6;
+const WORK_SIZE: u32 = 7;
+const REPORT: u32 = 8;
 
-pub fn list(seed: u64) -> List {
-    let mut l = List::new("replay_numbers");
-    let mut r = Random::new(seed);
-    roots(&mut l, &mut r);
-    work_sizes(&mut l, &mut r);
-    reports(&mut l, &mut r);
-    l
+pub fn list(l: &mut List, r: &mut Random) {
+    roots(l, r);
+    work_sizes(l, r);
+    reports(l, r);
 }
 
 fn root(l: &mut List, bits: u32) {

@@ -1,4 +1,4 @@
-//! The list of replay_route: the network of a map, answered by the source's `FlowNet::route` itself.
+//! The last part of the list of replay_passes: the network of a map, answered by the source's `FlowNet::route` itself.
 use crate::list::List;
 use crate::random::Random;
 use crate::rules::passes::{route as ask_route, RouteRoom};
@@ -9,15 +9,12 @@ use crate::terrain::{
     RELIEFS, TINY,
 };
 
-const ROUTE: u32 = 1;
+const ROUTE: u32 = 3;
 
-pub fn list(seed: u64) -> List {
-    let mut l = List::new("replay_route");
-    let mut r = Random::new(seed);
-    plates(&mut l, &mut r);
-    reliefs(&mut l, &mut r);
-    refusals(&mut l, &mut r);
-    l
+pub fn list(l: &mut List, r: &mut Random) {
+    plates(l, r);
+    reliefs(l, r);
+    refusals(l, r);
 }
 
 fn route(l: &mut List, size: Sides, h: &[f32], water_level: f32, room: RouteRoom) {

@@ -1,4 +1,4 @@
-//! The list of replay_runs: whole fluvial and thermal runs.
+//! The first part of the list of replay_runs: whole fluvial and thermal runs.
 use crate::list::List;
 use crate::random::Random;
 use crate::rules::runs::{gen_fluvial_erosion, gen_thermal_erosion, Run};
@@ -74,16 +74,13 @@ fn run(l: &mut List, t: &Task) -> Run {
     ended
 }
 
-pub fn list(seed: u64) -> List {
-    let mut l = List::new("replay_runs");
-    let mut r = Random::new(seed);
-    cells(&mut l);
-    reliefs(&mut l, &mut r);
-    stops(&mut l, &mut r);
-    run_offs(&mut l, &mut r);
-    refusals(&mut l, &mut r);
-    short_slices(&mut l, &mut r);
-    l
+pub fn list(l: &mut List, r: &mut Random) {
+    cells(l);
+    reliefs(l, r);
+    stops(l, r);
+    run_offs(l, r);
+    refusals(l, r);
+    short_slices(l, r);
 }
 
 /// Single cells: iterations whose questions depend on binary32, working sides, no iteration and the most.

@@ -1,4 +1,4 @@
-//! The list of replay_streams: streams, whole and damaged, with what `relief` prints.
+//! The second part of the list of replay_runs: streams, whole and damaged, with what `relief` prints.
 mod damage;
 
 use crate::list::List;
@@ -8,6 +8,8 @@ use crate::rules::Sides;
 use crate::runs::{self, Maker, Task};
 use crate::source::erosion::Settings;
 use crate::terrain::{self, grid, EXTREME, KINDS, RELIEFS, TINY};
+
+const RELIEF: u32 = 3;
 
 const BOTH: [Kind; 2] = [Kind::Fluvial, Kind::Thermal];
 
@@ -59,6 +61,7 @@ fn call(kind: Kind) -> u32 {
 /// A stream of the list, counted by what it comes to.
 fn put(l: &mut List, bytes: &[u8]) -> Printed {
     let p = relief(bytes);
+    l.ask(&[RELIEF]);
     l.ask_bytes(bytes);
     l.give_bytes(&p.bytes);
     let name = match &p.ran {
@@ -77,15 +80,12 @@ fn put(l: &mut List, bytes: &[u8]) -> Printed {
     p
 }
 
-pub fn list(seed: u64) -> List {
-    let mut l = List::new("replay_streams");
-    let mut r = Random::new(seed);
-    cells(&mut l);
-    damage::list(&mut l, &mut r);
-    reliefs(&mut l, &mut r);
-    stops(&mut l, &mut r);
-    run_offs(&mut l, &mut r);
-    l
+pub fn list(l: &mut List, r: &mut Random) {
+    cells(l);
+    damage::list(l, r);
+    reliefs(l, r);
+    stops(l, r);
+    run_offs(l, r);
 }
 
 /// Document 01's example with S 0 to 3, and other runs on one cell.

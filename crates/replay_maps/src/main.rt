@@ -1,30 +1,32 @@
-// Replays the oracle's list of the calls on maps: reads tasks, calls the library, writes the answers, which the file stdout fixes.
-// oracle/README.md has the words of each task and answer.
+// Replays the oracle's list of the calls on numbers and on maps: reads tasks, calls the library, writes the answers, which the file stdout
+// fixes. oracle/README.md has the words of each task and answer.
 use answers::Answer;
-use answers::Refusal;
 use answers::Value;
+use floats::from_bits;
 use generators::Extent;
+use generators::Go;
+use generators::Progress;
 use grid::Sides;
-ghost use mathlib.Core.Path.{_≡_};
-ghost use Prim.Native.Nat.{_≤_};
-ghost use lib.ListN.{length, take};
-
-// Room for the values of a task, each x at first.
-fn room(x: f32) -> [f32; 4100]
-    ensures { λ r. ⌜ 4100 ≡ length r ⌝ }
-{
-    [x; 4100]
-}
+use resample::Work;
+use words::answer_words;
+use words::bytes_held;
+use words::flag_word;
+use words::float_room;
+use words::low_word;
+ghost use Rattle.words.specs.Words.{Part};
 
 // The next word of the input, 0 once it has ended.
 fn word() -> u32 {
     let mut b = [0u8; 4];
     io::read_full(0, &mut b);
-    words::word(&b)
+    words::word_at(&b, 0)
 }
 
-fn next_float() -> f32 {
-    floats::from_bits(word())
+// The next length, at most that of a room.
+fn next_floats(room: &[f32]) -> usize
+    ensures { λ r. ⌜ Part r (now (room .entry)) ⌝ }
+{
+    words::floats_held(word(), room)
 }
 
 fn next_sides() -> Sides {
@@ -33,66 +35,39 @@ fn next_sides() -> Sides {
     Sides { w, h }
 }
 
-// The next length, at most that of space. The second part is what a part of space with that length asks.
-fn next_length(space: &[f32]) -> usize
-    ensures { λ r. ⌜ (r ≤ length (now (space .entry))) × (r ≡ length (take r (now (space .entry)))) ⌝ }
-{
-    let n = word() as usize;
-    let most = space.len();
-    if n < most {
-        return n;
-    }
-    most
-}
-
 fn read_floats(v: &mut [f32]) {
-    for i in 0..v.len() {
-        v[i] = next_float();
-    }
+    let mut space = io::large_buffer();
+    let n = bytes_held(4 * v.len(), &space);
+    let bytes = &mut space[..n];
+    io::read_full(0, bytes);
+    words::floats_from(bytes, v);
 }
 
-fn put(x: u32) {
-    let b = words::bytes(x);
-    io::write_all(1, &b);
-}
-
-fn put_float(x: f32) {
-    put(floats::to_bits(x));
+fn put(v: &[u32]) {
+    let mut space = io::large_buffer();
+    let n = words::cells_into(v, &mut space);
+    io::write_all(1, &space[..n]);
 }
 
 fn put_floats(v: &[f32]) {
-    for i in 0..v.len() {
-        put_float(v[i]);
-    }
-}
-
-// Every answer begins with the refusal's number, 0 if none, and the place that it carries.
-fn put_accepted() {
-    put(0);
-    put(0);
-}
-
-fn put_refusal(r: Refusal) {
-    put(answers::number(r));
-    put((answers::place(r) % 0x1_0000_0000) as u32);
+    let mut space = io::large_buffer();
+    let n = words::floats_into(v, &mut space);
+    io::write_all(1, &space[..n]);
 }
 
 fn put_answer(a: Answer) {
-    match a {
-        Answer::Done => put_accepted(),
-        Answer::Refused(r) => put_refusal(r),
-    }
+    put(&answer_words(a));
 }
 
 fn put_value(v: Value) {
     match v {
         Value::Given(x) => {
-            put_accepted();
-            put_float(x);
+            put_answer(Answer::Done);
+            put_floats(&[x]);
         }
         Value::Refused(r) => {
-            put_refusal(r);
-            put(0);
+            put_answer(Answer::Refused(r));
+            put(&[0]);
         }
     }
 }
@@ -100,31 +75,29 @@ fn put_value(v: Value) {
 fn put_extent(e: Extent) {
     match e {
         Extent::Of(m) => {
-            put_accepted();
-            put_float(m.min);
-            put_float(m.max);
+            put_answer(Answer::Done);
+            put_floats(&[m.min, m.max]);
         }
         Extent::Refused(r) => {
-            put_refusal(r);
-            put(0);
-            put(0);
+            put_answer(Answer::Refused(r));
+            put(&[0, 0]);
         }
     }
 }
 
 fn replay_get_min_max() {
-    let mut space = room(0.0);
-    let n = next_length(&space);
+    let mut space = float_room(0.0);
+    let n = next_floats(&space);
     let v = &mut space[..n];
     read_floats(v);
     put_extent(generators::get_min_max(v));
 }
 
 fn replay_normalize() {
-    let lo = next_float();
-    let hi = next_float();
-    let mut space = room(0.0);
-    let n = next_length(&space);
+    let lo = from_bits(word());
+    let hi = from_bits(word());
+    let mut space = float_room(0.0);
+    let n = next_floats(&space);
     let v = &mut space[..n];
     read_floats(v);
     put_answer(generators::normalize(v, lo, hi));
@@ -134,12 +107,12 @@ fn replay_normalize() {
 fn replay_downsample() {
     let size = next_sides();
     let dsize = next_sides();
-    let fill = next_float();
-    let mut result = room(fill);
-    let dn = next_length(&result);
+    let fill = from_bits(word());
+    let mut result = float_room(fill);
+    let dn = next_floats(&result);
     let dst = &mut result[..dn];
-    let mut space = room(0.0);
-    let n = next_length(&space);
+    let mut space = float_room(0.0);
+    let n = next_floats(&space);
     let src = &mut space[..n];
     read_floats(src);
     put_answer(downsample::downsample(src, size, dst, dsize));
@@ -149,11 +122,11 @@ fn replay_downsample() {
 fn replay_add_upsampled() {
     let size = next_sides();
     let dsize = next_sides();
-    let mut space = room(0.0);
-    let n = next_length(&space);
+    let mut space = float_room(0.0);
+    let n = next_floats(&space);
     let map = &mut space[..n];
-    let mut reduced = room(0.0);
-    let dn = next_length(&reduced);
+    let mut reduced = float_room(0.0);
+    let dn = next_floats(&reduced);
     let delta = &mut reduced[..dn];
     read_floats(map);
     read_floats(delta);
@@ -163,13 +136,59 @@ fn replay_add_upsampled() {
 
 fn replay_bilinear() {
     let size = next_sides();
-    let x = next_float();
-    let y = next_float();
-    let mut space = room(0.0);
-    let n = next_length(&space);
+    let x = from_bits(word());
+    let y = from_bits(word());
+    let mut space = float_room(0.0);
+    let n = next_floats(&space);
     let v = &mut space[..n];
     read_floats(v);
     put_value(bilinear::bilinear(v, x, y, size));
+}
+
+fn replay_root() {
+    put_value(square_root::root(from_bits(word())));
+}
+
+fn replay_work_size() {
+    let size = next_sides();
+    match resample::work_size(size, word()) {
+        Work::Of(size) => {
+            put_answer(Answer::Done);
+            put(&[low_word(size.w), low_word(size.h)]);
+        }
+        Work::Refused(r) => {
+            put_answer(Answer::Refused(r));
+            put(&[0, 0]);
+        }
+    }
+}
+
+fn put_go(go: Go) {
+    match go {
+        Go::On => put(&[0, 0, 1]),
+        Go::Stop => put(&[0, 0, 0]),
+        Go::Refused(r) => {
+            put_answer(Answer::Refused(r));
+            put(&[0]);
+        }
+    }
+}
+
+fn replay_report() {
+    let last = from_bits(word());
+    let asked = word();
+    let stopped = word() == 1;
+    let p = from_bits(word());
+    let reported = Progress {
+        last,
+        asked,
+        stopped,
+    }.report(p, word());
+    let go = reported.go;
+    put_go(go);
+    let progress = reported.progress;
+    put_floats(&[progress.last]);
+    put(&[progress.asked, flag_word(progress.stopped)]);
 }
 
 // Replays one task. Answers false at the end of the list.
@@ -181,6 +200,9 @@ fn replay_task() -> bool {
         3 => replay_downsample(),
         4 => replay_add_upsampled(),
         5 => replay_bilinear(),
+        6 => replay_root(),
+        7 => replay_work_size(),
+        8 => replay_report(),
         _ => return false,
     }
     true

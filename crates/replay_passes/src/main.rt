@@ -1,38 +1,43 @@
-// Replays the oracle's list of single incisions and talus passes: reads tasks, calls the library, writes the answers, which the file stdout fixes.
-// oracle/README.md has the words of each task and answer.
+// Replays the oracle's list of networks, single incisions and talus passes: reads tasks, calls the library, writes the answers, which the file
+// stdout fixes. oracle/README.md has the words of each task and answer.
 use answers::Answer;
-use answers::Refusal;
+use floats::from_bits;
 use fluvial_erosion::FluvialParams;
 use generators::Progress;
 use grid::Sides;
 use thermal_erosion::ThermalParams;
-ghost use mathlib.Core.Path.{_≡_};
-ghost use Prim.Native.Nat.{_≤_};
-ghost use lib.ListN.{length, take};
-
-// Room for the heights of a task, each x at first.
-fn room(x: f32) -> [f32; 10500]
-    ensures { λ r. ⌜ 10500 ≡ length r ⌝ }
-{
-    [x; 10500]
-}
-
-// Room for receivers and lists.
-fn cells() -> [u32; 10500]
-    ensures { λ r. ⌜ 10500 ≡ length r ⌝ }
-{
-    [0; 10500]
-}
+use words::answer_words;
+use words::bytes_held;
+use words::cell_room;
+use words::flag_word;
+use words::float_room;
+use words::state_room;
+ghost use Rattle.words.specs.Words.{Part};
 
 // The next word of the input, 0 once it has ended.
 fn word() -> u32 {
     let mut b = [0u8; 4];
     io::read_full(0, &mut b);
-    words::word(&b)
+    words::word_at(&b, 0)
 }
 
-fn next_float() -> f32 {
-    floats::from_bits(word())
+// The next length, at most that of a room.
+fn next_floats(room: &[f32]) -> usize
+    ensures { λ r. ⌜ Part r (now (room .entry)) ⌝ }
+{
+    words::floats_held(word(), room)
+}
+
+fn next_cells(room: &[u32]) -> usize
+    ensures { λ r. ⌜ Part r (now (room .entry)) ⌝ }
+{
+    words::cells_held(word(), room)
+}
+
+fn next_states(room: &[u8]) -> usize
+    ensures { λ r. ⌜ Part r (now (room .entry)) ⌝ }
+{
+    bytes_held(word() as usize, room)
 }
 
 fn next_sides() -> Sides {
@@ -41,80 +46,36 @@ fn next_sides() -> Sides {
     Sides { w, h }
 }
 
-// n, or the most where n is more.
-fn shorter(n: usize, most: usize) -> usize
-    ensures { λ r. ⌜ r ≤ most ⌝ }
-{
-    if n < most {
-        return n;
-    }
-    most
-}
-
-// The next length, at most that of space. The second part is what a part of space with that length asks.
-fn next_length(space: &[f32]) -> usize
-    ensures { λ r. ⌜ (r ≤ length (now (space .entry))) × (r ≡ length (take r (now (space .entry)))) ⌝ }
-{
-    let n = word() as usize;
-    shorter(n, space.len())
-}
-
-fn next_cells(space: &[u32]) -> usize
-    ensures { λ r. ⌜ (r ≤ length (now (space .entry))) × (r ≡ length (take r (now (space .entry)))) ⌝ }
-{
-    let n = word() as usize;
-    shorter(n, space.len())
-}
-
 fn read_floats(v: &mut [f32]) {
-    for i in 0..v.len() {
-        v[i] = next_float();
-    }
+    let mut space = io::large_buffer();
+    let n = bytes_held(4 * v.len(), &space);
+    let bytes = &mut space[..n];
+    io::read_full(0, bytes);
+    words::floats_from(bytes, v);
 }
 
 fn read_cells(v: &mut [u32]) {
-    for i in 0..v.len() {
-        v[i] = word();
-    }
+    let mut space = io::large_buffer();
+    let n = bytes_held(4 * v.len(), &space);
+    let bytes = &mut space[..n];
+    io::read_full(0, bytes);
+    words::cells_from(bytes, v);
 }
 
-fn put(x: u32) {
-    let b = words::bytes(x);
-    io::write_all(1, &b);
-}
-
-fn put_float(x: f32) {
-    put(floats::to_bits(x));
+fn put(v: &[u32]) {
+    let mut space = io::large_buffer();
+    let n = words::cells_into(v, &mut space);
+    io::write_all(1, &space[..n]);
 }
 
 fn put_floats(v: &[f32]) {
-    for i in 0..v.len() {
-        put_float(v[i]);
-    }
+    let mut space = io::large_buffer();
+    let n = words::floats_into(v, &mut space);
+    io::write_all(1, &space[..n]);
 }
 
-fn put_flag(x: bool) {
-    if x {
-        put(1);
-    } else {
-        put(0);
-    }
-}
-
-fn put_refusal(r: Refusal) {
-    put(answers::number(r));
-    put((answers::place(r) % 0x1_0000_0000) as u32);
-}
-
-// Every answer begins with the refusal's number, 0 if none, and the place that it carries.
 fn put_answer(a: Answer) {
-    match a {
-        Answer::Done => {
-            put(0);
-            put(0);
-        }
-        Answer::Refused(r) => put_refusal(r),
-    }
+    put(&answer_words(a));
 }
 
 // The result slice, which is free on 21 and 22 and not written then.
@@ -129,27 +90,10 @@ fn put_result(a: Answer, v: &[f32]) {
     }
 }
 
-fn next_progress() -> Progress {
-    let last = next_float();
-    let asked = word();
-    let stopped = word() == 1;
-    Progress {
-        last,
-        asked,
-        stopped,
-    }
-}
-
-fn put_progress(m: Progress) {
-    put_float(m.last);
-    put(m.asked);
-    put_flag(m.stopped);
-}
-
 fn next_incision() -> FluvialParams {
-    let k = next_float();
-    let uplift = next_float();
-    let water_level = next_float();
+    let k = from_bits(word());
+    let uplift = from_bits(word());
+    let water_level = from_bits(word());
     FluvialParams {
         k,
         uplift,
@@ -160,20 +104,20 @@ fn next_incision() -> FluvialParams {
 fn replay_incise() {
     let size = next_sides();
     let params = next_incision();
-    let fill = next_float();
-    let mut result = room(fill);
-    let out_n = next_length(&result);
+    let fill = from_bits(word());
+    let mut result = float_room(fill);
+    let out_n = next_floats(&result);
     let out = &mut result[..out_n];
-    let mut scratch = room(fill);
-    let area_n = next_length(&scratch);
+    let mut scratch = float_room(fill);
+    let area_n = next_floats(&scratch);
     let area = &mut scratch[..area_n];
-    let mut space = room(0.0);
-    let n = next_length(&space);
+    let mut space = float_room(0.0);
+    let n = next_floats(&space);
     let h = &mut space[..n];
-    let mut receivers = cells();
+    let mut receivers = cell_room(0);
     let recv_n = next_cells(&receivers);
     let recv = &mut receivers[..recv_n];
-    let mut list = cells();
+    let mut list = cell_room(0);
     let list_n = next_cells(&list);
     let order = &mut list[..list_n];
     read_floats(h);
@@ -185,9 +129,9 @@ fn replay_incise() {
 }
 
 fn next_talus() -> ThermalParams {
-    let threshold = next_float();
-    let strength = next_float();
-    let water_level = next_float();
+    let threshold = from_bits(word());
+    let strength = from_bits(word());
+    let water_level = from_bits(word());
     ThermalParams {
         threshold,
         strength,
@@ -195,18 +139,34 @@ fn next_talus() -> ThermalParams {
     }
 }
 
+fn next_progress() -> Progress {
+    let last = from_bits(word());
+    let asked = word();
+    let stopped = word() == 1;
+    Progress {
+        last,
+        asked,
+        stopped,
+    }
+}
+
+fn put_progress(m: Progress) {
+    put_floats(&[m.last]);
+    put(&[m.asked, flag_word(m.stopped)]);
+}
+
 fn replay_slide_pass() {
     let size = next_sides();
     let params = next_talus();
-    let from = next_float();
-    let to = next_float();
+    let from = from_bits(word());
+    let to = from_bits(word());
     let m = next_progress();
     let stop = word();
-    let mut result = room(next_float());
-    let out_n = next_length(&result);
+    let mut result = float_room(from_bits(word()));
+    let out_n = next_floats(&result);
     let out = &mut result[..out_n];
-    let mut space = room(0.0);
-    let n = next_length(&space);
+    let mut space = float_room(0.0);
+    let n = next_floats(&space);
     let h = &mut space[..n];
     read_floats(h);
     let slid = thermal_erosion::slide_pass(size, h, out, params, from, to, m, stop);
@@ -216,12 +176,56 @@ fn replay_slide_pass() {
     put_result(answer, out);
 }
 
+fn replay_route() {
+    let size = next_sides();
+    let water_level = from_bits(word());
+    let fill = word();
+    let mut order_room = cell_room(fill);
+    let order_n = next_cells(&order_room);
+    let order = &mut order_room[..order_n];
+    let mut recv_room = cell_room(fill);
+    let recv_n = next_cells(&recv_room);
+    let recv = &mut recv_room[..recv_n];
+    let mut spill_room = float_room(from_bits(fill));
+    let spill_n = next_floats(&spill_room);
+    let spill = &mut spill_room[..spill_n];
+    let mut area_room = float_room(from_bits(fill));
+    let area_n = next_floats(&area_room);
+    let area = &mut area_room[..area_n];
+    let mut queue_room = cell_room(fill);
+    let queue_n = next_cells(&queue_room);
+    let queue = &mut queue_room[..queue_n];
+    let mut status_room = state_room((fill % 256) as u8);
+    let status_n = next_states(&status_room);
+    let status = &mut status_room[..status_n];
+    let mut space = float_room(0.0);
+    let n = next_floats(&space);
+    let h = &mut space[..n];
+    read_floats(h);
+    put_answer(flow::route(
+        size,
+        h,
+        water_level,
+        order,
+        recv,
+        spill,
+        area,
+        queue,
+        status,
+    ));
+    put(order);
+    put(recv);
+    put_floats(spill);
+    put_floats(area);
+}
+
 // Replays one task. Answers false at the end of the list.
 fn replay_task() -> bool {
     let call = word();
     match call {
         1 => replay_incise(),
         2 => replay_slide_pass(),
+        3 => replay_route(),
         _ => return false,
     }
     true

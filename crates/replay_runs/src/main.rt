@@ -1,43 +1,43 @@
-// Replays the oracle's list of whole runs: reads tasks, calls the library, writes the answers, which the file stdout fixes.
+// Replays the oracle's list of whole runs and of streams: reads tasks, calls the library, writes the answers, which the file stdout fixes.
 // oracle/README.md has the words of each task and answer.
 use answers::Answer;
-use answers::Refusal;
 use erosion::RunAnswer;
+use floats::from_bits;
 use grid::Sides;
+use output::Written;
 use runs::FluvialSettings;
 use runs::ThermalSettings;
-ghost use mathlib.Core.Path.{_≡_};
-ghost use Prim.Native.Nat.{_≤_};
-ghost use lib.ListN.{length, take};
-
-// Room for the values of a task: heights, cells and states, each x at first.
-fn room(x: f32) -> [f32; 4100]
-    ensures { λ r. ⌜ 4100 ≡ length r ⌝ }
-{
-    [x; 4100]
-}
-
-fn cells(x: u32) -> [u32; 4100]
-    ensures { λ r. ⌜ 4100 ≡ length r ⌝ }
-{
-    [x; 4100]
-}
-
-fn states(x: u8) -> [u8; 4100]
-    ensures { λ r. ⌜ 4100 ≡ length r ⌝ }
-{
-    [x; 4100]
-}
+use words::answer_words;
+use words::bytes_held;
+use words::cell_room;
+use words::float_room;
+use words::state_room;
+ghost use Rattle.words.specs.Words.{Part};
 
 // The next word of the input, 0 once it has ended.
 fn word() -> u32 {
     let mut b = [0u8; 4];
     io::read_full(0, &mut b);
-    words::word(&b)
+    words::word_at(&b, 0)
 }
 
-fn next_float() -> f32 {
-    floats::from_bits(word())
+// The next length, at most that of a room.
+fn next_floats(room: &[f32]) -> usize
+    ensures { λ r. ⌜ Part r (now (room .entry)) ⌝ }
+{
+    words::floats_held(word(), room)
+}
+
+fn next_cells(room: &[u32]) -> usize
+    ensures { λ r. ⌜ Part r (now (room .entry)) ⌝ }
+{
+    words::cells_held(word(), room)
+}
+
+fn next_states(room: &[u8]) -> usize
+    ensures { λ r. ⌜ Part r (now (room .entry)) ⌝ }
+{
+    bytes_held(word() as usize, room)
 }
 
 fn next_sides() -> Sides {
@@ -46,84 +46,41 @@ fn next_sides() -> Sides {
     Sides { w, h }
 }
 
-// n, or the most where n is more.
-fn shorter(n: usize, most: usize) -> usize
-    ensures { λ r. ⌜ r ≤ most ⌝ }
-{
-    if n < most {
-        return n;
-    }
-    most
-}
-
-// The next length, at most that of space. The second part is what a part of space with that length asks.
-fn next_length(space: &[f32]) -> usize
-    ensures { λ r. ⌜ (r ≤ length (now (space .entry))) × (r ≡ length (take r (now (space .entry)))) ⌝ }
-{
-    let n = word() as usize;
-    shorter(n, space.len())
-}
-
-fn next_cells(space: &[u32]) -> usize
-    ensures { λ r. ⌜ (r ≤ length (now (space .entry))) × (r ≡ length (take r (now (space .entry)))) ⌝ }
-{
-    let n = word() as usize;
-    shorter(n, space.len())
-}
-
-fn next_states(space: &[u8]) -> usize
-    ensures { λ r. ⌜ (r ≤ length (now (space .entry))) × (r ≡ length (take r (now (space .entry)))) ⌝ }
-{
-    let n = word() as usize;
-    shorter(n, space.len())
-}
-
 fn read_floats(v: &mut [f32]) {
-    for i in 0..v.len() {
-        v[i] = next_float();
-    }
+    let mut space = io::large_buffer();
+    let n = bytes_held(4 * v.len(), &space);
+    let bytes = &mut space[..n];
+    io::read_full(0, bytes);
+    words::floats_from(bytes, v);
 }
 
-fn put(x: u32) {
-    let b = words::bytes(x);
-    io::write_all(1, &b);
+fn put(v: &[u32]) {
+    let mut space = io::large_buffer();
+    let n = words::cells_into(v, &mut space);
+    io::write_all(1, &space[..n]);
 }
 
 fn put_floats(v: &[f32]) {
-    for i in 0..v.len() {
-        put(floats::to_bits(v[i]));
-    }
+    let mut space = io::large_buffer();
+    let n = words::floats_into(v, &mut space);
+    io::write_all(1, &space[..n]);
 }
 
-fn put_refusal(r: Refusal) {
-    put(answers::number(r));
-    put((answers::place(r) % 0x1_0000_0000) as u32);
-}
-
-// Every answer begins with the refusal's number, 0 if none, and the place that it carries.
 fn put_answer(a: Answer) {
-    match a {
-        Answer::Done => {
-            put(0);
-            put(0);
-        }
-        Answer::Refused(r) => put_refusal(r),
-    }
+    put(&answer_words(a));
 }
 
 fn put_ended(r: RunAnswer) {
     let answer = r.answer;
     put_answer(answer);
-    put(r.incisions);
-    put(r.passes);
-    put(r.questions);
+    put(&[r.incisions, r.passes, r.questions]);
 }
 
 fn next_fluvial() -> FluvialSettings {
-    let water_level = next_float();
-    let strength = next_float();
-    let talus = next_float();
-    let uplift = next_float();
+    let water_level = from_bits(word());
+    let strength = from_bits(word());
+    let talus = from_bits(word());
+    let uplift = from_bits(word());
     let iterations = word();
     let work_res = word();
     FluvialSettings {
@@ -141,33 +98,33 @@ fn replay_fluvial() {
     let conf = next_fluvial();
     let stop = word();
     let fill = word();
-    let height = floats::from_bits(fill);
-    let mut small_room = room(height);
-    let small_n = next_length(&small_room);
+    let height = from_bits(fill);
+    let mut small_room = float_room(height);
+    let small_n = next_floats(&small_room);
     let small = &mut small_room[..small_n];
-    let mut eroded_room = room(height);
-    let eroded_n = next_length(&eroded_room);
+    let mut eroded_room = float_room(height);
+    let eroded_n = next_floats(&eroded_room);
     let eroded = &mut eroded_room[..eroded_n];
-    let mut copy_room = room(height);
-    let copy_n = next_length(&copy_room);
+    let mut copy_room = float_room(height);
+    let copy_n = next_floats(&copy_room);
     let copy = &mut copy_room[..copy_n];
-    let mut area_room = room(height);
-    let area_n = next_length(&area_room);
+    let mut area_room = float_room(height);
+    let area_n = next_floats(&area_room);
     let area = &mut area_room[..area_n];
-    let mut order_room = cells(fill);
+    let mut order_room = cell_room(fill);
     let order_n = next_cells(&order_room);
     let order = &mut order_room[..order_n];
-    let mut recv_room = cells(fill);
+    let mut recv_room = cell_room(fill);
     let recv_n = next_cells(&recv_room);
     let recv = &mut recv_room[..recv_n];
-    let mut queue_room = cells(fill);
+    let mut queue_room = cell_room(fill);
     let queue_n = next_cells(&queue_room);
     let queue = &mut queue_room[..queue_n];
-    let mut status_room = states((fill % 256) as u8);
+    let mut status_room = state_room((fill % 256) as u8);
     let status_n = next_states(&status_room);
     let status = &mut status_room[..status_n];
-    let mut space = room(0.0);
-    let n = next_length(&space);
+    let mut space = float_room(0.0);
+    let n = next_floats(&space);
     let hmap = &mut space[..n];
     read_floats(hmap);
     put_ended(fluvial_run::gen_fluvial_erosion(
@@ -188,9 +145,9 @@ fn replay_fluvial() {
 }
 
 fn next_thermal() -> ThermalSettings {
-    let water_level = next_float();
-    let talus = next_float();
-    let strength = next_float();
+    let water_level = from_bits(word());
+    let talus = from_bits(word());
+    let strength = from_bits(word());
     let iterations = word();
     let work_res = word();
     ThermalSettings {
@@ -206,22 +163,50 @@ fn replay_thermal() {
     let size = next_sides();
     let conf = next_thermal();
     let stop = word();
-    let fill = next_float();
-    let mut small_room = room(fill);
-    let small_n = next_length(&small_room);
+    let fill = from_bits(word());
+    let mut small_room = float_room(fill);
+    let small_n = next_floats(&small_room);
     let small = &mut small_room[..small_n];
-    let mut eroded_room = room(fill);
-    let eroded_n = next_length(&eroded_room);
+    let mut eroded_room = float_room(fill);
+    let eroded_n = next_floats(&eroded_room);
     let eroded = &mut eroded_room[..eroded_n];
-    let mut copy_room = room(fill);
-    let copy_n = next_length(&copy_room);
+    let mut copy_room = float_room(fill);
+    let copy_n = next_floats(&copy_room);
     let copy = &mut copy_room[..copy_n];
-    let mut space = room(0.0);
-    let n = next_length(&space);
+    let mut space = float_room(0.0);
+    let n = next_floats(&space);
     let hmap = &mut space[..n];
     read_floats(hmap);
     put_ended(thermal_run::gen_thermal_erosion(size, hmap, conf, stop, small, eroded, copy));
     put_floats(hmap);
+}
+
+// An output: its length, and its bytes.
+fn put_output(bytes: &[u8]) {
+    put(&[words::low_word(bytes.len())]);
+    io::write_all(1, bytes);
+}
+
+// The output has room, so the writer does not refuse; the list has no output without a byte.
+fn put_relief(bytes: &[u8]) {
+    let mut out = io::large_buffer();
+    let written = stream_run::relief(bytes, &mut out);
+    match written {
+        Written::Bytes(n) => {
+            let n = bytes_held(n, &out);
+            put_output(&out[..n]);
+        }
+        Written::Refused(_) => put(&[0]),
+    }
+}
+
+// A stream of at most 65,536 bytes.
+fn replay_relief() {
+    let mut space = io::large_buffer();
+    let n = next_states(&space);
+    let bytes = &mut space[..n];
+    io::read_full(0, bytes);
+    put_relief(bytes);
 }
 
 // Replays one task. Answers false at the end of the list.
@@ -230,6 +215,7 @@ fn replay_task() -> bool {
     match call {
         1 => replay_fluvial(),
         2 => replay_thermal(),
+        3 => replay_relief(),
         _ => return false,
     }
     true

@@ -1,2 +1,2 @@
--- Laws of the definitions in specs/Words.antt.
+-- Laws of the words.
 pub mod WordLaws

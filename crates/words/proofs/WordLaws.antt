@@ -1,9 +1,76 @@
--- Bytes and number go over into each other.
-use Prim.Native.Nat.{ℕ}
-use mathlib.Core.Path.{_≡_}
+-- A loop that writes words one behind the other: its invariant, at the start, after one word and at the end.
+use Prim.Native.Nat.{ℕ, zero, suc, _+_, _*_, _/_, _%_, _≤_, _<_}
+use mathlib.Core.Path.{_≡_, refl, sym, ap, ap₂, _∙_}
+use mathlib.Core.List.{List, [], _∷_, _++_}
+use native.Mathlib.Numerals.{add-one}
 use native.Mathlib.Omega.{arith}
-use Rattle.words.specs.Words.{wordOf, bytesOf}
+use borrow.Author.Tests.{lt-ltb, le-ltb}
+use lib.ListN.{length, length-append}
+use lib.Seq.{sets, length-sets, length-take-le}
+use Rattle.answers.specs.Outcome.{numberOf, placeOf}
+use Rattle.answers.specs.declared.Answer.{Answer}
+use Rattle.answers.specs.declared.Refusal.{Refusal}
+use Rattle.stream_bytes.specs.Bytes.{number4, bytes4}
+use Rattle.stream_bytes.proofs.PutLaws.{sets-next}
+use Rattle.words.specs.Words.{Part, wordAt, wordBytes, answerWords}
 
--- the bytes of a number are that number's
-pub word-bytes : (x : ℕ) → wordOf (bytesOf x) ≡ x
-word-bytes x = omega arith
+-- a length within a list
+pub part : {A : Type 0} (n : ℕ) (l : List A) → n ≤ length l → Part n l
+part n l h = (h, sym (length-take-le n l h))
+
+-- a word that has ended, and one that has not
+pub word-ended : (b : List ℕ) (at : ℕ) → length b < at + 4 → 0 ≡ wordAt b at
+word-ended b at h = sym (rw (lt-ltb (length b) (at + 4) h))
+
+pub word-held : (b : List ℕ) (at : ℕ) → at + 4 ≤ length b → {x : ℕ} → x ≡ number4 b at → x ≡ wordAt b at
+word-held b at h e = e ∙ sym (rw (le-ltb (length b) (at + 4) h))
+
+module _ (f : ℕ → ℕ) where
+  pub words-length : (n : ℕ) → length (wordBytes n f) ≡ 4 * n
+  unfolding wordBytes
+  words-length zero = refl
+  words-length (suc n) = length-append (wordBytes n f) (bytes4 (f n)) ∙ omega (arith, words-length n)
+
+-- the words before i
+module _ (old : List ℕ) (at n : ℕ) (f : ℕ → ℕ) where
+  pub record WordsPut (i : ℕ) (new : List ℕ) : Type 0 where
+    pub within : i ≤ n
+    pub held : new ≡ sets old at (wordBytes i f)
+
+  pub words-none : WordsPut 0 old
+  unfolding wordBytes
+  words-none = record { within = omega arith; held = refl }
+
+  module _ {i : ℕ} {new : List ℕ} (p : WordsPut i new) where
+    pub words-kept : length new ≡ length old
+    words-kept = ap length (p .held) ∙ length-sets old at (wordBytes i f)
+
+    pub words-more : i < n → {v j : ℕ} → v ≡ f i → j ≡ at + 4 * i → {b : List ℕ} → b ≡ sets new j (bytes4 v) → WordsPut (i + 1) b
+    unfolding wordBytes
+    words-more l {v} {j} e k {b} g =
+        record {
+          within = omega arith;
+          held =
+              sets-next old at (wordBytes i f) (bytes4 v) j (omega (arith, k, words-length f i)) (p .held) g
+              ∙ ap (λ (v : ℕ). sets old at (wordBytes i f ++ bytes4 v)) e
+              ∙ ap (λ (k : ℕ). sets old at (wordBytes k f)) (sym (add-one i));
+        }
+
+    pub words-done : n ≤ i → new ≡ sets old at (wordBytes n f)
+    words-done l =
+        let e : i ≡ n = omega (arith, p .within) in
+        p .held ∙ ap (λ (k : ℕ). sets old at (wordBytes k f)) e
+
+-- the words that fit, written to the front
+pub into : (old : List ℕ) (k : ℕ) (f : ℕ → ℕ) {r : ℕ} {new : List ℕ} → r ≤ length old / 4 → r ≡ k → new ≡ sets old 0 (wordBytes r f)
+    → Part (4 * r) new × ((4 * r ≡ 4 * k) × (new ≡ sets old 0 (wordBytes k f)))
+into old k f {r} {new} h e g =
+    let s : length new ≡ length old = ap length g ∙ length-sets old 0 (wordBytes r f) in
+    (part (4 * r) new (omega arith), (ap (λ (z : ℕ). 4 * z) e, g ∙ ap (λ (z : ℕ). sets old 0 (wordBytes z f)) e))
+
+-- the words of both kinds of answer
+pub answer-done : {a : Answer} → a ≡ Answer.Done → (0 ∷ 0 ∷ []) ≡ answerWords a
+answer-done e = sym (ap answerWords e)
+
+pub answer-refused : {a : Answer} {r : Refusal} → a ≡ Answer.Refused r → {n p : ℕ} → n ≡ numberOf r → p ≡ placeOf r → (n ∷ p % 0x1_0000_0000 ∷ []) ≡ answerWords a
+answer-refused e f g = ap₂ (λ (n p : ℕ). n ∷ p % 0x1_0000_0000 ∷ []) f g ∙ sym (ap answerWords e)

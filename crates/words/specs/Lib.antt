@@ -1,2 +1,2 @@
--- Numbers as bytes.
+-- The words of the replay lists.
 pub mod Words

@@ -1,12 +1,43 @@
--- Document 01, 'The stream': numbers are low byte first.
-use Prim.Native.Nat.{ℕ, _+_, _*_, _/_, _%_}
-use mathlib.Core.List.{List, [], _∷_}
-use lib.ListN.{getD}
+-- The words of the replay lists stand as document 01's stream has its numbers, low byte first; a float is its bits.
+use Prim.Native.Nat.{ℕ, zero, suc, _+_, _*_, _/_, _%_, _≤_, min}
+use mathlib.Core.Path.{_≡_}
+use mathlib.Core.Bool.{cond}
+use mathlib.Core.List.{List, [], _∷_, _++_}
+use lib.Dec.{ltb}
+use lib.ListN.{length, getD, take}
+use lib.Ieee.{Float, nan, binary32, ofBits, toBits}
+use Rattle.answers.specs.Outcome.{numberIn, placeIn, answerOf}
+use Rattle.answers.specs.declared.Answer.{Answer}
+use Rattle.stream_bytes.specs.Bytes.{number4, bytes4}
 
--- the number of four bytes
-abbrev pub wordOf : List ℕ → ℕ
-wordOf b = getD b 0 0 + 256 * getD b 1 0 + 65536 * getD b 2 0 + 16777216 * getD b 3 0
+-- n counts values at the front of a list; the second part follows from the first, and both are what a part of a slice asks
+abbrev pub Part : {A : Type 0} → ℕ → List A → Type 0
+Part n l = (n ≤ length l) × (n ≡ length (take n l))
 
--- the four bytes of a number below 2^32 (`word-bytes` in proofs/WordLaws.antt gives the number back)
-abbrev pub bytesOf : ℕ → List ℕ
-bytesOf x = x % 256 ∷ x / 256 % 256 ∷ x / 65536 % 256 ∷ x / 16777216 ∷ []
+-- the word at a place, 0 where the bytes have ended
+abbrev pub wordAt : List ℕ → ℕ → ℕ
+wordAt b at = cond (ltb (length b) (at + 4)) 0 (number4 b at)
+
+-- the float of word i
+abbrev pub floatAt : List ℕ → ℕ → Float
+floatAt b i = ofBits binary32 (wordAt b (4 * i))
+
+-- the bits of the floats from one on, and the cells
+abbrev pub bitsAt : List Float → ℕ → ℕ → ℕ
+bitsAt v from i = toBits binary32 (getD v (from + i) nan)
+
+abbrev pub cellAt : List ℕ → ℕ → ℕ
+cellAt v i = getD v i 0
+
+-- the bytes of the first n words
+unfoldable pub wordBytes : ℕ → (ℕ → ℕ) → List ℕ
+wordBytes zero f = []
+wordBytes (suc n) f = wordBytes n f ++ bytes4 (f n)
+
+-- how many words of a list fit into the bytes
+abbrev pub fitting : {A : Type 0} → List A → List ℕ → ℕ
+fitting v b = min (length v) (length b / 4)
+
+-- the number of an answer and the place that it carries
+abbrev pub answerWords : Answer → List ℕ
+answerWords a = numberIn (answerOf a) ∷ placeIn (answerOf a) % 0x1_0000_0000 ∷ []

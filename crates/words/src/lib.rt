@@ -1,29 +1,174 @@
-// Numbers of four bytes, low byte first, as document 01's stream has them.
+// The words of the replay lists, numbers of four bytes, low byte first: slices and answers to bytes and back, and room for them.
+use answers::Answer;
+use answers::number;
+use answers::place;
+use floats::from_bits;
+use floats::to_bits;
+use stream_bytes::put_u32;
+use stream_bytes::read_u32;
 ghost use mathlib.Core.Path.{_≡_};
-ghost use Prim.Native.Nat.{_<_};
-ghost use Rattle.words.specs.Words.{wordOf, bytesOf};
+ghost use Prim.Native.Nat.{_+_, _*_, _/_, _%_, _≤_, min};
+ghost use mathlib.Core.Bool.{cond};
+ghost use lib.ListN.{length, replicate};
+ghost use lib.Seq.{sets};
+ghost use Rattle.lists.specs.Loops.{tabulate};
+ghost use Rattle.words.specs.Words.{wordAt, floatAt, bitsAt, cellAt, wordBytes, fitting, answerWords, Part};
 
-fn wide(x: u8) -> u32
-    ensures { λ r. ⌜ (r ≡ x) × (r < 256) ⌝ }
+// 10,500 values, as many as the longest slice of the lists has, each x.
+pub fn float_room(x: f32) -> [f32; 10500]
+    ensures { λ r. ⌜ 10500 ≡ length r ⌝ }
+    ensures { λ r. ⌜ r ≡ replicate 10500 x ⌝ }
 {
-    x as u32
+    [x; 10500]
 }
 
-// The number of four bytes.
-pub fn word(b: &[u8; 4]) -> u32
-    ensures { λ r. ⌜ r ≡ wordOf (now (b .entry)) ⌝ }
+pub fn cell_room(x: u32) -> [u32; 10500]
+    ensures { λ r. ⌜ 10500 ≡ length r ⌝ }
+    ensures { λ r. ⌜ r ≡ replicate 10500 x ⌝ }
 {
-    wide(b[0]) + 256 * wide(b[1]) + 65536 * wide(b[2]) + 16777216 * wide(b[3])
+    [x; 10500]
 }
 
-// The four bytes of a number.
-pub fn bytes(x: u32) -> [u8; 4]
-    ensures { λ r. ⌜ r ≡ bytesOf x ⌝ }
+pub fn state_room(x: u8) -> [u8; 10500]
+    ensures { λ r. ⌜ 10500 ≡ length r ⌝ }
+    ensures { λ r. ⌜ r ≡ replicate 10500 x ⌝ }
 {
-    [
-        (x % 256) as u8,
-        (x / 256 % 256) as u8,
-        (x / 65536 % 256) as u8,
-        (x / 16777216) as u8,
-    ]
+    [x; 10500]
+}
+
+// The lesser number.
+fn least(a: usize, b: usize) -> usize
+    ensures { λ r. ⌜ r ≤ a ⌝ }
+    ensures { λ r. ⌜ r ≤ b ⌝ }
+    ensures { λ r. ⌜ r ≡ min a b ⌝ }
+{
+    if a < b { a } else { b }
+}
+
+// n, at most the length of a room. The first fact is what a part of the room with that length asks.
+pub fn floats_held(n: u32, room: &[f32]) -> usize
+    ensures { λ r. ⌜ Part r (now (room .entry)) ⌝ }
+    ensures { λ r. ⌜ r ≡ min n (length (now (room .entry))) ⌝ }
+{
+    least(n as usize, room.len())
+}
+
+pub fn cells_held(n: u32, room: &[u32]) -> usize
+    ensures { λ r. ⌜ Part r (now (room .entry)) ⌝ }
+    ensures { λ r. ⌜ r ≡ min n (length (now (room .entry))) ⌝ }
+{
+    least(n as usize, room.len())
+}
+
+pub fn bytes_held(n: usize, room: &[u8]) -> usize
+    ensures { λ r. ⌜ Part r (now (room .entry)) ⌝ }
+    ensures { λ r. ⌜ r ≡ min n (length (now (room .entry))) ⌝ }
+{
+    least(n, room.len())
+}
+
+// The word at a place, 0 where the bytes end before its last one.
+pub fn word_at(bytes: &[u8], at: usize) -> u32
+    ensures { λ r. ⌜ r ≡ wordAt (now (bytes .entry)) at ⌝ }
+{
+    if bytes.len() < 4 {
+        return 0;
+    }
+    if bytes.len() - 4 < at {
+        return 0;
+    }
+    read_u32(bytes, at)
+}
+
+// Every value of a slice is the float or the cell of the next word.
+pub fn floats_from(bytes: &[u8], v: &mut [f32])
+    ensures { λ _. ⌜ now (v .exit) ≡ tabulate (length (now (v .entry))) (floatAt (now (bytes .entry))) ⌝ }
+{
+    let n = v.len();
+    let mut i: usize = 0;
+    while i < n {
+        v[i] = from_bits(word_at(bytes, 4 * i));
+        i += 1;
+    }
+}
+
+pub fn cells_from(bytes: &[u8], v: &mut [u32])
+    ensures { λ _. ⌜ now (v .exit) ≡ tabulate (length (now (v .entry))) (λ i. wordAt (now (bytes .entry)) (4 * i)) ⌝ }
+{
+    let n = v.len();
+    let mut i: usize = 0;
+    while i < n {
+        v[i] = word_at(bytes, 4 * i);
+        i += 1;
+    }
+}
+
+// The bits of n floats from one on, at a place.
+pub fn put_floats(out: &mut [u8], at: usize, v: &[f32], from: usize, n: usize)
+    requires { ⌜ at + 4 * n ≤ length (now out) ⌝ }
+    requires { ⌜ from + n ≤ length (now v) ⌝ }
+    ensures { λ _. ⌜ now (out .exit) ≡ sets (now (out .entry)) at (wordBytes n (bitsAt (now (v .entry)) from)) ⌝ }
+{
+    let mut i: usize = 0;
+    while i < n {
+        put_u32(out, at + 4 * i, to_bits(v[from + i]));
+        i += 1;
+    }
+}
+
+// The first n cells, at the front.
+pub fn put_cells(out: &mut [u8], v: &[u32], n: usize)
+    requires { ⌜ 4 * n ≤ length (now out) ⌝ }
+    requires { ⌜ n ≤ length (now v) ⌝ }
+    ensures { λ _. ⌜ now (out .exit) ≡ sets (now (out .entry)) 0 (wordBytes n (cellAt (now (v .entry)))) ⌝ }
+{
+    let mut i: usize = 0;
+    while i < n {
+        put_u32(out, 4 * i, v[i]);
+        i += 1;
+    }
+}
+
+// Writes a slice's words to the front of the bytes, as many as fit, and answers how many bytes they take.
+pub fn floats_into(v: &[f32], out: &mut [u8]) -> usize
+    ensures { λ r. ⌜ Part r (now (out .exit)) ⌝ }
+    ensures { λ r. ⌜ r ≡ 4 * fitting (now (v .entry)) (now (out .entry)) ⌝ }
+    ensures { λ _. ⌜ now (out .exit) ≡ sets (now (out .entry)) 0 (wordBytes (fitting (now (v .entry)) (now (out .entry))) (bitsAt (now (v .entry)) 0)) ⌝ }
+{
+    let n = least(v.len(), out.len() / 4);
+    put_floats(out, 0, v, 0, n);
+    4 * n
+}
+
+pub fn cells_into(v: &[u32], out: &mut [u8]) -> usize
+    ensures { λ r. ⌜ Part r (now (out .exit)) ⌝ }
+    ensures { λ r. ⌜ r ≡ 4 * fitting (now (v .entry)) (now (out .entry)) ⌝ }
+    ensures { λ _. ⌜ now (out .exit) ≡ sets (now (out .entry)) 0 (wordBytes (fitting (now (v .entry)) (now (out .entry))) (cellAt (now (v .entry)))) ⌝ }
+{
+    let n = least(v.len(), out.len() / 4);
+    put_cells(out, v, n);
+    4 * n
+}
+
+// The words that every answer begins with: the refusal's number, 0 if none, and the place that it carries.
+pub fn answer_words(a: Answer) -> [u32; 2]
+    ensures { λ r. ⌜ r ≡ answerWords a ⌝ }
+{
+    match a {
+        Answer::Done => [0, 0],
+        Answer::Refused(r) => [number(r), (place(r) % 0x1_0000_0000) as u32],
+    }
+}
+
+// The low word of a length, and the word of a truth: 1 or 0.
+pub fn low_word(x: usize) -> u32
+    ensures { λ r. ⌜ r ≡ x % 0x1_0000_0000 ⌝ }
+{
+    (x % 0x1_0000_0000) as u32
+}
+
+pub fn flag_word(x: bool) -> u32
+    ensures { λ r. ⌜ r ≡ cond x 1 0 ⌝ }
+{
+    if x { 1 } else { 0 }
 }

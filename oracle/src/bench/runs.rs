@@ -5,55 +5,27 @@ use crate::source::erosion::Settings;
 use crate::Sides;
 
 mod exported {
-    extern "C" {
-        pub fn harness_thermal_run(
-            w: usize,
-            h: usize,
-            hmap: *mut f32,
-            hmap_len: usize,
-            water_level: f32,
-            talus: f32,
-            strength: f32,
-            iterations: u32,
-            work_res: u32,
-            stop: u32,
-            small: *mut f32,
-            small_len: usize,
-            eroded: *mut f32,
-            eroded_len: usize,
-            copy: *mut f32,
-            copy_len: usize,
-        ) -> u64;
+    /// A whole run with its settings, of which the first are floats, and the slices that it is lent.
+    macro_rules! run {
+        ($name:ident; $($setting:ident),*; $($lent:ident: $element:ty),*) => {
+            pub fn $name(
+                w: usize,
+                h: usize,
+                hmap: *mut f32,
+                hmap_len: usize,
+                $($setting: f32,)*
+                iterations: u32,
+                work_res: u32,
+                stop: u32,
+                $($lent: *mut $element, _: usize,)*
+            ) -> u64;
+        };
+    }
 
-        pub fn harness_fluvial_run(
-            w: usize,
-            h: usize,
-            hmap: *mut f32,
-            hmap_len: usize,
-            water_level: f32,
-            strength: f32,
-            talus: f32,
-            uplift: f32,
-            iterations: u32,
-            work_res: u32,
-            stop: u32,
-            small: *mut f32,
-            small_len: usize,
-            eroded: *mut f32,
-            eroded_len: usize,
-            copy: *mut f32,
-            copy_len: usize,
-            area: *mut f32,
-            area_len: usize,
-            order: *mut u32,
-            order_len: usize,
-            recv: *mut u32,
-            recv_len: usize,
-            queue: *mut u32,
-            queue_len: usize,
-            status: *mut u8,
-            status_len: usize,
-        ) -> u64;
+    extern "C" {
+        run!(harness_thermal_run; water_level, talus, strength; small: f32, eroded: f32, copy: f32);
+        run!(harness_fluvial_run; water_level, strength, talus, uplift; small: f32, eroded: f32, copy: f32,
+            area: f32, order: u32, recv: u32, queue: u32, status: u8);
     }
 }
 

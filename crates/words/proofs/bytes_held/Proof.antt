@@ -1,0 +1,13 @@
+use borrow.Author.Needs.{needs}
+use Rattle.words.proofs.WordLaws.{part}
+use Rattle.words.proofs.bytes_held.Statement.{statement}
+use Rattle.words.proofs.bytes_held.Tie as tie
+
+least-requires : tie.Need-least-requires
+least-requires c κs = search needs
+
+returns : tie.Need-returns
+returns c = (part _ _ (c .least .ensures .1 .0), c .least .ensures .1 .1)
+
+pub bytes-held-spec : {M : Type 1} → statement M
+bytes-held-spec = tie.close (tie.spec least-requires returns)
