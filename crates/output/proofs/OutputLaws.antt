@@ -10,13 +10,15 @@ use borrow.Author.Tests.{lt-ltb, le-ltb}
 use mir.Syntax.{w16}
 use mir.Val.{Fits}
 use lib.Dec.{ltb}
-use lib.ListN.{length, getD, length-append}
+use lib.ListN.{length, length-append}
 use lib.Seq.{sets, length-sets}
-use lib.Ieee.{Float, nan, binary32, toBits}
+use lib.Ieee.{Float}
 use Rattle.answers.specs.Outcome.{numberOf}
 use Rattle.answers.specs.declared.Refusal.{Refusal}
 use Rattle.answers.specs.declared.Refusal.the-variants.{Side, ReducedSide, Length, Setting, Height, Receiver, List as LentList, Stream, Cells, Stopped, RunOff}
 use Rattle.stream_bytes.specs.Bytes.{bytes2, bytes4, gridMark, rowMark, endMark}
+use Rattle.words.specs.Words.{bitsAt}
+use Rattle.words.proofs.WordLaws.{words-length}
 use Rattle.stream_bytes.proofs.PutLaws.{sets-next}
 use Rattle.output.specs.Output.{gridRecord, heightBytes, rowRecord, rowRecords, endRecord, forInput}
 
@@ -54,43 +56,6 @@ end-put l at n i p q ha hb hc hd he =
     (sets-next l at (endMark ++ (bytes2 n ++ bytes4 i)) (bytes4 p) (at + 8) refl
     (sets-next l at (endMark ++ bytes2 n) (bytes4 i) (at + 4) refl (sets-next l at endMark (bytes2 n) (at + 2) refl ha hb) hc) hd) he
 
-heights-length : (map : List Float) (cell n : ℕ) → length (heightBytes map cell n) ≡ 4 * n
-unfolding heightBytes
-heights-length map cell zero = refl
-heights-length map cell (suc n) =
-    length-append (heightBytes map cell n) (bytes4 (toBits binary32 (getD map (cell + n) nan))) ∙ omega (arith, heights-length map cell n)
-
--- the heights before x
-module _ (old : List ℕ) (at : ℕ) (map : List Float) (cell w : ℕ) where
-  pub record HeightsPut (x : ℕ) (new : List ℕ) : Type 0 where
-    pub within : x ≤ w
-    pub held : new ≡ sets old at (heightBytes map cell x)
-
-  pub heights-none : HeightsPut 0 old
-  unfolding heightBytes
-  heights-none = record { within = omega arith; held = refl }
-
-  module _ {x : ℕ} {new : List ℕ} (r : HeightsPut x new) where
-    pub heights-kept : length new ≡ length old
-    heights-kept = ap length (r .held) ∙ length-sets old at (heightBytes map cell x)
-
-    pub heights-more : x < w → {v : ℕ} → v ≡ toBits binary32 (getD map (cell + x) nan) → {b : List ℕ} → b ≡ sets new (at + 4 * x) (bytes4 v)
-        → HeightsPut (x + 1) b
-    unfolding heightBytes
-    heights-more l {v} e {b} f =
-        record {
-          within = omega arith;
-          held =
-              sets-next old at (heightBytes map cell x) (bytes4 v) (at + 4 * x) (omega (arith, heights-length map cell x)) (r .held) f
-              ∙ ap (λ (v : ℕ). sets old at (heightBytes map cell x ++ bytes4 v)) e
-              ∙ ap (λ (k : ℕ). sets old at (heightBytes map cell k)) (sym (add-one x));
-        }
-
-    pub heights-done : w ≤ x → new ≡ sets old at (heightBytes map cell w)
-    heights-done l =
-        let e : x ≡ w = omega (arith, r .within) in
-        r .held ∙ ap (λ (k : ℕ). sets old at (heightBytes map cell k)) e
-
 pub row-put : (l : List ℕ) (at : ℕ) (map : List Float) (cell w : ℕ) {a b : List ℕ} → a ≡ sets l at rowMark → b ≡ sets a (at + 2) (heightBytes map cell w)
     → b ≡ sets l at (rowRecord map cell w)
 row-put l at map cell w e f = sets-next l at rowMark (heightBytes map cell w) (at + 2) refl e f
@@ -112,7 +77,7 @@ pub rows-length : (map : List Float) (w y : ℕ) → length (rowRecords map w y)
 unfolding rowRecords
 rows-length map w zero = sym (zero-mul (2 + 4 * w))
 rows-length map w (suc y) =
-    length-append (rowRecords map w y) (rowRecord map (y * w) w) ∙ omega (arith, rows-length map w y, heights-length map (y * w) w)
+    length-append (rowRecords map w y) (rowRecord map (y * w) w) ∙ omega (arith, rows-length map w y, words-length (bitsAt map (y * w)) w)
 
 module _ (old : List ℕ) (map : List Float) (w h : ℕ) where
   pub record RowsPut (y : ℕ) (new : List ℕ) : Type 0 where

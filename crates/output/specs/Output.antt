@@ -4,12 +4,13 @@ use Prim.Native.Nat.{ℕ, zero, suc, _+_, _*_}
 use mathlib.Core.Path.{_≡_}
 use mathlib.Core.Bool.{Bool, not, _&&_, _||_, cond}
 use mathlib.Core.List.{List, [], _++_}
-use lib.ListN.{length, getD, drop}
+use lib.ListN.{length, drop}
 use lib.Dec.{eqb, ltb}
-use lib.Ieee.{Float, nan, binary32, toBits}
+use lib.Ieee.{Float}
 use Rattle.answers.specs.Outcome.{Outcome, gives, refused, refusedAt, refusalOf, numberIn, answerOf}
 use Rattle.grid.specs.Sides.{badSides}
 use Rattle.stream_bytes.specs.Bytes.{bytes2, bytes4, gridMark, rowMark, endMark}
+use Rattle.words.specs.Words.{bitsAt, wordBytes}
 use Rattle.stream.specs.Stream.{rowLength}
 use Rattle.erosion.specs.declared.RunAnswer.{RunAnswer}
 use Rattle.output.specs.declared.Written.{Written}
@@ -18,16 +19,14 @@ abbrev pub gridRecord : ℕ → ℕ → List ℕ
 gridRecord w h = gridMark ++ (bytes2 w ++ bytes2 h)
 
 -- the heights of n cells from a cell on, four bytes each
-unfoldable pub heightBytes : List Float → ℕ → ℕ → List ℕ
-heightBytes map cell zero = []
-heightBytes map cell (suc n) = heightBytes map cell n ++ bytes4 (toBits binary32 (getD map (cell + n) nan))
+abbrev pub heightBytes : List Float → ℕ → ℕ → List ℕ
+heightBytes map cell n = wordBytes n (bitsAt map cell)
 
 abbrev pub rowRecord : List Float → ℕ → ℕ → List ℕ
 rowRecord map cell w = rowMark ++ heightBytes map cell w
 
 -- the first rows
 unfoldable pub rowRecords : List Float → ℕ → ℕ → List ℕ
-unfolding heightBytes
 rowRecords map w zero = []
 rowRecords map w (suc y) = rowRecords map w y ++ rowRecord map (y * w) w
 

@@ -3,7 +3,6 @@ use answers::Answer;
 use answers::Refusal;
 use answers::number;
 use erosion::RunAnswer;
-use floats::to_bits;
 use grid::Sides;
 use grid::bad_sides;
 use stream::END;
@@ -13,13 +12,14 @@ use stream::rows_length;
 use stream_bytes::put_mark;
 use stream_bytes::put_u16;
 use stream_bytes::put_u32;
+use words::put_floats;
 ghost use mathlib.Core.Path.{_≡_};
 ghost use Prim.Native.Nat.{_+_, _*_, _≤_};
 ghost use lib.ListN.{length};
 ghost use lib.Seq.{sets};
 ghost use Rattle.answers.specs.Outcome.{numberIn, answerOf};
 ghost use Rattle.grid.specs.Sides.{InRange};
-ghost use Rattle.output.specs.Output.{gridRecord, heightBytes, rowRecord, rowRecords, endRecord, forInput, rowsLength, Wrote};
+ghost use Rattle.output.specs.Output.{gridRecord, rowRecord, rowRecords, endRecord, forInput, rowsLength, Wrote};
 
 // What the writer answers: how many bytes it wrote, or why none.
 pub enum Written {
@@ -58,19 +58,6 @@ fn put_grid(out: &mut [u8], size: Sides)
     put_u16(out, 4, size.h as u16);
 }
 
-// The heights of w cells from a cell on, at a place.
-fn put_heights(out: &mut [u8], at: usize, map: &[f32], cell: usize, w: usize)
-    requires { ⌜ at + 4 * w ≤ length (now out) ⌝ }
-    requires { ⌜ cell + w ≤ length (now map) ⌝ }
-    ensures { λ _. ⌜ now (out .exit) ≡ sets (now (out .entry)) at (heightBytes (now (map .entry)) cell w) ⌝ }
-{
-    let mut x: usize = 0;
-    while x < w {
-        put_u32(out, at + 4 * x, to_bits(map[cell + x]));
-        x += 1;
-    }
-}
-
 // A row of w heights from a cell on, at a place.
 fn put_row(out: &mut [u8], at: usize, map: &[f32], cell: usize, w: usize)
     requires { ⌜ at + (2 + 4 * w) ≤ length (now out) ⌝ }
@@ -78,7 +65,7 @@ fn put_row(out: &mut [u8], at: usize, map: &[f32], cell: usize, w: usize)
     ensures { λ _. ⌜ now (out .exit) ≡ sets (now (out .entry)) at (rowRecord (now (map .entry)) cell w) ⌝ }
 {
     put_mark(out, at, &ROW);
-    put_heights(out, at + 2, map, cell, w);
+    put_floats(out, at + 2, map, cell, w);
 }
 
 // All rows, behind the grid record.

@@ -1,2 +1,2 @@
--- The words of the replay lists.
+-- Numbers of four bytes.
 pub mod Words

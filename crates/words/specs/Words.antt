@@ -1,4 +1,4 @@
--- The words of the replay lists stand as document 01's stream has its numbers, low byte first; a float is its bits.
+-- Words stand as document 01's stream has its numbers of four bytes, low byte first; a float is its bits.
 use Prim.Native.Nat.{ℕ, zero, suc, _+_, _*_, _/_, _%_, _≤_, min}
 use mathlib.Core.Path.{_≡_}
 use mathlib.Core.Bool.{cond}

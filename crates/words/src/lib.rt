@@ -1,4 +1,4 @@
-// The words of the replay lists, numbers of four bytes, low byte first: slices and answers to bytes and back, and room for them.
+// Words, numbers of four bytes that stand low byte first: slices and answers to bytes and back, and room for the slices of the replay lists.
 use answers::Answer;
 use answers::number;
 use answers::place;
