@@ -5,7 +5,7 @@ use mathlib.Core.Path.{_≡_, refl, sym, ap, subst, _∙_}
 use mathlib.Core.Bool.{Bool, true, false, cond}
 use Rattle.answers.specs.Outcome.{Outcome, gives, refused, refusedAt, numberOf, refusalOf}
 use Rattle.answers.specs.declared.Refusal.{Refusal}
-use Rattle.answers.specs.declared.Refusal.the-variants.{Side, ReducedSide, Length, Setting, Height, Receiver, List, Stream, Cells, Stopped, RunOff}
+use Rattle.answers.proofs.OutcomeLaws.{refusal-by}
 use Rattle.grid.specs.Sides.{badSides}
 use Rattle.grid.specs.declared.Sides.{Sides}
 use Rattle.resample.specs.WorkSize.{workSize, workAnswer, Within}
@@ -14,17 +14,7 @@ use Rattle.layout_calls.specs.Word.{packed, wordOf}
 
 -- the word of a refusal, whatever the results would be
 pub word-refused : {A : Type 0} (value : A → ℕ) (r : Refusal) → wordOf value (refusalOf r) ≡ packed (numberOf r) 0
-word-refused value Side = refl
-word-refused value ReducedSide = refl
-word-refused value Length = refl
-word-refused value Setting = refl
-word-refused value (Height c) = refl
-word-refused value (Receiver c) = refl
-word-refused value (List p) = refl
-word-refused value Stream = refl
-word-refused value Cells = refl
-word-refused value Stopped = refl
-word-refused value RunOff = refl
+word-refused value = refusal-by (λ o n p. wordOf value o ≡ packed n 0) (λ n. refl) (λ n p. refl)
 
 module _ {A : Type 0} (value : A → ℕ) (answer : Outcome A) {word : ℕ} where
   -- what a call that gives a result packs
