@@ -12,21 +12,14 @@ use words::answer_words;
 use words::bytes_held;
 use words::flag_word;
 use words::float_room;
+use words::floats_held;
 use words::low_word;
-ghost use Rattle.words.specs.Words.{Part};
 
 // The next word of the input, 0 once it has ended.
 fn word() -> u32 {
     let mut b = [0u8; 4];
     io::read_full(0, &mut b);
     words::word_at(&b, 0)
-}
-
-// The next length, at most that of a room.
-fn next_floats(room: &[f32]) -> usize
-    ensures { λ r. ⌜ Part r (now (room .entry)) ⌝ }
-{
-    words::floats_held(word(), room)
 }
 
 fn next_sides() -> Sides {
@@ -87,7 +80,7 @@ fn put_extent(e: Extent) {
 
 fn replay_get_min_max() {
     let mut space = float_room(0.0);
-    let n = next_floats(&space);
+    let n = floats_held(word(), &space);
     let v = &mut space[..n];
     read_floats(v);
     put_extent(generators::get_min_max(v));
@@ -97,7 +90,7 @@ fn replay_normalize() {
     let lo = from_bits(word());
     let hi = from_bits(word());
     let mut space = float_room(0.0);
-    let n = next_floats(&space);
+    let n = floats_held(word(), &space);
     let v = &mut space[..n];
     read_floats(v);
     put_answer(generators::normalize(v, lo, hi));
@@ -109,10 +102,10 @@ fn replay_downsample() {
     let dsize = next_sides();
     let fill = from_bits(word());
     let mut result = float_room(fill);
-    let dn = next_floats(&result);
+    let dn = floats_held(word(), &result);
     let dst = &mut result[..dn];
     let mut space = float_room(0.0);
-    let n = next_floats(&space);
+    let n = floats_held(word(), &space);
     let src = &mut space[..n];
     read_floats(src);
     put_answer(downsample::downsample(src, size, dst, dsize));
@@ -123,10 +116,10 @@ fn replay_add_upsampled() {
     let size = next_sides();
     let dsize = next_sides();
     let mut space = float_room(0.0);
-    let n = next_floats(&space);
+    let n = floats_held(word(), &space);
     let map = &mut space[..n];
     let mut reduced = float_room(0.0);
-    let dn = next_floats(&reduced);
+    let dn = floats_held(word(), &reduced);
     let delta = &mut reduced[..dn];
     read_floats(map);
     read_floats(delta);
@@ -139,7 +132,7 @@ fn replay_bilinear() {
     let x = from_bits(word());
     let y = from_bits(word());
     let mut space = float_room(0.0);
-    let n = next_floats(&space);
+    let n = floats_held(word(), &space);
     let v = &mut space[..n];
     read_floats(v);
     put_value(bilinear::bilinear(v, x, y, size));

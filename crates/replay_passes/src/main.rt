@@ -9,35 +9,17 @@ use thermal_erosion::ThermalParams;
 use words::answer_words;
 use words::bytes_held;
 use words::cell_room;
+use words::cells_held;
 use words::flag_word;
 use words::float_room;
+use words::floats_held;
 use words::state_room;
-ghost use Rattle.words.specs.Words.{Part};
 
 // The next word of the input, 0 once it has ended.
 fn word() -> u32 {
     let mut b = [0u8; 4];
     io::read_full(0, &mut b);
     words::word_at(&b, 0)
-}
-
-// The next length, at most that of a room.
-fn next_floats(room: &[f32]) -> usize
-    ensures { λ r. ⌜ Part r (now (room .entry)) ⌝ }
-{
-    words::floats_held(word(), room)
-}
-
-fn next_cells(room: &[u32]) -> usize
-    ensures { λ r. ⌜ Part r (now (room .entry)) ⌝ }
-{
-    words::cells_held(word(), room)
-}
-
-fn next_states(room: &[u8]) -> usize
-    ensures { λ r. ⌜ Part r (now (room .entry)) ⌝ }
-{
-    bytes_held(word() as usize, room)
 }
 
 fn next_sides() -> Sides {
@@ -106,19 +88,19 @@ fn replay_incise() {
     let params = next_incision();
     let fill = from_bits(word());
     let mut result = float_room(fill);
-    let out_n = next_floats(&result);
+    let out_n = floats_held(word(), &result);
     let out = &mut result[..out_n];
     let mut scratch = float_room(fill);
-    let area_n = next_floats(&scratch);
+    let area_n = floats_held(word(), &scratch);
     let area = &mut scratch[..area_n];
     let mut space = float_room(0.0);
-    let n = next_floats(&space);
+    let n = floats_held(word(), &space);
     let h = &mut space[..n];
     let mut receivers = cell_room(0);
-    let recv_n = next_cells(&receivers);
+    let recv_n = cells_held(word(), &receivers);
     let recv = &mut receivers[..recv_n];
     let mut list = cell_room(0);
-    let list_n = next_cells(&list);
+    let list_n = cells_held(word(), &list);
     let order = &mut list[..list_n];
     read_floats(h);
     read_cells(recv);
@@ -163,10 +145,10 @@ fn replay_slide_pass() {
     let m = next_progress();
     let stop = word();
     let mut result = float_room(from_bits(word()));
-    let out_n = next_floats(&result);
+    let out_n = floats_held(word(), &result);
     let out = &mut result[..out_n];
     let mut space = float_room(0.0);
-    let n = next_floats(&space);
+    let n = floats_held(word(), &space);
     let h = &mut space[..n];
     read_floats(h);
     let slid = thermal_erosion::slide_pass(size, h, out, params, from, to, m, stop);
@@ -181,25 +163,25 @@ fn replay_route() {
     let water_level = from_bits(word());
     let fill = word();
     let mut order_room = cell_room(fill);
-    let order_n = next_cells(&order_room);
+    let order_n = cells_held(word(), &order_room);
     let order = &mut order_room[..order_n];
     let mut recv_room = cell_room(fill);
-    let recv_n = next_cells(&recv_room);
+    let recv_n = cells_held(word(), &recv_room);
     let recv = &mut recv_room[..recv_n];
     let mut spill_room = float_room(from_bits(fill));
-    let spill_n = next_floats(&spill_room);
+    let spill_n = floats_held(word(), &spill_room);
     let spill = &mut spill_room[..spill_n];
     let mut area_room = float_room(from_bits(fill));
-    let area_n = next_floats(&area_room);
+    let area_n = floats_held(word(), &area_room);
     let area = &mut area_room[..area_n];
     let mut queue_room = cell_room(fill);
-    let queue_n = next_cells(&queue_room);
+    let queue_n = cells_held(word(), &queue_room);
     let queue = &mut queue_room[..queue_n];
     let mut status_room = state_room((fill % 256) as u8);
-    let status_n = next_states(&status_room);
+    let status_n = bytes_held(word() as usize, &status_room);
     let status = &mut status_room[..status_n];
     let mut space = float_room(0.0);
-    let n = next_floats(&space);
+    let n = floats_held(word(), &space);
     let h = &mut space[..n];
     read_floats(h);
     put_answer(flow::route(

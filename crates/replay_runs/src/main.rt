@@ -10,34 +10,16 @@ use runs::ThermalSettings;
 use words::answer_words;
 use words::bytes_held;
 use words::cell_room;
+use words::cells_held;
 use words::float_room;
+use words::floats_held;
 use words::state_room;
-ghost use Rattle.words.specs.Words.{Part};
 
 // The next word of the input, 0 once it has ended.
 fn word() -> u32 {
     let mut b = [0u8; 4];
     io::read_full(0, &mut b);
     words::word_at(&b, 0)
-}
-
-// The next length, at most that of a room.
-fn next_floats(room: &[f32]) -> usize
-    ensures { λ r. ⌜ Part r (now (room .entry)) ⌝ }
-{
-    words::floats_held(word(), room)
-}
-
-fn next_cells(room: &[u32]) -> usize
-    ensures { λ r. ⌜ Part r (now (room .entry)) ⌝ }
-{
-    words::cells_held(word(), room)
-}
-
-fn next_states(room: &[u8]) -> usize
-    ensures { λ r. ⌜ Part r (now (room .entry)) ⌝ }
-{
-    bytes_held(word() as usize, room)
 }
 
 fn next_sides() -> Sides {
@@ -100,31 +82,31 @@ fn replay_fluvial() {
     let fill = word();
     let height = from_bits(fill);
     let mut small_room = float_room(height);
-    let small_n = next_floats(&small_room);
+    let small_n = floats_held(word(), &small_room);
     let small = &mut small_room[..small_n];
     let mut eroded_room = float_room(height);
-    let eroded_n = next_floats(&eroded_room);
+    let eroded_n = floats_held(word(), &eroded_room);
     let eroded = &mut eroded_room[..eroded_n];
     let mut copy_room = float_room(height);
-    let copy_n = next_floats(&copy_room);
+    let copy_n = floats_held(word(), &copy_room);
     let copy = &mut copy_room[..copy_n];
     let mut area_room = float_room(height);
-    let area_n = next_floats(&area_room);
+    let area_n = floats_held(word(), &area_room);
     let area = &mut area_room[..area_n];
     let mut order_room = cell_room(fill);
-    let order_n = next_cells(&order_room);
+    let order_n = cells_held(word(), &order_room);
     let order = &mut order_room[..order_n];
     let mut recv_room = cell_room(fill);
-    let recv_n = next_cells(&recv_room);
+    let recv_n = cells_held(word(), &recv_room);
     let recv = &mut recv_room[..recv_n];
     let mut queue_room = cell_room(fill);
-    let queue_n = next_cells(&queue_room);
+    let queue_n = cells_held(word(), &queue_room);
     let queue = &mut queue_room[..queue_n];
     let mut status_room = state_room((fill % 256) as u8);
-    let status_n = next_states(&status_room);
+    let status_n = bytes_held(word() as usize, &status_room);
     let status = &mut status_room[..status_n];
     let mut space = float_room(0.0);
-    let n = next_floats(&space);
+    let n = floats_held(word(), &space);
     let hmap = &mut space[..n];
     read_floats(hmap);
     put_ended(fluvial_run::gen_fluvial_erosion(
@@ -165,16 +147,16 @@ fn replay_thermal() {
     let stop = word();
     let fill = from_bits(word());
     let mut small_room = float_room(fill);
-    let small_n = next_floats(&small_room);
+    let small_n = floats_held(word(), &small_room);
     let small = &mut small_room[..small_n];
     let mut eroded_room = float_room(fill);
-    let eroded_n = next_floats(&eroded_room);
+    let eroded_n = floats_held(word(), &eroded_room);
     let eroded = &mut eroded_room[..eroded_n];
     let mut copy_room = float_room(fill);
-    let copy_n = next_floats(&copy_room);
+    let copy_n = floats_held(word(), &copy_room);
     let copy = &mut copy_room[..copy_n];
     let mut space = float_room(0.0);
-    let n = next_floats(&space);
+    let n = floats_held(word(), &space);
     let hmap = &mut space[..n];
     read_floats(hmap);
     put_ended(thermal_run::gen_thermal_erosion(size, hmap, conf, stop, small, eroded, copy));
@@ -203,7 +185,7 @@ fn put_relief(bytes: &[u8]) {
 // A stream of at most 65,536 bytes.
 fn replay_relief() {
     let mut space = io::large_buffer();
-    let n = next_states(&space);
+    let n = bytes_held(word() as usize, &space);
     let bytes = &mut space[..n];
     io::read_full(0, bytes);
     put_relief(bytes);
