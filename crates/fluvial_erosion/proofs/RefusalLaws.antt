@@ -104,13 +104,12 @@ network-of w h recv list a b e = record { receivers = a; entries = b; inside = �
 not-far : (w x y u v : ℕ) → x ≤ u + 1 → y ≤ v + 1 → x + y * w ≤ u + v * w + (w + 1)
 not-far w x y u v a b = let wide : w ≤ w = omega arith in omega (arith, mul-le-mul b wide)
 
-pub near-network : (w h : ℕ) (recv : List ℕ) → InRange w h → ltb (firstBadReceiver w h recv) (w * h) ≡ false → Near (w * h) (w + 1) recv
+pub near-network : (w h : ℕ) (recv : List ℕ) → InRange w h → ltb (firstBadReceiver w h recv) (w * h) ≡ false → Near (w * h) recv
 near-network w h recv i e =
     record {
       few = cells-bound w h (i .wide) (i .high);
-      short = omega (arith, i .wide);
-      up = λ c l. let k = step c l in omega (arith, cell-back w c, cell-back w (getD recv c 0), not-far w _ _ _ _ (k .east) (k .south));
-      down = λ c l. let k = step c l in omega (arith, cell-back w c, cell-back w (getD recv c 0), not-far w _ _ _ _ (k .west) (k .north));
+      up = λ c l. let k = step c l in omega (arith, i .wide, cell-back w c, cell-back w (getD recv c 0), not-far w _ _ _ _ (k .east) (k .south));
+      down = λ c l. let k = step c l in omega (arith, i .wide, cell-back w c, cell-back w (getD recv c 0), not-far w _ _ _ _ (k .west) (k .north));
     }
   where
     step : (c : ℕ) → c < w * h → Rattle.steps.specs.Step.Near w c (getD recv c 0)

@@ -150,7 +150,7 @@ fn refusal(
     if cell < n {
         return Answer::Refused(Refusal::Receiver(cell));
     }
-    let entry = first_bad_entry(n, size.w + 1, recv, order);
+    let entry = first_bad_entry(n, recv, order);
     if entry < n {
         return Answer::Refused(Refusal::List(entry));
     }

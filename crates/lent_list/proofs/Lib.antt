@@ -1,4 +1,4 @@
 -- Laws of the definitions in specs/.
 pub mod ListLaws
-pub mod SeenLaws
 pub mod StretchLaws
+pub mod SeenLaws

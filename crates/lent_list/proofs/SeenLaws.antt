@@ -1,17 +1,20 @@
--- A mark put in is there, and every other mark is as it was.
-use Prim.Native.Nat.{ℕ, zero, suc, _+_, _-_, _*_, _/_, _%_, _^_, _<_}
-use native.Mathlib.Nat.{div-eq-of-lt, one-mul}
+-- A mark put in is there, and every other mark is as it was, in words and in bytes; what the walk for one stretch learns of an entry.
+use Prim.Native.Nat.{ℕ, zero, suc, _+_, _-_, _*_, _/_, _%_, _^_, _≤_, _<_}
+use native.Mathlib.Nat.{div-eq-of-lt, one-mul, zero-div}
 use native.Mathlib.Omega.{arith}
 use native.Mathlib.Decide.{decLt, ℕ-discrete}
-use mathlib.Core.Path.{_≡_, refl, sym, ap, _∙_}
-use mathlib.Core.Bool.{true}
+use mathlib.Core.Path.{_≡_, refl, sym, ap, _∙_, subst}
+use mathlib.Core.Bool.{Bool, true, false, not, cond, _&&_, _||_, true≢false}
 use mathlib.Core.List.{List}
-use lib.ListN.{length, getD, set, length-set}
+use lib.ListN.{length, getD, set, replicate, length-replicate, getD-replicate, length-set}
 use lib.Seq.{getD-set-same, getD-set-other}
 use lib.Pow.{pow-lt, pow-add, shl-exact, shl-shr}
 use lib.Bits.{bitOr, or-shr, or-mod, or-zero-r}
-use lib.Dec.{eqb, lit<}
-use Rattle.lent_list.specs.Seen.{isMarked, marking}
+use lib.Dec.{eqb, ltb, lit<}
+use borrow.Author.Tests.{lt-ltb, le-ltb, ltb-true, ltb-false, not-true, not-false}
+use Rattle.lists.proofs.TestLaws.{both}
+use Rattle.lent_list.specs.Seen.{span, isMarked, marking, isSet, inStretch, Taken, Clear, Blank, Scanned}
+use Rattle.lent_list.proofs.StretchLaws.{Put, Walk, walk-twice, walk-early, walk-more, walk-past}
 
 -- the bits of a power of two
 power-same : (k : ℕ) → 2 ^ k / 2 ^ k % 2 ≡ 1
@@ -53,13 +56,13 @@ unfolding marking
 length-marking seen i = length-set seen (i / 64) _
 
 module _ (seen : List ℕ) (i : ℕ) (inside : i / 64 < length seen) where
-  pub marked-same : isMarked (marking seen i) i ≡ true
+  marked-same : isMarked (marking seen i) i ≡ true
   unfolding isMarked marking
   marked-same =
       ap (λ (x : ℕ). eqb (x / 2 ^ (i % 64) % 2) 1) (getD-set-same seen (i / 64) _ 0 inside)
       ∙ ap (λ (b : ℕ). eqb b 1) (bit-same (getD seen (i / 64) 0) (i % 64))
 
-  pub marked-other : (m : ℕ) → (m ≡ i → ⊥) → isMarked (marking seen i) m ≡ isMarked seen m
+  marked-other : (m : ℕ) → (m ≡ i → ⊥) → isMarked (marking seen i) m ≡ isMarked seen m
   unfolding isMarked marking
   marked-other m h = go (ℕ-discrete (m / 64) (i / 64))
     where
@@ -72,3 +75,106 @@ module _ (seen : List ℕ) (i : ℕ) (inside : i / 64 < length seen) where
           rw e
           (ap (λ (x : ℕ). eqb (x / 2 ^ (m % 64) % 2) 1) (getD-set-same seen (i / 64) word 0 inside)
           ∙ ap (λ (b : ℕ). eqb b 1) (bit-other (getD seen (i / 64) 0) (i % 64) (m % 64) (λ q. h (omega arith))))
+
+  marked-put : Put (isMarked seen) i (isMarked (marking seen i))
+  marked-put = record { same = marked-same; other = marked-other }
+
+pub put-word : (seen : List ℕ) (i : ℕ) → i < length seen * 64 → {next : List ℕ} → next ≡ marking seen i → Put (isMarked seen) i (isMarked next)
+put-word seen i l {next} e = subst (λ (s : List ℕ). Put (isMarked seen) i (isMarked s)) (sym e) (marked-put seen i (omega arith))
+
+pub put-byte : (seen : List ℕ) (i : ℕ) → i < length seen → Put (isSet seen) i (isSet (set seen i 1))
+put-byte seen i l =
+    record { same = ap (λ (x : ℕ). eqb x 1) (getD-set-same seen i 1 0 l); other = λ k d. ap (λ (x : ℕ). eqb x 1) (getD-set-other seen i k 1 0 d) }
+
+-- no mark at first
+pub words-none : {n : ℕ} {seen : List ℕ} → Clear n seen → (i : ℕ) → i < n → isMarked seen i ≡ false
+unfolding isMarked
+words-none {seen = seen} e i l =
+    let inside : i / 64 < length seen = omega (arith, e .enough) in
+    ap (λ (s : List ℕ). eqb (getD s (i / 64) 0 / 2 ^ (i % 64) % 2) 1) (e .none)
+    ∙ ap (λ (x : ℕ). eqb (x / 2 ^ (i % 64) % 2) 1) (getD-replicate (length seen) (i / 64) 0 0 inside) ∙ ap (λ (x : ℕ). eqb (x % 2) 1) (zero-div (2 ^ (i % 64)))
+
+pub bytes-none : {n : ℕ} {seen : List ℕ} → Blank n seen → (i : ℕ) → i < n → isSet seen i ≡ false
+bytes-none {seen = seen} e i l =
+    ap (λ (s : List ℕ). eqb (getD s i 0) 1) (e .none) ∙ ap (λ (x : ℕ). eqb x 1) (getD-replicate (length seen) i 0 0 (omega (arith, e .enough)))
+
+-- marks that are all 0 at first
+blank : (size : ℕ) → replicate {A = ℕ} size 0 ≡ replicate (length (replicate {A = ℕ} size 0)) 0
+blank size = ap (λ (k : ℕ). replicate k 0) (sym (length-replicate {A = ℕ} size 0))
+
+pub clear-at : (size : ℕ) {n : ℕ} → n ≤ size * 64 → Clear n (replicate size 0)
+clear-at size l = record { none = blank size; enough = omega (arith, length-replicate {A = ℕ} size 0) }
+
+pub blank-at : (size : ℕ) {n : ℕ} → n ≤ size → Blank n (replicate size 0)
+blank-at size l = record { none = blank size; enough = omega (arith, length-replicate {A = ℕ} size 0) }
+
+-- where a cell lies
+module _ (long lo c : ℕ) where
+  pub stretch-before : c < lo → inStretch long lo c ≡ false
+  stretch-before h = rw (lt-ltb c lo h)
+
+  pub stretch-from : lo ≤ c → inStretch long lo c ≡ ltb (c - lo) long
+  stretch-from h = rw (le-ltb c lo h)
+
+  pub inside : inStretch long lo c ≡ true → (lo ≤ c) × (c < lo + long)
+  inside e =
+      let p = both (not (ltb c lo)) (ltb (c - lo) long) e in
+      let l : lo ≤ c = omega (arith, ltb-false c lo (not-true (ltb c lo) (p .0))) in
+      (l, omega (arith, ltb-true (c - lo) long (p .1)))
+
+  outside : inStretch long lo c ≡ false → lo ≤ c → c < lo + long → ⊥
+  outside e h l = true≢false (sym (stretch-from h ∙ lt-ltb (c - lo) long (omega arith)) ∙ e)
+
+-- what the code of `bad_in_stretch` gives, case by case
+module _ {recv : List ℕ} {lo c : ℕ} {seen : List ℕ} where
+  pub taken-stood : inStretch span lo c ≡ true → isMarked seen (c - lo) ≡ true → Taken recv lo c seen true seen
+  taken-stood a b = record { verdict = rw (a, b); marks = rw (a, b) }
+
+  pub taken-marked : inStretch span lo c ≡ true → isMarked seen (c - lo) ≡ false → {bad : Bool} {next : List ℕ} → next ≡ marking seen (c - lo)
+      → bad ≡ (inStretch span lo (getD recv c 0) && not (isMarked next (getD recv c 0 - lo))) → Taken recv lo c seen bad next
+  taken-marked a b {bad} {next} e f =
+      record { verdict = rw (a, b) (f ∙ ap (λ (s : List ℕ). inStretch span lo (getD recv c 0) && not (isMarked s (getD recv c 0 - lo))) e); marks = rw (a, b) e }
+
+  pub taken-outside : inStretch span lo c ≡ false → Taken recv lo c seen false seen
+  taken-outside a = record { verdict = rw a; marks = rw a }
+
+-- the walk ends at an entry that is bad by the marks, and goes on from any other
+module _ {n : ℕ} {recv list : List ℕ} {lo limit p : ℕ} {seen next : List ℕ} {bad : Bool} (w : Walk span n recv list lo limit p (isMarked seen))
+    (t : Taken recv lo (getD list p 0) seen bad next) (room : span ≤ length seen * 64) where
+  abbrev c : ℕ
+  c = getD list p 0
+
+  abbrev r : ℕ
+  r = getD recv c 0
+
+  put : lo ≤ c → c < lo + span → Put (isMarked seen) (c - lo) (isMarked (marking seen (c - lo)))
+  put h l = put-word seen (c - lo) (omega arith) refl
+
+  pub taken-bad : bad ≡ true → Scanned n recv list lo (lo + span) limit p
+  taken-bad e = go (inStretch span lo c) refl (isMarked seen (c - lo)) refl (inStretch span lo r) refl (isMarked (marking seen (c - lo)) (r - lo)) refl (sym (t .verdict) ∙ e)
+    where
+      go : (i : Bool) → inStretch span lo c ≡ i → (s : Bool) → isMarked seen (c - lo) ≡ s → (j : Bool) → inStretch span lo r ≡ j → (k : Bool) → isMarked (marking seen (c - lo)) (r - lo) ≡ k
+          → ((i && s) || (i && (j && not k))) ≡ true → Scanned n recv list lo (lo + span) limit p
+      go false a s b j f k g v = absurd (true≢false (sym v))
+      go true a true b j f k g v = let q = inside span lo c a in walk-twice w (q .0) (q .1) b
+      go true a false b false f k g v = absurd (true≢false (sym v))
+      go true a false b true f true g v = absurd (true≢false (sym v))
+      go true a false b true f false g v =
+          let q = inside span lo c a in
+          let u = inside span lo r f in
+          walk-early w (put (q .0) (q .1)) (q .0) (q .1) (u .0) (u .1) g
+
+  pub taken-good : bad ≡ false → p < limit → limit ≤ length list → c < n → Walk span n recv list lo limit (p + 1) (isMarked next)
+  taken-good e l k within = go (inStretch span lo c) refl (isMarked seen (c - lo)) refl (inStretch span lo r) refl (isMarked (marking seen (c - lo)) (r - lo)) refl (sym (t .verdict) ∙ e) (t .marks)
+    where
+      go : (i : Bool) → inStretch span lo c ≡ i → (s : Bool) → isMarked seen (c - lo) ≡ s → (j : Bool) → inStretch span lo r ≡ j → (k : Bool) → isMarked (marking seen (c - lo)) (r - lo) ≡ k
+          → ((i && s) || (i && (j && not k))) ≡ false → next ≡ cond (i && not s) (marking seen (c - lo)) seen → Walk span n recv list lo limit (p + 1) (isMarked next)
+      go false a s b j f q g v x = rw x (walk-past w l k within (outside span lo c a))
+      go true a true b j f q g v x = absurd (true≢false v)
+      go true a false b false f q g v x =
+          let y = inside span lo c a in
+          rw x (walk-more w (put (y .0) (y .1)) (y .0) (y .1) l k within b (λ u z. absurd (outside span lo r f u z)))
+      go true a false b true f false g v x = absurd (true≢false v)
+      go true a false b true f true g v x =
+          let y = inside span lo c a in
+          rw x (walk-more w (put (y .0) (y .1)) (y .0) (y .1) l k within b (λ u z. g))

@@ -4,7 +4,7 @@ ghost use mathlib.Core.Bool.{not};
 ghost use Prim.Native.Nat.{_+_, _*_, _≤_, _<_};
 ghost use lib.ListN.{length, getD};
 ghost use Rattle.lent_list.specs.Entries.{firstBadEntry};
-ghost use Rattle.lent_list.specs.Seen.{stretch, isMarked, marking, stoodIn, lackedIn, noting, Clear, Scanned, Lengths, Near};
+ghost use Rattle.lent_list.specs.Seen.{stretch, span, isMarked, marking, inStretch, missingIn, Taken, Clear, Blank, Scanned, Lengths, Near};
 
 // Whether place i of a stretch is marked.
 fn marked(seen: &[u64], i: usize) -> bool
@@ -31,105 +31,68 @@ fn mark(seen: &mut [u64], i: usize)
     seen[word] = seen[word] | (1 << (i % 64));
 }
 
-// Whether cell c of the stretch from lo stood already.
-fn stood(seen: &[u64], lo: usize, c: usize) -> bool
-    requires { ⌜ stretch ≤ length (now seen) * 64 ⌝ }
-    ensures { λ r. ⌜ r ≡ stoodIn stretch (now (seen .entry)) lo c ⌝ }
+// Whether cell c lies in the stretch from lo.
+fn in_stretch(lo: usize, c: usize) -> bool
+    ensures { λ r. ⌜ r ≡ inStretch span lo c ⌝ }
 {
     if c < lo {
         return false;
     }
-    let i = c - lo;
-    if i < 4194304 {
-        return marked(seen, i);
+    c - lo < 8396800
+}
+
+// Whether cell r lies in the stretch from lo and has not stood yet.
+fn missing(seen: &[u64], lo: usize, r: usize) -> bool
+    requires { ⌜ span ≤ length (now seen) * 64 ⌝ }
+    ensures { λ b. ⌜ b ≡ missingIn (now (seen .entry)) lo r ⌝ }
+{
+    if in_stretch(lo, r) {
+        return unmarked(seen, r - lo);
     }
     false
 }
 
-// Whether the receiver of c is another cell, of the stretch from lo, that has not stood yet.
-fn lacked(seen: &[u64], lo: usize, c: usize, r: usize) -> bool
-    requires { ⌜ stretch ≤ length (now seen) * 64 ⌝ }
-    ensures { λ b. ⌜ b ≡ lackedIn stretch (now (seen .entry)) lo c r ⌝ }
+// Marks cell c, if it lies in the stretch from lo, and says whether its entry is bad by the marks: it stood already, or its receiver lies there too
+// and has not stood. It is marked before its receiver is looked up: one that is its own receiver then finds itself.
+fn bad_in_stretch(seen: &mut [u64], lo: usize, recv: &[u32], c: usize) -> bool
+    requires { ⌜ span ≤ length (now seen) * 64 ⌝ }
+    requires { ⌜ c < length (now recv) ⌝ }
+    ensures { λ b. ⌜ Taken (now (recv .entry)) lo c (now (seen .entry)) b (now (seen .exit)) ⌝ }
 {
-    if r == c {
-        return false;
-    }
-    if r < lo {
-        return false;
-    }
-    let i = r - lo;
-    if i < 4194304 {
-        return !marked(seen, i);
-    }
-    false
-}
-
-// The same with the receiver still to be looked up, which is done only where it can lie in the stretch: none is further than `reach` from its cell.
-fn lacks(seen: &[u64], lo: usize, reach: usize, recv: &[u32], c: usize) -> bool
-    requires { ⌜ stretch ≤ length (now seen) * 64 ⌝ }
-    requires { ⌜ Near (length (now recv)) reach (now recv) ⌝ }
-    requires { ⌜ (c < length (now recv)) × (lo ≤ length (now recv)) ⌝ }
-    ensures { λ b. ⌜ b ≡ lackedIn stretch (now (seen .entry)) lo c (getD (now (recv .entry)) c 0) ⌝ }
-{
-    if c + reach < lo {
-        return false;
-    }
-    if lo + 4194304 + reach <= c {
-        return false;
-    }
-    lacked(seen, lo, c, recv[c] as usize)
-}
-
-// Notes that c stands, if it lies in the stretch from lo.
-fn note(seen: &mut [u64], lo: usize, c: usize)
-    requires { ⌜ stretch ≤ length (now seen) * 64 ⌝ }
-    ensures { λ _. ⌜ now (seen .exit) ≡ noting stretch (now (seen .entry)) lo c ⌝ }
-{
-    if c < lo {
-        return;
-    }
-    let i = c - lo;
-    if i < 4194304 {
+    if in_stretch(lo, c) {
+        let i = c - lo;
+        if marked(seen, i) {
+            return true;
+        }
         mark(seen, i);
+        return missing(seen, lo, recv[c] as usize);
     }
+    false
 }
 
 // The first position below the limit whose entry is no cell, or is bad by the marks of the stretch from lo; the limit where none is.
-fn first_in_stretch(
-    n: usize,
-    reach: usize,
-    recv: &[u32],
-    list: &[u32],
-    lo: usize,
-    limit: usize,
-) -> usize
+fn first_in_stretch(n: usize, recv: &[u32], list: &[u32], lo: usize, limit: usize) -> usize
     requires { ⌜ Lengths n (now recv) (now list) ⌝ }
-    requires { ⌜ Near n reach (now recv) ⌝ }
-    requires { ⌜ (limit ≤ n) × (lo ≤ n) ⌝ }
-    ensures { λ r. ⌜ Scanned n (now (recv .entry)) (now (list .entry)) lo (lo + stretch) limit r ⌝ }
+    requires { ⌜ limit ≤ n ⌝ }
+    ensures { λ r. ⌜ Scanned n (now (recv .entry)) (now (list .entry)) lo (lo + span) limit r ⌝ }
 {
-    let mut seen: [u64; 65536] = [0; 65536];
+    let mut seen: [u64; 131200] = [0; 131200];
     let mut p: usize = 0;
     while p < limit {
         let c = list[p] as usize;
         if n <= c {
             return p;
         }
-        if stood(&seen, lo, c) {
+        if bad_in_stretch(&mut seen, lo, recv, c) {
             return p;
         }
-        if lacks(&seen, lo, reach, recv, c) {
-            return p;
-        }
-        note(&mut seen, lo, c);
         p += 1;
     }
     limit
 }
 
-// The same for cells that all have their marks in `seen`, none of them set yet. A cell is marked before its receiver is looked up: one that is its
-// own receiver then finds itself.
-fn first_in_one(n: usize, recv: &[u32], list: &[u32], seen: &mut [u64]) -> usize
+// The same for cells that all have their marks in `seen`, none of them set yet.
+fn first_in_words(n: usize, recv: &[u32], list: &[u32], seen: &mut [u64]) -> usize
     requires { ⌜ Lengths n (now recv) (now list) ⌝ }
     requires { ⌜ Clear n (now seen) ⌝ }
     ensures { λ r. ⌜ Scanned n (now (recv .entry)) (now (list .entry)) 0 (0 + n) n r ⌝ }
@@ -152,44 +115,89 @@ fn first_in_one(n: usize, recv: &[u32], list: &[u32], seen: &mut [u64]) -> usize
     n
 }
 
-// The same with marks for 524,288 cells, which few words hold.
+// The same for cells that each have a byte.
+fn first_in_bytes(n: usize, recv: &[u32], list: &[u32], seen: &mut [u8]) -> usize
+    requires { ⌜ Lengths n (now recv) (now list) ⌝ }
+    requires { ⌜ Blank n (now seen) ⌝ }
+    ensures { λ r. ⌜ Scanned n (now (recv .entry)) (now (list .entry)) 0 (0 + n) n r ⌝ }
+{
+    let mut p: usize = 0;
+    while p < n {
+        let c = list[p] as usize;
+        if n <= c {
+            return p;
+        }
+        if seen[c] == 1 {
+            return p;
+        }
+        seen[c] = 1;
+        if seen[recv[c] as usize] != 1 {
+            return p;
+        }
+        p += 1;
+    }
+    n
+}
+
+// The same with bytes for 65,536 cells, which small grids do not wait for.
 fn first_of_few(n: usize, recv: &[u32], list: &[u32]) -> usize
+    requires { ⌜ Lengths n (now recv) (now list) ⌝ }
+    requires { ⌜ n ≤ 65536 ⌝ }
+    ensures { λ r. ⌜ Scanned n (now (recv .entry)) (now (list .entry)) 0 (0 + n) n r ⌝ }
+{
+    let mut seen: [u8; 65536] = [0; 65536];
+    first_in_bytes(n, recv, list, &mut seen)
+}
+
+// The same with marks for 524,288 cells, which few words hold.
+fn first_of_some(n: usize, recv: &[u32], list: &[u32]) -> usize
     requires { ⌜ Lengths n (now recv) (now list) ⌝ }
     requires { ⌜ n ≤ 524288 ⌝ }
     ensures { λ r. ⌜ Scanned n (now (recv .entry)) (now (list .entry)) 0 (0 + n) n r ⌝ }
 {
     let mut seen: [u64; 8192] = [0; 8192];
-    first_in_one(n, recv, list, &mut seen)
+    first_in_words(n, recv, list, &mut seen)
 }
 
-// The same with marks for as many cells as a stretch has.
-fn first_of_more(n: usize, recv: &[u32], list: &[u32]) -> usize
+// The same with marks for as many cells as lie from the start of one stretch to that of the next.
+fn first_of_many(n: usize, recv: &[u32], list: &[u32]) -> usize
     requires { ⌜ Lengths n (now recv) (now list) ⌝ }
     requires { ⌜ n ≤ stretch ⌝ }
     ensures { λ r. ⌜ Scanned n (now (recv .entry)) (now (list .entry)) 0 (0 + n) n r ⌝ }
 {
-    let mut seen: [u64; 65536] = [0; 65536];
-    first_in_one(n, recv, list, &mut seen)
+    let mut seen: [u64; 131072] = [0; 131072];
+    first_in_words(n, recv, list, &mut seen)
 }
 
-// Refusal 7: the first position with a bad entry, n where the list is a work list. The list is read once for each stretch of cells. No receiver is
-// further than `reach` from its cell.
-pub fn first_bad_entry(n: usize, reach: usize, recv: &[u32], list: &[u32]) -> usize
+// The same for any number of cells: the list is read once for each stretch of them.
+fn first_of_all(n: usize, recv: &[u32], list: &[u32]) -> usize
     requires { ⌜ Lengths n (now recv) (now list) ⌝ }
-    requires { ⌜ Near n reach (now recv) ⌝ }
+    requires { ⌜ Near n (now recv) ⌝ }
     ensures { λ r. ⌜ r ≡ firstBadEntry n (now (recv .entry)) (now (list .entry)) ⌝ }
 {
-    if n <= 524288 {
-        return first_of_few(n, recv, list);
-    }
-    if n <= 4194304 {
-        return first_of_more(n, recv, list);
-    }
     let mut bad = n;
     let mut lo: usize = 0;
     while lo < n {
-        bad = first_in_stretch(n, reach, recv, list, lo, bad);
-        lo += 4194304;
+        bad = first_in_stretch(n, recv, list, lo, bad);
+        lo += 8388608;
     }
     bad
+}
+
+// Refusal 7: the first position with a bad entry, n where the list is a work list. No receiver is far from its cell.
+pub fn first_bad_entry(n: usize, recv: &[u32], list: &[u32]) -> usize
+    requires { ⌜ Lengths n (now recv) (now list) ⌝ }
+    requires { ⌜ Near n (now recv) ⌝ }
+    ensures { λ r. ⌜ r ≡ firstBadEntry n (now (recv .entry)) (now (list .entry)) ⌝ }
+{
+    if n <= 65536 {
+        return first_of_few(n, recv, list);
+    }
+    if n <= 524288 {
+        return first_of_some(n, recv, list);
+    }
+    if n <= 8388608 {
+        return first_of_many(n, recv, list);
+    }
+    first_of_all(n, recv, list)
 }

@@ -74,25 +74,19 @@ first-bad-receiver-requires c κs = (good-sides _ _ (sides (c .before .before .b
 returns-5 : tie.Need-returns-5
 returns-5 c = let a = c .before .before .before .before .before .before .before .before .before .before .before .before .before .before .args in ends-receiver (a .size .w) (a .size .h) (a .hmap .now) (a .params) (a .recv .now) (a .order .now) (a .result) (a .scratch) (sides (c .before .before .before .before .before .before .before .before .before)) (lengths (c .before .before .before .before .before .before)) (setting (c .before .before .before .before)) (heights (c .before .before)) (found (c .before .first-bad-receiver .ensures) (c .if5 .taken)) (c .before .first-bad-receiver .ensures)
 
--- src/lib.rt:172:9
-add-first-bad-entry : tie.Need-add-first-bad-entry
-add-first-bad-entry c =
-    let a = c .before .before .before .before .before .before .before .before .before .before .before .before .before .before .before .args in
-    let r = good-sides (a .size .w) (a .size .h) (sides (c .before .before .before .before .before .before .before .before .before .before)) in
-    omega (arith, r .wide)
-
+-- src/lib.rt:172:17
 first-bad-entry-requires : tie.Need-first-bad-entry-requires
 first-bad-entry-requires c κs =
-    let z = sized _ _ _ _ _ _ (lengths (c .before .before .before .before .before .before .before)) in
-    (network-of _ _ _ _ (z .receivers) (z .entries) (receivers (c .before)), near-network _ _ _ (good-sides _ _ (sides (c .before .before .before .before .before .before .before .before .before .before))) (receivers (c .before)))
+    let z = sized _ _ _ _ _ _ (lengths (c .before .before .before .before .before .before)) in
+    (network-of _ _ _ _ (z .receivers) (z .entries) (receivers (c)), near-network _ _ _ (good-sides _ _ (sides (c .before .before .before .before .before .before .before .before .before))) (receivers (c)))
 
 -- src/lib.rt:174:9
 returns-6 : tie.Need-returns-6
-returns-6 c = let a = c .before .before .before .before .before .before .before .before .before .before .before .before .before .before .before .before .before .args in ends-entry (a .size .w) (a .size .h) (a .hmap .now) (a .params) (a .recv .now) (a .order .now) (a .result) (a .scratch) (sides (c .before .before .before .before .before .before .before .before .before .before .before .before)) (lengths (c .before .before .before .before .before .before .before .before .before)) (setting (c .before .before .before .before .before .before .before)) (heights (c .before .before .before .before .before)) (receivers (c .before .before .before)) (found (c .before .first-bad-entry .ensures) (c .if6 .taken)) (c .before .first-bad-entry .ensures)
+returns-6 c = let a = c .before .before .before .before .before .before .before .before .before .before .before .before .before .before .before .before .args in ends-entry (a .size .w) (a .size .h) (a .hmap .now) (a .params) (a .recv .now) (a .order .now) (a .result) (a .scratch) (sides (c .before .before .before .before .before .before .before .before .before .before .before)) (lengths (c .before .before .before .before .before .before .before .before)) (setting (c .before .before .before .before .before .before)) (heights (c .before .before .before .before)) (receivers (c .before .before)) (found (c .before .first-bad-entry .ensures) (c .if6 .taken)) (c .before .first-bad-entry .ensures)
 
 -- src/lib.rt:151:1
 returns-7 : tie.Need-returns-7
-returns-7 c = let a = c .before .before .before .before .before .before .before .before .before .before .before .before .before .before .before .before .before .args in ends-done (a .size .w) (a .size .h) (a .hmap .now) (a .params) (a .recv .now) (a .order .now) (a .result) (a .scratch) (record { sides = sides (c .before .before .before .before .before .before .before .before .before .before .before .before); lengths = lengths (c .before .before .before .before .before .before .before .before .before); setting = setting (c .before .before .before .before .before .before .before); heights = heights (c .before .before .before .before .before); receivers = receivers (c .before .before .before); entries = found-none (c .before .first-bad-entry .ensures) (c .if6 .left) })
+returns-7 c = let a = c .before .before .before .before .before .before .before .before .before .before .before .before .before .before .before .before .args in ends-done (a .size .w) (a .size .h) (a .hmap .now) (a .params) (a .recv .now) (a .order .now) (a .result) (a .scratch) (record { sides = sides (c .before .before .before .before .before .before .before .before .before .before .before); lengths = lengths (c .before .before .before .before .before .before .before .before); setting = setting (c .before .before .before .before .before .before); heights = heights (c .before .before .before .before); receivers = receivers (c .before .before); entries = found-none (c .before .first-bad-entry .ensures) (c .if6 .left) })
 
 pub refusal-spec : {M : Type 1} → statement M
 refusal-spec =
@@ -109,7 +103,6 @@ refusal-spec =
     returns-4
     first-bad-receiver-requires
     returns-5
-    add-first-bad-entry
     first-bad-entry-requires
     returns-6
     returns-7)

@@ -1,0 +1,31 @@
+use mathlib.Core.Path.{sym, _∙_}
+use native.Mathlib.Omega.{arith}
+use Rattle.lent_list.specs.Seen.{span}
+use Rattle.lent_list.proofs.SeenLaws.{inside}
+use borrow.Author.Needs.{needs}
+use Rattle.lent_list.proofs.missing.Statement.{statement}
+use Rattle.lent_list.proofs.missing.Tie as tie
+
+-- src/lib.rt:49:8
+in-stretch-requires : tie.Need-in-stretch-requires
+in-stretch-requires c κs = search needs
+
+-- src/lib.rt:50:31
+sub-unmarked : tie.Need-sub-unmarked
+sub-unmarked c = inside span (c .before .before .before .args .lo) (c .before .before .before .args .r) (sym (c .before .in-stretch .ensures) ∙ c .if1 .taken) .0
+
+-- src/lib.rt:50:9
+unmarked-requires : tie.Need-unmarked-requires
+unmarked-requires c κs = let p = inside span (c .before .before .before .args .lo) (c .before .before .before .args .r) (sym (c .before .in-stretch .ensures) ∙ c .if1 .taken) in omega (arith, p .0, p .1, c .before .before .before .pre)
+
+-- src/lib.rt:50:9
+returns : tie.Need-returns
+returns c = rw (sym (c .before .before .in-stretch .ensures) ∙ c .before .if1 .taken) (c .unmarked .ensures)
+
+-- src/lib.rt:45:1
+returns-2 : tie.Need-returns-2
+returns-2 c = rw (sym (c .before .in-stretch .ensures) ∙ c .if1 .left)
+
+pub missing-spec : {M : Type 1} → statement M
+missing-spec =
+    tie.close (tie.spec in-stretch-requires sub-unmarked unmarked-requires returns returns-2)
