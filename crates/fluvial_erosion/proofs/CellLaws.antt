@@ -1,5 +1,5 @@
 -- The coefficients and one cell's incision as the code does them, along the list.
-use Prim.Native.Nat.{ℕ, suc, _+_, _*_, _≤_, _<_}
+use Prim.Native.Nat.{ℕ, suc, _+_, _*_, _^_, _≤_, _<_}
 use native.Mathlib.Numerals.{add-one}
 use native.Mathlib.Omega.{arith}
 use mathlib.Core.Path.{_≡_, refl, sym, ap, ap₂, _∙_}
@@ -13,10 +13,12 @@ use Rattle.grid.specs.Sides.{InRange}
 use Rattle.grid.proofs.SidesLaws.{cells-bound, some-column}
 use Rattle.drainage.specs.Ground.{Ground, gridGround}
 use Rattle.drainage.specs.Receivers.{distanceTo}
-use Rattle.drainage.specs.Ways.{areasAlong}
+use Rattle.drainage.specs.Ways.{passes, areaOf, areasAlong}
+use Rattle.drainage.proofs.CountLaws.{count-le}
+use Rattle.drainage.proofs.AreaLaws.{length-areas, areas}
 use Rattle.ways.proofs.DistanceLaws.{distance-is}
 use Rattle.lent_receivers.proofs.ReceiverLaws.{good-is}
-use Rattle.rates.specs.Rate.{ratesOver}
+use Rattle.rates.specs.Rate.{ratesOver, WholeAreas}
 use Rattle.rates.proofs.TableLaws.{rate-over, length-over}
 use Rattle.cuts.specs.Cut.{incisionCoef, overDistances, drainedTo, cutOf, cutAt, Steps, CellOf}
 use Rattle.cuts.proofs.DistanceLaws.{coefficient, length-coefficients}
@@ -126,6 +128,19 @@ incised-along {w} {h} recv list {p} areas hs drains long few a b s l =
 pub cells-float : {w h : ℕ} → InRange w h → T (inFloat binary32 (pos (w * h)))
 unfolding inFloat
 cells-float {w} {h} r = le→leb _ _ (cells-bound w h (r .wide) (r .high))
+
+-- the areas along the list are whole numbers
+pub whole-areas : {w h n : ℕ} {recv list : List ℕ} {area : List Float} → Drains w h recv list → n ≡ w * h → area ≡ areasAlong n recv list → WholeAreas area
+unfolding areaOf
+whole-areas {w} {h} {n} {recv} {list} {area} drains e a c l =
+    let few : w * h ≤ 2 ^ 24 = cells-bound w h (drains .sides .wide) (drains .sides .high) in
+    let along : area ≡ areasAlong (w * h) recv list = a ∙ ap (λ (k : ℕ). areasAlong k recv list) e in
+    let long : length area ≡ w * h = ap length along ∙ length-areas (w * h) few recv list in
+    record {
+      number = areaOf (w * h) recv c;
+      same = ap (λ (t : List Float). getD t c nan) along ∙ areas (w * h) few recv list (drains .work) .area c (omega arith);
+      small = omega (arith, count-le (w * h) (λ j. passes recv (w * h) j c));
+    }
 
 -- the areas and the incision along the list together
 pub carved : {w h n : ℕ} {hs : List Float} {p : FluvialParams} {recv list : List ℕ} {area out : List Float} → n ≡ w * h → area ≡ areasAlong n recv list

@@ -18,6 +18,7 @@ ghost use mathlib.Core.Path.{_≡_};
 ghost use Prim.Native.Nat.{_*_};
 ghost use lib.ListN.{length};
 ghost use Rattle.drainage.specs.Ground.{gridGround};
+ghost use Rattle.rates.specs.Rate.{WholeAreas};
 ghost use Rattle.fluvial_erosion.specs.Incision.{inciseAlong};
 ghost use Rattle.answers.specs.Outcome.{gives, refused, refusedAt, answerOf};
 ghost use Rattle.fluvial_erosion.specs.Incise.{badLengths, badIncision, inciseRefusal, InciseMade};
@@ -30,7 +31,7 @@ pub struct FluvialParams {
     pub water_level: f32,
 }
 
-// The heights of `hmap` in `out`, incised along the list by areas that are given. `out` holds the coefficients of the cells at first, and the new
+// The heights of `hmap` in `out`, incised along the list by areas that are given, each a number of cells. `out` holds the coefficients of the cells at first, and the new
 // height of each as soon as it is incised, so that it is only `hmap` and `out` that are read at random.
 pub fn incise_along(
     size: Sides,
@@ -43,6 +44,7 @@ pub fn incise_along(
 )
     requires { ⌜ Drains (size .w) (size .h) (now recv) (now order) ⌝ }
     requires { ⌜ Lengths (size .w * size .h) (length (now hmap)) (length (now out)) (length (now area)) ⌝ }
+    requires { ⌜ WholeAreas (now area) ⌝ }
     ensures { λ _. ⌜ now (out .exit) ≡ inciseAlong (gridGround (size .w) (size .h) (params .«water_level») (now (hmap .entry))) params (now (area .entry)) (now (recv .entry)) (now (order .entry)) (now (hmap .entry)) ⌝ }
 {
     let n_cells = (size.w * size.h) as f32;

@@ -13,7 +13,7 @@ use Rattle.grid.specs.Heights.{allFinite}
 use Rattle.generators.specs.Marks.{reportOf}
 use Rattle.generators.specs.declared.Progress.{Progress}
 use Rattle.drainage.specs.Ground.{floats, gridGround}
-use Rattle.drainage.specs.Ways.{WorkList}
+use Rattle.drainage.specs.Ways.{WorkList, areasAlong}
 use Rattle.drainage.specs.Theorems.{Network}
 use Rattle.drainage.proofs.TallyLaws.{same-or-not}
 use Rattle.drainage.proofs.GroundLaws.{grid-networks}
@@ -52,6 +52,11 @@ module _ (w h : ℕ) (hs : List Float) (water : Float) (a : Accepted w h hs) (fi
         near = λ c l. subst (λ (t : List ℕ). goodReceiver w h c (getD t c 0) ≡ true) (sym (r .received)) (near c l);
         work = subst (λ (t : List ℕ). WorkList (w * h) t order) (sym (r .received)) (subst (λ (t : List ℕ). WorkList (w * h) (receiversOf w h hs water) t) (sym (r .left)) (net .work-list));
       }
+
+-- the areas of a routing are those along its order
+pub routed-areas : {w h : ℕ} {hs : List Float} {water : Float} {order recv : List ℕ} {spill area : List Float} → Holding w h hs water order recv spill area
+    → area ≡ areasAlong (w * h) recv order
+routed-areas {w} {h} r = r .drained ∙ (λ i. areasAlong (w * h) (sym (r .received) i) (sym (r .left) i))
 
 -- the routing, and the incision by the areas that it left
 pub carves : (w h : ℕ) (p : FluvialParams) (hs out : List Float) {order recv : List ℕ} {spill area : List Float}

@@ -1,26 +1,37 @@
 -- The table of rates: how it is filled, and what is read from it.
 use Prim.Native.Nat.{ℕ, _+_, _^_, _≤_, _<_}
-use mathlib.Core.Path.{_≡_, sym, ap, _∙_}
+use mathlib.Core.Path.{_≡_, sym, ap, _∙_, subst}
 use mathlib.Core.List.{List}
 use native.Mathlib.Omega.{arith}
 use lib.ListN.{length, getD, set, drop, replicate, length-replicate, List·getD-append}
 use lib.Dec.{T, le→leb}
 use lib.IntN.{pos}
-use lib.Ieee.{Float, nan, binary32, ofBits, mul, div, inFloat, toBits, fits}
+use lib.Ieee.{Float, nan, binary32, ofBits, mul, div, inFloat, inUnsigned, toUnsigned}
+use lib.Ieee.Back.{unsigned-back}
 use Rattle.lists.specs.Loops.{tabulate}
 use Rattle.lists.proofs.TableLaws.{length-tabulate, getD-tabulate, filled, filled-more}
 use Rattle.lists.proofs.FillLaws.{Filling, filling-done}
 use Rattle.floats.specs.Stand.{maxOf}
 use Rattle.square_root.specs.Root.{rootOf}
 use Rattle.float_order.specs.Whole.{whole}
-use Rattle.float_order.proofs.ValueLaws.{bits-unique}
-use Rattle.float_order.proofs.WholeLaws.{whole-fits}
-use Rattle.rates.specs.Rate.{rateOf, ratesOf, ratesOver}
+use Rattle.rates.specs.Rate.{rateOf, ratesOf, ratesOver, WholeArea}
 
 -- a number of the table is a float
 pub place-float : (i : ℕ) → i < 1024 → T (inFloat binary32 (pos i))
 unfolding inFloat
 place-float i l = let bound : i ≤ 2 ^ 24 = omega arith in le→leb _ _ bound
+
+-- the number of a whole area, by a cast
+module _ {area : Float} (a : WholeArea area) where
+  area-back : T (inUnsigned binary32 32 (whole (a .number))) × (toUnsigned 32 (whole (a .number)) ≡ a .number)
+  unfolding inFloat
+  area-back = unsigned-back binary32 32 (a .number) (le→leb _ _ (a .small)) (omega (arith, a .small))
+
+  pub area-cast : T (inUnsigned binary32 32 area)
+  area-cast = subst (λ (x : Float). T (inUnsigned binary32 32 x)) (sym (a .same)) (area-back .0)
+
+  pub area-number : toUnsigned 32 area ≡ a .number
+  area-number = ap (toUnsigned 32) (a .same) ∙ area-back .1
 
 -- the rate as the code works it out
 pub rate-is : (area n k : Float) {most r : Float} → most ≡ maxOf area (mul binary32 (ofBits binary32 0x38d1_b717) n) → r ≡ rootOf (div binary32 most n) → mul binary32 k r ≡ rateOf area n k
@@ -45,12 +56,11 @@ module _ (n k : Float) (m : ℕ) where
       List·getD-append (tabulate m (λ j. rateOf (whole j) n k)) (drop m (replicate 1024 (ofBits binary32 0))) nan i (omega (arith, length-tabulate (λ j. rateOf (whole j) n k) m))
       ∙ getD-tabulate (λ j. rateOf (whole j) n k) m i nan l
 
-  -- the rate of an area with the bits of a number of the table
-  pub rates-read : (rates : List Float) (i : ℕ) (area : Float) {a b : ℕ} → rates ≡ ratesOf m n k → i < m → T (fits binary32 area)
-      → a ≡ toBits binary32 (whole i) → b ≡ toBits binary32 area → a ≡ b → getD rates i nan ≡ rateOf area n k
-  rates-read rates i area e l f p q s =
-      let same : whole i ≡ area = bits-unique (whole i) area (whole-fits i) f (sym p ∙ s ∙ q) in
-      ap (λ (t : List Float). getD t i nan) e ∙ rates-at i l ∙ ap (λ (x : Float). rateOf x n k) same
+  -- the rate of an area whose number the table has
+  pub rates-read : (rates : List Float) {area : Float} (a : WholeArea area) → rates ≡ ratesOf m n k → toUnsigned 32 area < m → getD rates (toUnsigned 32 area) nan ≡ rateOf area n k
+  rates-read rates {area} a e l =
+      let read : toUnsigned 32 area ≡ a .number = area-number a in
+      ap (λ (t : List Float). getD t (toUnsigned 32 area) nan) e ∙ rates-at (toUnsigned 32 area) l ∙ ap (λ (x : Float). rateOf x n k) (ap whole read ∙ sym (a .same))
 
 -- the rates of all cells
 module _ (areas : List Float) (n k : Float) where

@@ -1,5 +1,6 @@
 -- Document 01, 'Incision', the coefficient before its division by the distance.
-use Prim.Native.Nat.{ℕ}
+use Prim.Native.Nat.{ℕ, _^_, _≤_, _<_}
+use mathlib.Core.Path.{_≡_}
 use mathlib.Core.List.{List, _++_}
 use lib.ListN.{length, getD, drop, replicate}
 use lib.Ieee.{Float, nan, binary32, ofBits, mul, div}
@@ -21,3 +22,13 @@ ratesOf m n k = tabulate m (λ i. rateOf (whole i) n k) ++ drop m (replicate 102
 unfoldable pub ratesOver : List Float → Float → Float → List Float
 unfolding tabulate
 ratesOver areas n k = tabulate (length areas) (λ c. rateOf (getD areas c nan) n k)
+
+-- an area is a whole number that binary32 has as it is
+pub record WholeArea (area : Float) : Type 0 where
+  pub number : ℕ
+  pub same : area ≡ whole number
+  pub small : number ≤ 2 ^ 24
+
+-- and so is each of all cells
+abbrev pub WholeAreas : List Float → Type 0
+WholeAreas areas = (c : ℕ) → c < length areas → WholeArea (getD areas c nan)

@@ -1,12 +1,11 @@
 // The rate of an incision: its coefficient before the division by the distance. Areas are whole numbers and most of them are small, so the rates of
 // the small ones are worked out once for each incision and read from a table.
 use floats::max;
-use floats::to_bits;
 use square_root::root_of;
 ghost use mathlib.Core.Path.{_≡_};
 ghost use Prim.Native.Nat.{_/_, min, _≤_};
 ghost use lib.ListN.{length};
-ghost use Rattle.rates.specs.Rate.{rateOf, ratesOf, ratesOver};
+ghost use Rattle.rates.specs.Rate.{rateOf, ratesOf, ratesOver, WholeArea, WholeAreas};
 
 // The rate of a cell draining `area` cells out of `n_cells`; areas below 1e-4 of the map share that floor's rate.
 pub fn rate(area: f32, n_cells: f32, k: f32) -> f32
@@ -37,25 +36,24 @@ pub fn table(m: usize, n_cells: f32, k: f32) -> [f32; 1024]
     rates
 }
 
-// The rate of an area, read from the table where it is a whole number below m. The sum has that number in its last digits; any other area differs
-// from the number found there.
+// The rate of a whole area, read from the table where the area is below m.
 pub fn rate_at(rates: &[f32; 1024], m: usize, area: f32, n_cells: f32, k: f32) -> f32
     requires { ⌜ m ≤ 1024 ⌝ }
     requires { ⌜ now rates ≡ ratesOf m «n_cells» k ⌝ }
+    requires { ⌜ WholeArea area ⌝ }
     ensures { λ r. ⌜ r ≡ rateOf area «n_cells» k ⌝ }
 {
-    let i = (to_bits(area + 8388608.0) % 1024) as usize;
+    let i = (area as u32) as usize;
     if i < m {
-        if to_bits(i as f32) == to_bits(area) {
-            return rates[i];
-        }
+        return rates[i];
     }
     rate(area, n_cells, k)
 }
 
-// The rates of all cells by their areas.
+// The rates of all cells by their areas, which are whole numbers.
 pub fn rates_of(area: &[f32], n_cells: f32, k: f32, out: &mut [f32])
     requires { ⌜ length (now out) ≡ length (now area) ⌝ }
+    requires { ⌜ WholeAreas (now area) ⌝ }
     ensures { λ _. ⌜ now (out .exit) ≡ ratesOver (now (area .entry)) «n_cells» k ⌝ }
 {
     let n = area.len();

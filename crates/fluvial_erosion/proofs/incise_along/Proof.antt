@@ -23,11 +23,11 @@ int-to-float-n-cells c = cells-float (c .before .before .before .before .before 
 
 -- src/lib.rt:49:5
 rates-of-requires : tie.Need-rates-of-requires Inv-loop μ-loop
-rates-of-requires c κs = c .before .before .before .before .before .before .before .before .pre .1 .result ∙ sym (c .before .before .before .before .before .before .before .before .pre .1 .areas)
+rates-of-requires c κs = let p = c .before .before .before .before .before .before .before .before .pre .1 in (p .0 .result ∙ sym (p .0 .areas), p .1)
 
 -- src/lib.rt:50:5
 divide-by-distances-requires : tie.Need-divide-by-distances-requires Inv-loop μ-loop
-divide-by-distances-requires c κs = steps-of (c .before .before .before .before .before .before .before .before .before .before .before .before .pre .0) (c .before .before .before .rates-of .kept .1 .1 .1 .0 ∙ c .before .before .before .before .before .before .before .before .before .before .before .before .pre .1 .result)
+divide-by-distances-requires c κs = steps-of (c .before .before .before .before .before .before .before .before .before .before .before .before .pre .0) (c .before .before .before .rates-of .kept .1 .1 .1 .0 ∙ c .before .before .before .before .before .before .before .before .before .before .before .before .pre .1 .0 .result)
 
 -- src/lib.rt:53:5
 loop-holds : tie.Need-loop-holds Inv-loop μ-loop
@@ -47,7 +47,7 @@ cast-incise-cell c = omega (arith, c .shared-slice-known5 .given (c .before .bef
 
 -- src/lib.rt:54:9
 incise-cell-requires : tie.Need-incise-cell-requires Inv-loop μ-loop
-incise-cell-requires c κs = let p = c .before .before .before .before .before .before .before .before .before .before .before .before .before .before .before .before .before .before .before .pre in cell-of (p .0) _ _ _ (p .0 .along .entries _ (c .before .before .loop-test .taken)) (p .1 .heights) (c .before .before .before .loop .inv .long ∙ c .before .before .before .before .before .before .divide-by-distances .kept .1 .1 .0 ∙ c .before .before .before .before .before .before .before .before .before .before .rates-of .kept .1 .1 .1 .0 ∙ p .1 .result)
+incise-cell-requires c κs = let p = c .before .before .before .before .before .before .before .before .before .before .before .before .before .before .before .before .before .before .before .pre in cell-of (p .0) _ _ _ (p .0 .along .entries _ (c .before .before .loop-test .taken)) (p .1 .0 .heights) (c .before .before .before .loop .inv .long ∙ c .before .before .before .before .before .before .divide-by-distances .kept .1 .1 .0 ∙ c .before .before .before .before .before .before .before .before .before .before .rates-of .kept .1 .1 .1 .0 ∙ p .1 .0 .result)
 
 -- src/lib.rt:62:9
 add-i : tie.Need-add-i Inv-loop μ-loop
@@ -67,7 +67,7 @@ same-length c = c .before .loop .inv .long ∙ c .before .before .before .before
 
 -- src/lib.rt:35:1
 returns : tie.Need-returns Inv-loop μ-loop
-returns c = let p = c .before .before .before .before .before .before .before .before .before .before .before .before .before .before .before .before .before .pre in incised-along _ _ _ _ (p .0) (p .1 .heights) (p .1 .areas) (c .before .before .before .before .before .before .before .before .rates-of .ensures) (c .before .before .before .before .divide-by-distances .ensures) (c .before .loop .inv) (c .loop-test .left)
+returns c = let p = c .before .before .before .before .before .before .before .before .before .before .before .before .before .before .before .before .before .pre in incised-along _ _ _ _ (p .0) (p .1 .0 .heights) (p .1 .0 .areas) (c .before .before .before .before .before .before .before .before .rates-of .ensures) (c .before .before .before .before .divide-by-distances .ensures) (c .before .loop .inv) (c .loop-test .left)
 
 pub incise-along-spec : {M : Type 1} → statement M
 incise-along-spec =

@@ -1,4 +1,4 @@
-use Rattle.fluvial_erosion.proofs.CellLaws.{carved}
+use Rattle.fluvial_erosion.proofs.CellLaws.{carved, whole-areas}
 use borrow.Author.Needs.{needs}
 use Rattle.fluvial_erosion.proofs.incise_into.Statement.{statement}
 use Rattle.fluvial_erosion.proofs.incise_into.Tie as tie
@@ -9,7 +9,9 @@ accumulate-requires c κs = rw (c .before .before .before .before .before .befor
 
 -- src/lib.rt:81:5
 incise-along-requires : tie.Need-incise-along-requires
-incise-along-requires c κs = search needs
+incise-along-requires c κs =
+    let p = c .before .before .before .before .before .before .before .before .before .before .before .pre in
+    (p .0, (search needs, whole-areas (p .0) (p .1 .areas) (c .before .before .before .before .accumulate .ensures)))
 
 -- src/lib.rt:67:1
 same-length : tie.Need-same-length

@@ -1,5 +1,6 @@
-use mathlib.Core.Path.{_∙_}
-use Rattle.incision_step.proofs.OpeningLaws.{routing-drains, carves}
+use mathlib.Core.Path.{refl, _∙_}
+use Rattle.fluvial_erosion.proofs.CellLaws.{whole-areas}
+use Rattle.incision_step.proofs.OpeningLaws.{routing-drains, routed-areas, carves}
 use borrow.Author.Needs.{needs}
 use Rattle.incision_step.proofs.carve.Statement.{statement}
 use Rattle.incision_step.proofs.carve.Tie as tie
@@ -12,8 +13,10 @@ route-grid-requires c κs = search needs
 incise-along-requires : tie.Need-incise-along-requires
 incise-along-requires c κs =
     let p = c .before .before .before .before .before .before .before .before .before .before .before .before .before .before .before .before .before .before .before .before .before .before .before .before .before .before .before .before .before .before .pre in
-    let k = c .before .before .before .before .before .before .before .before .before .before .before .before .before .before .before .before .route-grid .kept .1 .1 .1 .1 in
-    (routing-drains _ _ _ _ (p .0) (c .before .before .before .before .before .before .before .before .before .before .before .before .before .before .before .before .before .before .before .before .before .before .before .before .before .before .before .before .before .shared-slice-known .given) (c .before .before .before .before .before .before .before .before .before .before .before .before .before .before .before .before .route-grid .ensures) (k .0 ∙ p .1 .receivers), record { heights = p .0 .cells; result = k .1 .0 ∙ p .1 .spill; areas = k .1 .1 .0 ∙ p .1 .areas })
+    let route = c .before .before .before .before .before .before .before .before .before .before .before .before .before .before .before .before .route-grid in
+    let k = route .kept .1 .1 .1 .1 in
+    let drains = routing-drains _ _ _ _ (p .0) (c .before .before .before .before .before .before .before .before .before .before .before .before .before .before .before .before .before .before .before .before .before .before .before .before .before .before .before .before .before .shared-slice-known .given) (route .ensures) (k .0 ∙ p .1 .receivers) in
+    (drains, (record { heights = p .0 .cells; result = k .1 .0 ∙ p .1 .spill; areas = k .1 .1 .0 ∙ p .1 .areas }, whole-areas drains refl (routed-areas (route .ensures))))
 
 -- src/lib.rt:20:1
 same-length : tie.Need-same-length

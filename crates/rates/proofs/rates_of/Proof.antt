@@ -37,7 +37,7 @@ shared-slice-read-rate-at c = c .before .before .loop-test .taken
 
 -- src/lib.rt:66:18
 rate-at-requires : tie.Need-rate-at-requires Inv-loop μ-loop
-rate-at-requires c κs = (omega (arith, c .before .before .before .before .before .table-size .ensures), c .before .before .before .before .table .ensures)
+rate-at-requires c κs = (omega (arith, c .before .before .before .before .before .table-size .ensures), (c .before .before .before .before .table .ensures, c .before .before .before .before .before .before .before .before .pre .1 _ (c .before .before .loop-test .taken)))
 
 -- src/lib.rt:66:9
 mul-out : tie.Need-mul-out Inv-loop μ-loop
@@ -45,7 +45,7 @@ mul-out c = omega (arith, c .before .before .before .loop-test .taken, c .before
 
 -- src/lib.rt:66:9
 slice-write-out : tie.Need-slice-write-out Inv-loop μ-loop
-slice-write-out c = omega (arith, c .before .before .before .loop-test .taken, filling-length (c .before .before .before .before .loop .inv), c .before .before .before .before .before .before .before .before .before .pre)
+slice-write-out c = omega (arith, c .before .before .before .loop-test .taken, filling-length (c .before .before .before .before .loop .inv), c .before .before .before .before .before .before .before .before .before .pre .0)
 
 -- src/lib.rt:67:9
 add-i : tie.Need-add-i Inv-loop μ-loop
@@ -57,7 +57,7 @@ loop-less c = omega (arith, c .before .before .before .loop-test .taken)
 
 -- src/lib.rt:65:5
 loop-again : tie.Need-loop-again Inv-loop μ-loop
-loop-again c = filling-more (c .before .before .before .before .loop .inv) (c .rate-at .ensures) (omega (arith, c .before .before .before .loop-test .taken, c .before .before .before .before .before .before .before .before .before .pre))
+loop-again c = filling-more (c .before .before .before .before .loop .inv) (c .rate-at .ensures) (omega (arith, c .before .before .before .loop-test .taken, c .before .before .before .before .before .before .before .before .before .pre .0))
 
 -- src/lib.rt:57:1
 same-length : tie.Need-same-length Inv-loop μ-loop
@@ -65,7 +65,7 @@ same-length c = filling-length (c .before .loop .inv)
 
 -- src/lib.rt:57:1
 returns : tie.Need-returns Inv-loop μ-loop
-returns c = rates-over _ _ _ (c .before .loop .inv) (c .before .before .before .before .before .before .pre) (c .loop-test .left)
+returns c = rates-over _ _ _ (c .before .loop .inv) (c .before .before .before .before .before .before .pre .0) (c .loop-test .left)
 
 pub rates-of-spec : {M : Type 1} → statement M
 rates-of-spec =
