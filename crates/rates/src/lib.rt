@@ -16,9 +16,9 @@ pub fn rate(area: f32, n_cells: f32, k: f32) -> f32
 
 // How many whole areas, from 0 on, the table of a grid of n cells has: few next to n, so that making it costs little.
 pub fn table_size(n: usize) -> usize
-    ensures { λ r. ⌜ r ≡ min (n / 16) 1024 ⌝ }
+    ensures { λ r. ⌜ r ≡ min (n / 64) 1024 ⌝ }
 {
-    let some = n / 16;
+    let some = n / 64;
     if some < 1024 { some } else { 1024 }
 }
 
