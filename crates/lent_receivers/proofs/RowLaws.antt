@@ -2,7 +2,7 @@
 use Prim.Native.Nat.{ℕ, zero, suc, _+_, _-_, _*_, _%_, _^_, _≤_, _<_}
 use native.Mathlib.Omega.{arith}
 use native.Mathlib.Decide.{decLt, ℕ-discrete}
-use mathlib.Core.Path.{_≡_, refl, sym, ap, _∙_, subst}
+use mathlib.Core.Path.{_≡_, refl, sym, ap, ap₂, _∙_, subst}
 use mathlib.Core.Bool.{Bool, true, false, cond, not, _&&_, _||_, true≢false}
 use mathlib.Core.List.{List}
 use lib.ListN.{getD}
@@ -11,15 +11,15 @@ use borrow.Author.Tests.{lt-ltb, le-ltb, ltb-true, ltb-false, eqb-false, ne-eqb,
 use Rattle.lists.proofs.TestLaws.{both}
 use Rattle.lists.specs.Loops.{turns}
 use Rattle.lists.proofs.TurnLaws.{turns-none, turns-more}
-use Rattle.grid.specs.Sides.{cellOf}
-use Rattle.grid.proofs.SidesLaws.{cell-lt}
+use Rattle.grid.specs.Sides.{InRange, cellOf}
+use Rattle.grid.proofs.SidesLaws.{cell-lt, cells-bound}
 use Rattle.lists.specs.Firsts.{First}
 use Rattle.lent_receivers.specs.Receivers.{amongThree, besideInner, innerPass, rowPasses, goodReceiver, receiverTest}
 use Rattle.lent_receivers.proofs.ReceiverLaws.{above, level, below, band-good}
 use Rattle.lists.proofs.FirstLaws.{first-end}
 
 -- ---- the code's test of three cells: the difference wraps below the first
-pub three-is : (from r d : ℕ) → from ≤ 4096 * 4096 → d < 2 ^ 32 → (d + from) % 2 ^ 32 ≡ r → ltb d 3 ≡ amongThree from r
+three-is : (from r d : ℕ) → from ≤ 4096 * 4096 → d < 2 ^ 32 → (d + from) % 2 ^ 32 ≡ r → ltb d 3 ≡ amongThree from r
 three-is from r d l f e = go (decLt d 3) (decLt r from)
   where
     go : Dec (d < 3) → Dec (r < from) → ltb d 3 ≡ amongThree from r
@@ -29,6 +29,17 @@ three-is from r d l f e = go (decLt d 3) (decLt r from)
         let m : 3 ≤ d = omega arith in
         let n : from + 3 ≤ r = omega arith in
         rw (le-ltb d 3 m, le-leb from r (omega arith), le-ltb r (from + 3) n)
+
+-- and of the nine: past is how far r lies beyond the first of them, second and third how far it lies beyond the first of the next rows
+pub beside-is : (w from r past second third : ℕ) → from + w + w ≤ 4096 * 4096 → past < 2 ^ 32 → second < 2 ^ 32 → third < 2 ^ 32
+    → (past + from) % 2 ^ 32 ≡ r → (second + w) % 2 ^ 32 ≡ past → (third + (w + w)) % 2 ^ 32 ≡ past
+    → (ltb past 3 || ltb second 3 || ltb third 3) ≡ besideInner w (from + (w + 1)) r
+beside-is w from r past second third l a b c e f g =
+    let back : from ≡ from + (w + 1) - (w + 1) = omega arith in
+    ap₂ _||_
+    (ap₂ _||_ (three-is from r past (omega arith) a e) (three-is (from + w) r second (omega arith) b (omega arith)))
+    (three-is (from + w + w) r third (omega arith) c (omega arith))
+    ∙ ap (λ (k : ℕ). amongThree k r || amongThree (k + w) r || amongThree (k + w + w) r) back
 
 among : (from r : ℕ) → amongThree from r ≡ true → (from ≤ r) × (r < from + 3)
 among from r e = let p = both (leb from r) (ltb r (from + 3)) e in (leb-true from r (p .0), ltb-true r (from + 3) (p .1))
@@ -68,6 +79,19 @@ module _ (w h x y : ℕ) (west : 1 ≤ x) (east : x + 1 < w) (north : 1 ≤ y) (
       go false p false q false s e = absurd (true≢false (sym e))
 
 -- ---- the loop
+-- the i-th inner cell of an inner row, with all nine cells beside it, lies in the grid
+pub record InnerAt (w h y i : ℕ) : Type 0 where
+  pub wide : w ≤ 4096
+  pub few : w * h ≤ 4096 * 4096
+  pub above : w ≤ y * w
+  pub last : 1 + i + y * w + w + 1 < w * h
+
+pub inner-at : {w h y : ℕ} → InRange w h → (3 ≤ w) × (1 ≤ y) × (y + 1 < h) → (i : ℕ) → i < w - 2 → InnerAt w h y i
+inner-at {w} {h} {y} sides inner i l =
+    let first = inner-places w h 1 y (omega arith) (omega arith) (inner .1) (inner .2) in
+    let here = inner-places w h (1 + i) y (omega arith) (omega arith) (inner .1) (inner .2) in
+    record { wide = sides .wide; few = cells-bound w h (sides .wide) (sides .high); above = omega (arith, first); last = here .1 }
+
 pub record Passing (w : ℕ) (recv : List ℕ) (y i : ℕ) (good : Bool) : Type 0 where
   pub place : i ≤ w - 2
   pub state : good ≡ turns i (λ j b. b && besideInner w (1 + j + y * w) (getD recv (1 + j + y * w) 0)) true
@@ -76,12 +100,15 @@ module _ (w : ℕ) (recv : List ℕ) (y : ℕ) where
   pub passing-none : Passing w recv y 0 true
   passing-none = record { place = omega arith; state = sym (turns-none (λ j b. b && besideInner w (1 + j + y * w) (getD recv (1 + j + y * w) 0)) true) }
 
-  pub passing-more : {i : ℕ} {good next : Bool} → Passing w recv y i good → i < w - 2 → next ≡ besideInner w (1 + i + y * w) (getD recv (1 + i + y * w) 0) → Passing w recv y (i + 1) (good && next)
-  passing-more {i} {good} {next} s l e =
+  pub passing-more : {h i : ℕ} {good next : Bool} → InnerAt w h y i → Passing w recv y i good → i < w - 2
+      → next ≡ besideInner w (y * w - w + i + (w + 1)) (getD recv (1 + i + y * w) 0) → Passing w recv y (i + 1) (good && next)
+  passing-more {h} {i} {good} {next} a s l e =
+      let cell : y * w - w + i + (w + 1) ≡ 1 + i + y * w = omega (arith, a .above) in
       record {
         place = omega arith;
         state =
-            ap (λ (b : Bool). good && b) e ∙ ap (λ (b : Bool). b && besideInner w (1 + i + y * w) (getD recv (1 + i + y * w) 0)) (s .state)
+            ap (λ (b : Bool). good && b) (e ∙ ap (λ (k : ℕ). besideInner w k (getD recv (1 + i + y * w) 0)) cell)
+            ∙ ap (λ (b : Bool). b && besideInner w (1 + i + y * w) (getD recv (1 + i + y * w) 0)) (s .state)
             ∙ sym (turns-more (λ j b. b && besideInner w (1 + j + y * w) (getD recv (1 + j + y * w) 0)) i true);
       }
 

@@ -7,7 +7,7 @@ ghost use lib.ListN.{length};
 ghost use Rattle.lists.specs.Firsts.{First};
 ghost use Rattle.grid.specs.Sides.{InRange, cellOf};
 ghost use Rattle.grid.specs.Directions.{Place};
-ghost use Rattle.lent_receivers.specs.Receivers.{amongThree, besideInner, innerPass, rowPasses, goodReceiver, receiverTest, firstBadReceiver};
+ghost use Rattle.lent_receivers.specs.Receivers.{besideInner, innerPass, rowPasses, goodReceiver, receiverTest, firstBadReceiver};
 
 // The cell before cell c of column x in its row, or c itself in the first column.
 fn cell_before(x: usize, c: usize) -> usize
@@ -64,24 +64,18 @@ fn bad_receiver(size: Sides, x: usize, y: usize, r: usize) -> bool
     true
 }
 
-// Whether r is one of the three cells from `from` on.
-fn among_three(r: u32, from: u32) -> bool
-    requires { ⌜ from ≤ 4096 * 4096 ⌝ }
-    ensures { λ b. ⌜ b ≡ amongThree from r ⌝ }
+// Whether r is an inner cell or a neighbour of it, with no branch to be foreseen. `from` is the first of these nine.
+fn beside(r: u32, from: u32, w: u32) -> bool
+    requires { ⌜ from + w + w ≤ 4096 * 4096 ⌝ }
+    ensures { λ b. ⌜ b ≡ besideInner w (from + (w + 1)) r ⌝ }
 {
-    std::num::wrapping_sub_u32(r, from) < 3
+    let past = std::num::wrapping_sub_u32(r, from);
+    (past < 3)
+        | (std::num::wrapping_sub_u32(past, w) < 3)
+        | (std::num::wrapping_sub_u32(past, w + w) < 3)
 }
 
-// Whether r is the inner cell c or a neighbour of it, with no branch to be foreseen.
-fn beside(r: u32, c: u32, w: u32) -> bool
-    requires { ⌜ (w + 1 ≤ c) × (c + w + 1 < 4096 * 4096) ⌝ }
-    ensures { λ b. ⌜ b ≡ besideInner w c r ⌝ }
-{
-    let from = c - (w + 1);
-    among_three(r, from) | among_three(r, from + w) | among_three(r, from + w + w)
-}
-
-// Whether every inner cell of an inner row y passes.
+// Whether every inner cell of an inner row y passes. `above` is the first cell of the row above.
 fn inner_pass(size: Sides, recv: &[u32], y: usize) -> bool
     requires { ⌜ InRange (size .w) (size .h) ⌝ }
     requires { ⌜ length (now recv) ≡ size .w * size .h ⌝ }
@@ -90,11 +84,11 @@ fn inner_pass(size: Sides, recv: &[u32], y: usize) -> bool
 {
     let w = size.w;
     let n = w - 2;
+    let above = (y * w - w) as u32;
     let mut good = true;
     let mut i: usize = 0;
     while i < n {
-        let c = 1 + i + y * w;
-        good = good & beside(recv[c], c as u32, w as u32);
+        good = good & beside(recv[1 + i + y * w], above + (i as u32), w as u32);
         i += 1;
     }
     good

@@ -1,55 +1,34 @@
-use mathlib.Core.Path.{ap₂}
-use mathlib.Core.Bool.{_||_}
+use Rattle.lent_receivers.proofs.RowLaws.{beside-is}
 use borrow.Author.Needs.{needs}
 use Rattle.lent_receivers.proofs.beside.Statement.{statement}
 use Rattle.lent_receivers.proofs.beside.Tie as tie
 
--- src/lib.rt:80:21
-add-from : tie.Need-add-from
-add-from c = search needs
+-- src/lib.rt:72:9
+wrapping-sub-u32-requires : tie.Need-wrapping-sub-u32-requires
+wrapping-sub-u32-requires c κs = search needs
 
--- src/lib.rt:80:16
-sub-from : tie.Need-sub-from
-sub-from c = search needs
+-- src/lib.rt:74:12
+wrapping-sub-u32-requires-2 : tie.Need-wrapping-sub-u32-requires-2
+wrapping-sub-u32-requires-2 c κs = search needs
 
--- src/lib.rt:81:5
-among-three-requires : tie.Need-among-three-requires
-among-three-requires c κs = search needs
+-- src/lib.rt:75:45
+add-wrapping-sub-u32 : tie.Need-add-wrapping-sub-u32
+add-wrapping-sub-u32 c = search needs
 
--- src/lib.rt:81:43
-add-among-three : tie.Need-add-among-three
-add-among-three c = search needs
+-- src/lib.rt:75:12
+wrapping-sub-u32-requires-3 : tie.Need-wrapping-sub-u32-requires-3
+wrapping-sub-u32-requires-3 c κs = search needs
 
--- src/lib.rt:81:28
-among-three-requires-2 : tie.Need-among-three-requires-2
-among-three-requires-2 c κs = search needs
-
--- src/lib.rt:81:70
-add-among-three-2 : tie.Need-add-among-three-2
-add-among-three-2 c = search needs
-
--- src/lib.rt:81:70
-add-among-three-3 : tie.Need-add-among-three-3
-add-among-three-3 c = search needs
-
--- src/lib.rt:81:55
-among-three-requires-3 : tie.Need-among-three-requires-3
-among-three-requires-3 c κs = search needs
-
--- src/lib.rt:76:1
+-- src/lib.rt:68:1
 returns : tie.Need-returns
-returns c = ap₂ _||_ (ap₂ _||_ (c .before .before .among-three .ensures) (c .before .among-three2 .ensures)) (c .among-three3 .ensures)
+returns c = beside-is _ _ _ _ _ _ (c .before .before .before .pre) (c .before .before .wrapping-sub-u32 .ok) (c .before .wrapping-sub-u322 .ok) (c .wrapping-sub-u323 .ok) (c .before .before .wrapping-sub-u32 .ensures) (c .before .wrapping-sub-u322 .ensures) (c .wrapping-sub-u323 .ensures)
 
 pub beside-spec : {M : Type 1} → statement M
 beside-spec =
     tie.close
     (tie.spec
-    add-from
-    sub-from
-    among-three-requires
-    add-among-three
-    among-three-requires-2
-    add-among-three-2
-    add-among-three-3
-    among-three-requires-3
+    wrapping-sub-u32-requires
+    wrapping-sub-u32-requires-2
+    add-wrapping-sub-u32
+    wrapping-sub-u32-requires-3
     returns)

@@ -1,69 +1,91 @@
-use Prim.Native.Nat.{_+_, _-_}
+use Prim.Native.Nat.{_-_}
 use native.Mathlib.Omega.{arith}
-use Rattle.grid.proofs.SidesLaws.{cells-bound}
-use Rattle.lent_receivers.proofs.RowLaws.{inner-places, Passing, passing-none, passing-more, passing-done}
+use Rattle.lent_receivers.proofs.RowLaws.{InnerAt, inner-at, Passing, passing-none, passing-more, passing-done}
 use Rattle.lent_receivers.proofs.inner_pass.Statement.{statement}
 use Rattle.lent_receivers.proofs.inner_pass.Tie as tie
 
 abbrev Inv-loop : tie.InvT-loop
-Inv-loop recv y w n good₀ i₀ good i = Passing w recv y i good
+Inv-loop recv y w n above good₀ i₀ good i = Passing w recv y i good
 
 abbrev μ-loop : tie.MeasureT-loop
-μ-loop recv y w n good₀ i₀ good i = (w - 2) - i
+μ-loop recv y w n above good₀ i₀ good i = (w - 2) - i
 
--- src/lib.rt:92:13
+-- the row's first inner cell, and that of a turn
+first : (c : tie.After-shared-slice-known Inv-loop μ-loop) → let a = c .before .args in InnerAt (a .size .w) (a .size .h) (a .y) 0
+first c = inner-at (c .before .pre .0) (c .before .pre .1 .1) 0 (omega (arith, c .before .pre .1 .1))
+
+here : (c : tie.In-loop Inv-loop μ-loop) → let a = c .before .before .before .args in InnerAt (a .size .w) (a .size .h) (a .y) (c .before .loop .i)
+here c = inner-at (c .before .before .before .pre .0) (c .before .before .before .pre .1 .1) (c .before .loop .i) (c .loop-test .taken)
+
+-- src/lib.rt:86:13
 sub-n : tie.Need-sub-n Inv-loop μ-loop
 sub-n c = omega (arith, c .before .pre .1 .1)
 
--- src/lib.rt:95:5
+-- src/lib.rt:87:18
+mul-above : tie.Need-mul-above Inv-loop μ-loop
+mul-above c = omega (arith, first c)
+
+-- src/lib.rt:87:18
+sub-above : tie.Need-sub-above Inv-loop μ-loop
+sub-above c = omega (arith, first c)
+
+-- src/lib.rt:87:17
+cast-above : tie.Need-cast-above Inv-loop μ-loop
+cast-above c = omega (arith, first c)
+
+-- src/lib.rt:90:5
 loop-holds : tie.Need-loop-holds Inv-loop μ-loop
 loop-holds c = passing-none _ _ _
 
--- src/lib.rt:96:17
-add-c : tie.Need-add-c Inv-loop μ-loop
-add-c c = omega (arith, inner-places (c .before .before .before .args .size .w) (c .before .before .before .args .size .h) (1 + c .before .loop .i) (c .before .before .before .args .y) (omega arith) (omega (arith, c .loop-test .taken, c .before .before .before .pre .1 .1)) (c .before .before .before .pre .1 .1 .1) (c .before .before .before .pre .1 .1 .2), cells-bound _ _ (c .before .before .before .pre .0 .wide) (c .before .before .before .pre .0 .high), c .before .before .before .pre .1 .0)
+-- src/lib.rt:91:35
+add-beside : tie.Need-add-beside Inv-loop μ-loop
+add-beside c = omega (arith, here c)
 
--- src/lib.rt:96:25
-mul-c : tie.Need-mul-c Inv-loop μ-loop
-mul-c c = omega (arith, inner-places (c .before .before .before .args .size .w) (c .before .before .before .args .size .h) (1 + c .before .loop .i) (c .before .before .before .args .y) (omega arith) (omega (arith, c .loop-test .taken, c .before .before .before .pre .1 .1)) (c .before .before .before .pre .1 .1 .1) (c .before .before .before .pre .1 .1 .2), cells-bound _ _ (c .before .before .before .pre .0 .wide) (c .before .before .before .pre .0 .high), c .before .before .before .pre .1 .0)
-
--- src/lib.rt:96:17
-add-c-2 : tie.Need-add-c-2 Inv-loop μ-loop
-add-c-2 c = omega (arith, inner-places (c .before .before .before .args .size .w) (c .before .before .before .args .size .h) (1 + c .before .loop .i) (c .before .before .before .args .y) (omega arith) (omega (arith, c .loop-test .taken, c .before .before .before .pre .1 .1)) (c .before .before .before .pre .1 .1 .1) (c .before .before .before .pre .1 .1 .2), cells-bound _ _ (c .before .before .before .pre .0 .wide) (c .before .before .before .pre .0 .high), c .before .before .before .pre .1 .0)
-
--- src/lib.rt:97:30
+-- src/lib.rt:91:43
 mul-beside : tie.Need-mul-beside Inv-loop μ-loop
-mul-beside c = omega (arith, inner-places (c .before .before .before .args .size .w) (c .before .before .before .args .size .h) (1 + c .before .loop .i) (c .before .before .before .args .y) (omega arith) (omega (arith, c .loop-test .taken, c .before .before .before .pre .1 .1)) (c .before .before .before .pre .1 .1 .1) (c .before .before .before .pre .1 .1 .2), cells-bound _ _ (c .before .before .before .pre .0 .wide) (c .before .before .before .pre .0 .high), c .before .before .before .pre .1 .0)
+mul-beside c = omega (arith, here c)
 
--- src/lib.rt:97:30
+-- src/lib.rt:91:35
+add-beside-2 : tie.Need-add-beside-2 Inv-loop μ-loop
+add-beside-2 c = omega (arith, here c)
+
+-- src/lib.rt:91:30
+mul-beside-2 : tie.Need-mul-beside-2 Inv-loop μ-loop
+mul-beside-2 c = omega (arith, here c)
+
+-- src/lib.rt:91:30
 shared-slice-read-beside : tie.Need-shared-slice-read-beside Inv-loop μ-loop
-shared-slice-read-beside c = omega (arith, inner-places (c .before .before .before .before .args .size .w) (c .before .before .before .before .args .size .h) (1 + c .before .before .loop .i) (c .before .before .before .before .args .y) (omega arith) (omega (arith, c .before .loop-test .taken, c .before .before .before .before .pre .1 .1)) (c .before .before .before .before .pre .1 .1 .1) (c .before .before .before .before .pre .1 .1 .2), cells-bound _ _ (c .before .before .before .before .pre .0 .wide) (c .before .before .before .before .pre .0 .high), c .before .before .before .before .pre .1 .0)
+shared-slice-read-beside c = omega (arith, here (c .before), c .before .before .before .before .pre .1 .0)
 
--- src/lib.rt:97:39
+-- src/lib.rt:91:60
 cast-beside : tie.Need-cast-beside Inv-loop μ-loop
-cast-beside c = omega (arith, inner-places (c .before .before .before .before .args .size .w) (c .before .before .before .before .args .size .h) (1 + c .before .before .loop .i) (c .before .before .before .before .args .y) (omega arith) (omega (arith, c .before .loop-test .taken, c .before .before .before .before .pre .1 .1)) (c .before .before .before .before .pre .1 .1 .1) (c .before .before .before .before .pre .1 .1 .2), cells-bound _ _ (c .before .before .before .before .pre .0 .wide) (c .before .before .before .before .pre .0 .high), c .before .before .before .before .pre .1 .0)
+cast-beside c = omega (arith, here (c .before))
 
--- src/lib.rt:97:49
+-- src/lib.rt:91:51
+add-beside-3 : tie.Need-add-beside-3 Inv-loop μ-loop
+add-beside-3 c = omega (arith, here (c .before))
+
+-- src/lib.rt:91:71
 cast-beside-2 : tie.Need-cast-beside-2 Inv-loop μ-loop
-cast-beside-2 c = omega (arith, inner-places (c .before .before .before .before .args .size .w) (c .before .before .before .before .args .size .h) (1 + c .before .before .loop .i) (c .before .before .before .before .args .y) (omega arith) (omega (arith, c .before .loop-test .taken, c .before .before .before .before .pre .1 .1)) (c .before .before .before .before .pre .1 .1 .1) (c .before .before .before .before .pre .1 .1 .2), cells-bound _ _ (c .before .before .before .before .pre .0 .wide) (c .before .before .before .before .pre .0 .high), c .before .before .before .before .pre .1 .0)
+cast-beside-2 c = omega (arith, here (c .before))
 
--- src/lib.rt:97:23
+-- src/lib.rt:91:23
 beside-requires : tie.Need-beside-requires Inv-loop μ-loop
-beside-requires c κs = ((inner-places (c .before .before .before .before .args .size .w) (c .before .before .before .before .args .size .h) (1 + c .before .before .loop .i) (c .before .before .before .before .args .y) (omega arith) (omega (arith, c .before .loop-test .taken, c .before .before .before .before .pre .1 .1)) (c .before .before .before .before .pre .1 .1 .1) (c .before .before .before .before .pre .1 .1 .2)) .0, omega (arith, inner-places (c .before .before .before .before .args .size .w) (c .before .before .before .before .args .size .h) (1 + c .before .before .loop .i) (c .before .before .before .before .args .y) (omega arith) (omega (arith, c .before .loop-test .taken, c .before .before .before .before .pre .1 .1)) (c .before .before .before .before .pre .1 .1 .1) (c .before .before .before .before .pre .1 .1 .2), cells-bound _ _ (c .before .before .before .before .pre .0 .wide) (c .before .before .before .before .pre .0 .high)))
+beside-requires c κs = omega (arith, here (c .before))
 
--- src/lib.rt:98:9
+-- src/lib.rt:92:9
 add-i : tie.Need-add-i Inv-loop μ-loop
-add-i c = omega (arith, c .before .before .loop-test .taken, c .before .before .before .before .before .pre .0 .wide)
+add-i c = omega (arith, here (c .before .before))
 
--- src/lib.rt:95:5
+-- src/lib.rt:90:5
 loop-less : tie.Need-loop-less Inv-loop μ-loop
 loop-less c = omega (arith, c .before .before .loop-test .taken)
 
--- src/lib.rt:95:5
+-- src/lib.rt:90:5
 loop-again : tie.Need-loop-again Inv-loop μ-loop
-loop-again c = passing-more _ _ _ (c .before .before .before .loop .inv) (c .before .before .loop-test .taken) (c .beside .ensures)
+loop-again c = passing-more _ _ _ (here (c .before .before)) (c .before .before .before .loop .inv) (c .before .before .loop-test .taken) (c .beside .ensures)
 
--- src/lib.rt:85:1
+-- src/lib.rt:79:1
 returns : tie.Need-returns Inv-loop μ-loop
 returns c = passing-done _ _ _ (c .before .loop .inv) (c .loop-test .left)
 
@@ -74,13 +96,17 @@ inner-pass-spec =
     Inv-loop
     μ-loop
     sub-n
+    mul-above
+    sub-above
+    cast-above
     loop-holds
-    add-c
-    mul-c
-    add-c-2
+    add-beside
     mul-beside
+    add-beside-2
+    mul-beside-2
     shared-slice-read-beside
     cast-beside
+    add-beside-3
     cast-beside-2
     beside-requires
     add-i
