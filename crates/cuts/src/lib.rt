@@ -20,7 +20,7 @@ fn aslant(i: u32, r: u32, width: u32) -> bool
 }
 
 // The distance between a cell and its receiver, on three columns or more with no branch to be foreseen.
-fn distance(ds: &[f32; 5], i: u32, r: u32, width: u32) -> f32
+pub fn distance(ds: &[f32; 5], i: u32, r: u32, width: u32) -> f32
     requires { ⌜ now ds ≡ distanceTable ⌝ }
     requires { ⌜ Near width i r ⌝ }
     requires { ⌜ (i < 4096 * 4096) × (r < 4096 * 4096) ⌝ }
@@ -51,7 +51,7 @@ pub fn divide_by_distances(width: usize, recv: &[u32], rates: &mut [f32])
 }
 
 // The height that cell c drains to: the water level if it is its own receiver, and never less.
-fn drains_to(c: usize, r: usize, below: f32, water: f32) -> f32
+pub fn drains_to(c: usize, r: usize, below: f32, water: f32) -> f32
     ensures { λ h. ⌜ h ≡ drainedTo c r below water ⌝ }
 {
     if r == c {
@@ -61,7 +61,7 @@ fn drains_to(c: usize, r: usize, below: f32, water: f32) -> f32
 }
 
 // The height of a cell after its incision toward the height `down`. A cell that is not above the water keeps its own.
-fn cut(height: f32, uplift: f32, water: f32, coef: f32, down: f32) -> f32
+pub fn cut(height: f32, uplift: f32, water: f32, coef: f32, down: f32) -> f32
     ensures { λ h. ⌜ h ≡ cutOf height uplift water coef down ⌝ }
 {
     if height <= water {

@@ -24,11 +24,11 @@ use Rattle.cuts.specs.Cut.{incisionCoef, overDistances, drainedTo, cutOf, cutAt
 use Rattle.cuts.proofs.DistanceLaws.{coefficient, length-coefficients}
 use Rattle.steps.specs.Step.{Near}
 use Rattle.steps.proofs.PlaceLaws.{near-of}
+use Rattle.ways_down.specs.Settled.{madeAlong}
+use Rattle.ways_down.proofs.SettleLaws.{along-alike}
 use Rattle.fluvial_erosion.specs.Incision.{inciseAlong, incisedBy}
-use Rattle.fluvial_erosion.specs.Independence.{madeAlong}
 use Rattle.fluvial_erosion.specs.Along.{Drains, Carved}
 use Rattle.fluvial_erosion.specs.declared.FluvialParams.{FluvialParams}
-use Rattle.fluvial_erosion.proofs.SettleLaws.{along-alike}
 use Rattle.fluvial_erosion.proofs.IndependenceLaws.{cut, cut-alone, cut-along}
 
 -- what `incise_cell` makes of a cell, from its coefficient and the new height of its receiver
@@ -81,7 +81,8 @@ module _ {w h : ℕ} {recv list : List ℕ} (drains : Drains w h recv list) wher
 
     pub along-is : madeAlong nan recv (fromCoef p hs recv) list coefs ≡ inciseAlong ground p areas recv list hs
     along-is =
-        along-alike nan recv (fromCoef p hs recv) (cut ground p areas recv) (w * h) coefs hs alike (cut-alone ground p areas recv) list long-coefs long (drains .work)
+        along-alike nan recv (fromCoef p hs recv) (cut ground p areas recv) (w * h) coefs hs long-coefs long alike (λ c y z l. cut-alone ground p areas recv c _ y z) list list
+        (drains .work) (drains .work)
         ∙ sym (cut-along ground p areas recv list hs)
 
 -- the values once the first i entries are made: what is left to do from here is what there was to do

@@ -13,10 +13,11 @@ use Rattle.drainage.specs.Ground.{Ground}
 use Rattle.drainage.specs.Receivers.{distanceTo}
 use Rattle.drainage.specs.Ways.{WorkList, areasAlong}
 use Rattle.drainage.proofs.AreaLaws.{length-areas, areas}
+use Rattle.ways_down.specs.Settled.{madeAlong}
+use Rattle.ways_down.proofs.SettleLaws.{along-alike}
 use Rattle.fluvial_erosion.specs.Incision.{incisedHeight, incisedAt, inciseAlong, incisedBy}
-use Rattle.fluvial_erosion.specs.Independence.{madeAlong, Independence}
+use Rattle.fluvial_erosion.specs.Independence.{Independence}
 use Rattle.fluvial_erosion.specs.declared.FluvialParams.{FluvialParams}
-use Rattle.fluvial_erosion.proofs.SettleLaws.{along-same}
 
 same-areas : (n : ℕ) → n ≤ 2 ^ 24 → (recv a b : List ℕ) → WorkList n recv a → WorkList n recv b → areasAlong n recv a ≡ areasAlong n recv b
 same-areas n few recv a b v w =
@@ -41,7 +42,7 @@ module _ (g : Ground) (p : FluvialParams) (areas : List Float) (recv : List ℕ)
   cut-along (c ∷ rest) hs = cut-along rest (set hs c (incisedAt g p areas recv hs c))
 
   pub incise-same : (n : ℕ) (a b : List ℕ) (hs : List Float) → length hs ≡ n → WorkList n recv a → WorkList n recv b → inciseAlong g p areas recv a hs ≡ inciseAlong g p areas recv b hs
-  incise-same n a b hs long v w = cut-along a hs ∙ along-same nan recv cut cut-alone hs n a b long v w ∙ sym (cut-along b hs)
+  incise-same n a b hs long v w = cut-along a hs ∙ along-alike nan recv cut cut n hs hs long long (λ c x l. refl) (λ c y z l. cut-alone c _ y z) a b v w ∙ sym (cut-along b hs)
 
 pub independent : Independence
 unfolding incisedBy

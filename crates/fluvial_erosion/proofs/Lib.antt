@@ -1,5 +1,5 @@
 -- Laws of the definitions in specs/.
-pub mod SettleLaws
 pub mod IndependenceLaws
 pub mod CellLaws
+pub mod WaysLaws
 pub mod RefusalLaws

@@ -14,6 +14,8 @@ use lent_list::first_bad_entry;
 use lent_receivers::first_bad_receiver;
 use rates::rates_of;
 use ways::accumulate;
+use ways_down::Incision;
+use ways_down::incise_ways;
 ghost use mathlib.Core.Path.{_≡_};
 ghost use Prim.Native.Nat.{_*_};
 ghost use lib.ListN.{length};
@@ -33,7 +35,7 @@ pub struct FluvialParams {
 
 // The heights of `hmap` in `out`, incised along the list by areas that are given, each a number of cells. `out` holds the coefficients of the cells at first, and the new
 // height of each as soon as it is incised, so that it is only `hmap` and `out` that are read at random.
-pub fn incise_along(
+fn incise_listed(
     size: Sides,
     hmap: &[f32],
     params: FluvialParams,
@@ -63,6 +65,37 @@ pub fn incise_along(
         );
         i += 1;
     }
+}
+
+// The heights of `hmap` in `out`, incised along the list by areas that are given. They do not depend on the list: on a grid of many cells, where an
+// order by height is at random in memory, each cell is incised with its way down.
+pub fn incise_along(
+    size: Sides,
+    hmap: &[f32],
+    params: FluvialParams,
+    area: &[f32],
+    recv: &[u32],
+    order: &[u32],
+    out: &mut [f32],
+)
+    requires { ⌜ Drains (size .w) (size .h) (now recv) (now order) ⌝ }
+    requires { ⌜ Lengths (size .w * size .h) (length (now hmap)) (length (now out)) (length (now area)) ⌝ }
+    requires { ⌜ WholeAreas (now area) ⌝ }
+    ensures { λ _. ⌜ now (out .exit) ≡ inciseAlong (gridGround (size .w) (size .h) (params .«water_level») (now (hmap .entry))) params (now (area .entry)) (now (recv .entry)) (now (order .entry)) (now (hmap .entry)) ⌝ }
+{
+    let n = size.w * size.h;
+    if 1048576 < n {
+        let by = Incision {
+            width: size.w,
+            cells: n as f32,
+            k: params.k,
+            uplift: params.uplift,
+            water: params.water_level,
+        };
+        incise_ways(by, hmap, area, recv, out);
+        return;
+    }
+    incise_listed(size, hmap, params, area, recv, order, out);
 }
 
 // The heights of `hmap` in `out`, incised along the list, with the areas along it in `area`.

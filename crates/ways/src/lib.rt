@@ -33,7 +33,7 @@ fn add_down(area: &mut [f32], c: usize, r: usize)
 }
 
 // Sets every value to x.
-fn fill(values: &mut [f32], x: f32)
+pub fn fill(values: &mut [f32], x: f32)
     ensures { λ _. ⌜ now (values .exit) ≡ replicate (length (now (values .entry))) x ⌝ }
 {
     let n = values.len();

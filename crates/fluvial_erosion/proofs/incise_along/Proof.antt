@@ -1,91 +1,51 @@
-use Prim.Native.Nat.{_-_}
-use mathlib.Core.Path.{sym, _∙_}
-use native.Mathlib.Omega.{arith}
-use lib.ListN.{length}
-use Rattle.grid.proofs.SidesLaws.{cells-fit}
-use Rattle.fluvial_erosion.proofs.CellLaws.{Incising, cells-float, steps-of, cell-of, incising-none, incising-more, incised-along}
+use mathlib.Core.Path.{_∙_}
+use Rattle.fluvial_erosion.proofs.CellLaws.{cells-float}
+use Rattle.fluvial_erosion.proofs.WaysLaws.{ways-of, ways-along}
+use borrow.Author.Needs.{needs}
 use Rattle.fluvial_erosion.proofs.incise_along.Statement.{statement}
 use Rattle.fluvial_erosion.proofs.incise_along.Tie as tie
 
-abbrev Inv-loop : tie.InvT-loop
-Inv-loop hmap params area recv order out₀ n-cells len i₀ out i = Incising params hmap recv order out₀ i out
+-- src/lib.rt:83:13
+mul-n : tie.Need-mul-n
+mul-n c = search needs
 
-abbrev μ-loop : tie.MeasureT-loop
-μ-loop hmap params area recv order out₀ n-cells len i₀ out i = length order - i
+-- src/lib.rt:87:20
+int-to-float-t11 : tie.Need-int-to-float-t11
+int-to-float-t11 c = cells-float (c .before .before .before .before .before .before .before .before .pre .0 .sides)
 
--- src/lib.rt:48:20
-mul-n-cells : tie.Need-mul-n-cells Inv-loop μ-loop
-mul-n-cells c = cells-fit _ _ (c .before .before .before .before .before .before .pre .0 .sides .wide) (c .before .before .before .before .before .before .pre .0 .sides .high)
+-- src/lib.rt:92:9
+incise-ways-requires : tie.Need-incise-ways-requires
+incise-ways-requires c κs = let p = c .before .before .before .before .before .before .before .before .before .pre in ways-of (p .0) (p .1 .0) (p .1 .1)
 
--- src/lib.rt:48:19
-int-to-float-n-cells : tie.Need-int-to-float-n-cells Inv-loop μ-loop
-int-to-float-n-cells c = cells-float (c .before .before .before .before .before .before .before .pre .0 .sides)
+-- src/lib.rt:93:9
+same-length : tie.Need-same-length
+same-length c = search needs
 
--- src/lib.rt:49:5
-rates-of-requires : tie.Need-rates-of-requires Inv-loop μ-loop
-rates-of-requires c κs = let p = c .before .before .before .before .before .before .before .before .pre .1 in (p .0 .result ∙ sym (p .0 .areas), p .1)
+-- src/lib.rt:93:9
+returns : tie.Need-returns
+returns c = let p = c .before .before .before .before .before .before .before .before .before .before .before .before .pre in c .before .before .incise-ways .ensures ∙ ways-along (p .0) _ _ _ (p .1 .0 .heights)
 
--- src/lib.rt:50:5
-divide-by-distances-requires : tie.Need-divide-by-distances-requires Inv-loop μ-loop
-divide-by-distances-requires c κs = steps-of (c .before .before .before .before .before .before .before .before .before .before .before .before .pre .0) (c .before .before .before .rates-of .kept .1 .1 .1 .0 ∙ c .before .before .before .before .before .before .before .before .before .before .before .before .pre .1 .0 .result)
+-- src/lib.rt:95:5
+incise-listed-requires : tie.Need-incise-listed-requires
+incise-listed-requires c κs = search needs
 
--- src/lib.rt:53:5
-loop-holds : tie.Need-loop-holds Inv-loop μ-loop
-loop-holds c = incising-none
+-- src/lib.rt:70:1
+same-length-2 : tie.Need-same-length-2
+same-length-2 c = search needs
 
--- src/lib.rt:60:13
-mul-incise-cell : tie.Need-mul-incise-cell Inv-loop μ-loop
-mul-incise-cell c = omega (arith, c .before .loop-test .taken, c .before .before .before .before .before .before .before .before .before .before .before .before .before .before .before .before .before .before .good)
-
--- src/lib.rt:60:13
-shared-slice-read-incise-cell : tie.Need-shared-slice-read-incise-cell Inv-loop μ-loop
-shared-slice-read-incise-cell c = c .before .before .loop-test .taken
-
--- src/lib.rt:60:13
-cast-incise-cell : tie.Need-cast-incise-cell Inv-loop μ-loop
-cast-incise-cell c = omega (arith, c .shared-slice-known5 .given (c .before .before .before .loop .i))
-
--- src/lib.rt:54:9
-incise-cell-requires : tie.Need-incise-cell-requires Inv-loop μ-loop
-incise-cell-requires c κs = let p = c .before .before .before .before .before .before .before .before .before .before .before .before .before .before .before .before .before .before .before .pre in cell-of (p .0) _ _ _ (p .0 .along .entries _ (c .before .before .loop-test .taken)) (p .1 .0 .heights) (c .before .before .before .loop .inv .long ∙ c .before .before .before .before .before .before .divide-by-distances .kept .1 .1 .0 ∙ c .before .before .before .before .before .before .before .before .before .before .rates-of .kept .1 .1 .1 .0 ∙ p .1 .0 .result)
-
--- src/lib.rt:62:9
-add-i : tie.Need-add-i Inv-loop μ-loop
-add-i c = omega (arith, c .before .before .before .before .before .loop-test .taken, c .before .before .before .before .before .before .before .before .before .before .before .before .before .before .before .before .before .before .before .before .before .before .good)
-
--- src/lib.rt:53:5
-loop-less : tie.Need-loop-less Inv-loop μ-loop
-loop-less c = omega (arith, c .before .before .before .before .before .loop-test .taken)
-
--- src/lib.rt:53:5
-loop-again : tie.Need-loop-again Inv-loop μ-loop
-loop-again c = incising-more (c .before .before .before .before .before .before .loop .inv) (c .before .before .before .before .before .loop-test .taken) (c .before .before .incise-cell .ensures)
-
--- src/lib.rt:35:1
-same-length : tie.Need-same-length Inv-loop μ-loop
-same-length c = c .before .loop .inv .long ∙ c .before .before .before .before .divide-by-distances .kept .1 .1 .0 ∙ c .before .before .before .before .before .before .before .before .rates-of .kept .1 .1 .1 .0
-
--- src/lib.rt:35:1
-returns : tie.Need-returns Inv-loop μ-loop
-returns c = let p = c .before .before .before .before .before .before .before .before .before .before .before .before .before .before .before .before .before .pre in incised-along _ _ _ _ (p .0) (p .1 .0 .heights) (p .1 .0 .areas) (c .before .before .before .before .before .before .before .before .rates-of .ensures) (c .before .before .before .before .divide-by-distances .ensures) (c .before .loop .inv) (c .loop-test .left)
+-- src/lib.rt:70:1
+returns-2 : tie.Need-returns-2
+returns-2 c = search needs
 
 pub incise-along-spec : {M : Type 1} → statement M
 incise-along-spec =
     tie.close
     (tie.spec
-    Inv-loop
-    μ-loop
-    mul-n-cells
-    int-to-float-n-cells
-    rates-of-requires
-    divide-by-distances-requires
-    loop-holds
-    mul-incise-cell
-    shared-slice-read-incise-cell
-    cast-incise-cell
-    incise-cell-requires
-    add-i
-    loop-less
-    loop-again
+    mul-n
+    int-to-float-t11
+    incise-ways-requires
     same-length
-    returns)
+    returns
+    incise-listed-requires
+    same-length-2
+    returns-2)

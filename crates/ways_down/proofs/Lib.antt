@@ -1,0 +1,5 @@
+-- Laws of the definitions in specs/.
+pub mod PlaceLaws
+pub mod SettleLaws
+pub mod HeightLaws
+pub mod WalkLaws
