@@ -8,7 +8,7 @@ use Rattle.answers.proofs.OutcomeLaws.{refusal-by}
 use Rattle.harness_calls.specs.Word.{wordOf}
 
 pub word-refused : {A : Type 0} (value : A → ℕ) (r : Refusal) → wordOf value (refusalOf r) ≡ numberOf r * 2 ^ 32 + placeOf r % 2 ^ 32
-word-refused value = refusal-by (λ o n p. wordOf value o ≡ n * 2 ^ 32 + p % 2 ^ 32) (λ n. omega arith) (λ n p. refl)
+word-refused {A} value = refusal-by (λ o n p. wordOf value (o A) ≡ n * 2 ^ 32 + p % 2 ^ 32) (λ n l. omega arith) (λ n p l. refl)
 
 pub word-of-refusal :
     {A : Type 0} (value : A → ℕ) (answer : Outcome A) {word : ℕ} (r : Refusal)

@@ -11,7 +11,9 @@ use lib.Ieee.Scale.{finite}
 use lib.Ieee.Bits.{toBits-lt}
 use lib.Ieee.Fits.{round-fits}
 use lib.IntN.{pos}
+use Rattle.lists.proofs.TestLaws.{by-test, either, behind}
 use Rattle.answers.specs.Outcome.{Outcome, gives, refused, refusedAt}
+use Rattle.answers.proofs.OutcomeLaws.{not-refused-unless}
 use Rattle.grid.specs.Sides.{badSides}
 use Rattle.grid.specs.Heights.{allFinite}
 use Rattle.square_root.specs.Root.{rootOf, rootAnswer}
@@ -19,7 +21,7 @@ use Rattle.resample.specs.WorkSize.{workAnswer}
 use Rattle.stream_bytes.specs.Bytes.{number2}
 use Rattle.stream.specs.Stream.{Parsed, headerAt, parsedOf, badGrid, badRest, badSettings, readStream}
 use Rattle.layout_calls.specs.Word.{numberFrom, sidesValue, Unpacks, WordsUnpack, NineLeftOut}
-use Rattle.layout_calls.proofs.WordLaws.{resultOr, sides-small}
+use Rattle.layout_calls.proofs.WordLaws.{sides-small}
 
 -- a word is taken apart where every value is below 2^32
 unpacks : {A : Type 0} (value : A → ℕ) (answer : Outcome A) → ((a : A) → gives a ≡ answer → value a < 2 ^ 32) → Unpacks value answer
@@ -39,11 +41,9 @@ root-fits (fin false (suc m) e) f = round-fits binary32 false _ _
 
 root-small : (x : Float) → T (fits binary32 x) → (v : Float) → gives v ≡ rootAnswer x → toBits binary32 v < 2 ^ 32
 unfolding rootAnswer
-root-small x f v e = go (finite x && le (fin false 0 (pos 0)) x) e
-  where
-    go : (b : Bool) → gives v ≡ cond b (gives (rootOf x)) (refused 4) → toBits binary32 v < 2 ^ 32
-    go true q = subst (λ (r : Float). toBits binary32 r < 2 ^ 32) (sym (ap (resultOr v) q)) (toBits-lt binary32 (rootOf x) (root-fits x f))
-    go false q = let z : _≡_ {A = ℕ} 0 1 = cc in let n : ⊥ = omega arith in absurd n
+root-small x f v e =
+    let a = not-refused-unless (finite x && le (fin false 0 (pos 0)) x) (rootOf x) (refused 4) v refl (sym e) in
+    subst (λ (r : Float). toBits binary32 r < 2 ^ 32) (a .1) (toBits-lt binary32 (rootOf x) (root-fits x f))
 
 pub words-unpack : WordsUnpack
 words-unpack =
@@ -65,17 +65,14 @@ nine-left-out s =
         (a b c : Bool) (rest : Outcome Parsed)
         → (cond a (refused 8) (cond b (refused 1) (cond (true && c) (refused 9) rest)) ≡ refused 9 → ⊥)
         → cond a (refused 8) (cond b (refused 1) (cond (true && c) (refused 9) rest)) ≡ cond a (refused 8) (cond b (refused 1) (cond (false && c) (refused 9) rest))
-    alike true b c rest n = refl
-    alike false true c rest n = refl
-    alike false false true rest n = absurd (n refl)
-    alike false false false rest n = refl
+    alike a b c rest n =
+        behind a (refused 8) (λ ea. behind b (refused 1) (λ eb. by-test (λ o. o ≡ rest) c (refused 9) rest (λ ec. absurd (n (rw (ea, eb, ec)))) (λ ec. refl)))
+
+    other : (b : Bool) (x y : Outcome Parsed) → (numberFrom x ≡ 9 → ⊥) → (numberFrom y ≡ 9 → ⊥) → numberFrom (cond b x y) ≡ 9 → ⊥
+    other = either (λ o. numberFrom o ≡ 9 → ⊥)
 
     never :
         (a b c d e : Bool) (p : Parsed) (k : ℕ)
         → numberFrom (cond a (refused 8) (cond b (refused 1) (cond c (refused 8) (cond d (refused 4) (cond e (gives p) (refusedAt 5 k)))))) ≡ 9 → ⊥
-    never true b c d e p k q = omega (arith, q)
-    never false true c d e p k q = omega (arith, q)
-    never false false true d e p k q = omega (arith, q)
-    never false false false true e p k q = omega (arith, q)
-    never false false false false true p k q = omega (arith, q)
-    never false false false false false p k q = omega (arith, q)
+    never a b c d e p k =
+        other a _ _ (λ q. omega (arith, q)) (other b _ _ (λ q. omega (arith, q)) (other c _ _ (λ q. omega (arith, q)) (other d _ _ (λ q. omega (arith, q)) (other e _ _ (λ q. omega (arith, q)) (λ q. omega (arith, q))))))

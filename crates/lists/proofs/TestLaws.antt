@@ -28,3 +28,30 @@ chosen b x y e = sym (ap (λ (t : Bool). cond t x y) e)
 
 pub passed : {A : Type 0} (b : Bool) (x y : A) → b ≡ false → y ≡ cond b x y
 passed b x y e = sym (ap (λ (t : Bool). cond t x y) e)
+
+-- what holds of two values, each where the test chooses it, holds of the one chosen
+pub by-test : {A : Type 0} (P : A → Type 0) (b : Bool) (x y : A) → (b ≡ true → P x) → (b ≡ false → P y) → P (cond b x y)
+by-test P true x y f g = f refl
+by-test P false x y f g = g refl
+
+pub either : {A : Type 0} (P : A → Type 0) (b : Bool) (x y : A) → P x → P y → P (cond b x y)
+either P b x y p q = by-test P b x y (λ _. p) (λ _. q)
+
+-- a function of the value chosen is a choice between its values
+pub through : {A B : Type 0} (f : A → B) (b : Bool) (x y : A) → f (cond b x y) ≡ cond b (f x) (f y)
+through f true x y = refl
+through f false x y = refl
+
+-- two choices by one test are one where they are one behind it
+pub behind : {A : Type 0} (b : Bool) (x : A) {y z : A} → (b ≡ false → y ≡ z) → cond b x y ≡ cond b x z
+behind true x f = refl
+behind false x f = f refl
+
+-- a choice that is not the one value is the other, and the test says so
+pub not-first : {A : Type 0} (b : Bool) (x y : A) {z : A} → (x ≡ z → ⊥) → cond b x y ≡ z → (b ≡ false) × (y ≡ z)
+not-first true x y n e = absurd (n e)
+not-first false x y n e = (refl, e)
+
+pub not-second : {A : Type 0} (b : Bool) (x y : A) {z : A} → (y ≡ z → ⊥) → cond b x y ≡ z → (b ≡ true) × (x ≡ z)
+not-second true x y n e = (refl, e)
+not-second false x y n e = absurd (n e)

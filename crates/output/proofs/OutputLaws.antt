@@ -15,7 +15,7 @@ use lib.Seq.{sets, length-sets}
 use lib.Ieee.{Float}
 use Rattle.answers.specs.Outcome.{numberOf}
 use Rattle.answers.specs.declared.Refusal.{Refusal}
-use Rattle.answers.specs.declared.Refusal.the-variants.{Side, ReducedSide, Length, Setting, Height, Receiver, List as LentList, Stream, Cells, Stopped, RunOff}
+use Rattle.answers.proofs.OutcomeLaws.{refusal-by}
 use Rattle.stream_bytes.specs.Bytes.{bytes2, bytes4, gridMark, rowMark, endMark}
 use Rattle.words.specs.Words.{bitsAt}
 use Rattle.words.proofs.WordLaws.{words-length}
@@ -23,21 +23,8 @@ use Rattle.stream_bytes.proofs.PutLaws.{sets-next}
 use Rattle.output.specs.Output.{gridRecord, heightBytes, rowRecord, rowRecords, endRecord, forInput}
 
 -- every number of document 01 is small
-number-small : (r : Refusal) → numberOf r < 65536
-number-small Side = omega arith
-number-small ReducedSide = omega arith
-number-small Length = omega arith
-number-small Setting = omega arith
-number-small (Height c) = omega arith
-number-small (Receiver c) = omega arith
-number-small (LentList p) = omega arith
-number-small Stream = omega arith
-number-small Cells = omega arith
-number-small Stopped = omega arith
-number-small RunOff = omega arith
-
 pub number-fits : (r : Refusal) (n : ℕ) → n ≡ numberOf r → Fits w16 n
-number-fits r n e = record { fits = omega (arith, e, number-small r) }
+number-fits r n e = record { fits = omega (arith, e, refusal-by (λ o n p. n < 23) (λ n l. l) (λ n p l. l) r) }
 
 pub input-none : (n : ℕ) → n ≡ 0 → false ≡ forInput n
 input-none n e = sym (rw (le-ltb 0 n (omega arith)))

@@ -1,5 +1,5 @@
 -- Demand 3, whole.
-use Prim.Native.Nat.{ℕ, _*_, _/_, _%_, _<_}
+use Prim.Native.Nat.{ℕ, _*_, _/_, _%_}
 use mathlib.Core.Path.{_≡_, refl, sym, ap, ap₂, _∙_, subst}
 use mathlib.Core.Bool.{Bool, true, false, not, _&&_, cond}
 use mathlib.Core.List.{List}
@@ -8,8 +8,8 @@ use lib.ListN.{length}
 use lib.Dec.{T, eqb}
 use lib.Ieee.{Float, binary32, fits}
 use lib.Ieee.Fits.{div-fits}
-use borrow.Author.Tests.{eqb-true}
-use Rattle.lists.proofs.TestLaws.{both}
+use borrow.Author.Tests.{eqb-true, not-false}
+use Rattle.lists.proofs.TestLaws.{both, not-first, not-second}
 use Rattle.float_order.specs.Fit.{Fit}
 use Rattle.grid.specs.Sides.{InRange, badSides}
 use Rattle.grid.specs.Heights.{allFinite}
@@ -39,18 +39,12 @@ pub record Accepted (w h : ℕ) (map : List Float) : Type 0 where
   pub finite : allFinite map ≡ true
 
 pub accepted : (w h : ℕ) (bad : Bool) (map : List Float) → refusalBy w h bad map ≡ 0 → Accepted w h map
-accepted w h bad map e = go (badSides w h) refl (eqb (length map) (w * h)) refl bad (allFinite map) refl e
-  where
-    no : {A : Type 0} (n : ℕ) → n ≡ 0 → 0 < n → A
-    no n p q = let v : ⊥ = omega arith in absurd v
-
-    go : (a : Bool) → badSides w h ≡ a → (l : Bool) → eqb (length map) (w * h) ≡ l → (b f : Bool) → allFinite map ≡ f
-        → _≡_ {A = ℕ} (cond a 1 (cond (not l) 3 (cond b 4 (cond f 0 5)))) 0 → Accepted w h map
-    go true p l q b f r e = no 1 e (omega arith)
-    go false p false q b f r e = no 3 e (omega arith)
-    go false p true q true f r e = no 4 e (omega arith)
-    go false p true q false false r e = no 5 e (omega arith)
-    go false p true q false true r e = record { sides = p; long = eqb-true (length map) (w * h) q; finite = r }
+accepted w h bad map e =
+    let a = not-first (badSides w h) 1 _ (λ n. omega (arith, n)) e in
+    let b = not-first (not (eqb (length map) (w * h))) 3 _ (λ n. omega (arith, n)) (a .1) in
+    let c = not-first bad 4 _ (λ n. omega (arith, n)) (b .1) in
+    let d = not-second (allFinite map) 0 5 (λ n. omega (arith, n)) (c .1) in
+    record { sides = a .0; long = eqb-true (length map) (w * h) (not-false _ (b .0)); finite = d .0 }
 
 average-fits : (src : List Float) (w h dw dh bx by : ℕ) → T (fits binary32 (averageOf src w h dw dh bx by))
 unfolding averageOf

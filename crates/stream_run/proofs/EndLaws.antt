@@ -8,7 +8,7 @@ use lib.ListN.{length, drop}
 use lib.Ieee.{Float}
 use Rattle.answers.specs.Outcome.{Outcome, gives, refused, refusalOf}
 use Rattle.answers.specs.declared.Refusal.{Refusal}
-use Rattle.answers.specs.declared.Refusal.the-variants.{Side, ReducedSide, Length, Setting, Height, Receiver, List as LentList, Stream, Cells, Stopped, RunOff}
+use Rattle.answers.proofs.OutcomeLaws.{refusal-by}
 use Rattle.grid.specs.Heights.{allFinite}
 use Rattle.plans.specs.Accepted.{Accepted}
 use Rattle.erosion.specs.Ending.{Ending, endedWith, ranTo, refusedTo}
@@ -78,17 +78,7 @@ pub stream-accepted : (s : List ℕ) (old : List Float) (head : Header) {o : Out
 stream-accepted s old head e f g = g ∙ ap (λ (o : Outcome Parsed). endOf (lentTo (length old) o) old) (sym e ∙ f)
 
 refusal-end : (why : Refusal) (room : ℕ) (old : List Float) → refusedEnd (refusalOf why) old ≡ endOf (lentTo room (refusalOf why)) old
-refusal-end Side room old = refl
-refusal-end ReducedSide room old = refl
-refusal-end Length room old = refl
-refusal-end Setting room old = refl
-refusal-end (Height c) room old = refl
-refusal-end (Receiver c) room old = refl
-refusal-end (LentList c) room old = refl
-refusal-end Stream room old = refl
-refusal-end Cells room old = refl
-refusal-end Stopped room old = refl
-refusal-end RunOff room old = refl
+refusal-end why room old = refusal-by (λ o n p. refusedEnd (o (Unit {0})) old ≡ endOf (lentTo room (o Parsed)) old) (λ n l. refl) (λ n p l. refl) why
 
 pub stream-refused : (s : List ℕ) (old : List Float) (why : Refusal) {o : Outcome Parsed} → o ≡ refusalOf why → o ≡ readStream true s → {x : StreamEnd} → x ≡ refusedEnd (refusalOf why) old
     → x ≡ endOf (lentTo (length old) (readStream true s)) old

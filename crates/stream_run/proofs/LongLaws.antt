@@ -9,6 +9,7 @@ use borrow.Author.Tests.{ltb-false, le-ltb, ne-eqb}
 use lib.Dec.{eqb, ltb}
 use lib.ListN.{length, take}
 use lib.Seq.{length-take-le, getD-take, take-take}
+use Rattle.lists.proofs.TestLaws.{behind}
 use Rattle.answers.specs.Outcome.{Outcome, refused}
 use Rattle.grid.specs.Sides.{badSides, InRange}
 use Rattle.grid.proofs.SidesLaws.{good-sides}
@@ -51,10 +52,7 @@ module _ (s : List ℕ) (l : 24612 < length s) where
   decided : (a b c d e : Bool) (x y : Outcome Parsed) → (b ≡ false → c ≡ false → d ≡ true) → (b ≡ false → c ≡ false → e ≡ true)
       → cond a (refused 8) (cond b (refused 1) (cond c (refused 9) (cond d (refused 8) x)))
       ≡ cond a (refused 8) (cond b (refused 1) (cond c (refused 9) (cond e (refused 8) y)))
-  decided true b c d e x y f g = refl
-  decided false true c d e x y f g = refl
-  decided false false true d e x y f g = refl
-  decided false false false d e x y f g = rw (f refl refl, g refl refl)
+  decided a b c d e x y f g = behind a (refused 8) (λ _. behind b (refused 1) (λ eb. behind c (refused 9) (λ ec. rw (f eb ec, g eb ec))))
 
   same-reading : readStream true (take 24613 s) ≡ readStream true s
   unfolding readStream

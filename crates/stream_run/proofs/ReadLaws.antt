@@ -1,11 +1,12 @@
 -- What is known of a stream that is accepted.
 use Prim.Native.Nat.{ℕ, _*_, _≤_}
 use mathlib.Core.Path.{_≡_, refl, sym, ap, subst, _∙_}
-use mathlib.Core.Bool.{Bool, true, false, cond}
+use mathlib.Core.Bool.{Bool, true, cond}
 use mathlib.Core.List.{List}
 use borrow.Author.Tests.{ltb-false}
 use lib.Dec.{ltb}
-use Rattle.answers.proofs.OutcomeLaws.{not-refused, not-refused-at}
+use Rattle.lists.proofs.TestLaws.{either}
+use Rattle.answers.proofs.OutcomeLaws.{not-refused, not-refused-unless}
 use Rattle.answers.specs.Outcome.{Outcome, gives, refused, refusedAt}
 use Rattle.grid.specs.Sides.{badSides}
 use Rattle.grid.specs.Heights.{firstNotFinite, allFinite}
@@ -23,12 +24,12 @@ unfolding readStream
 read-accepted s p e =
     let w = number2 s 2 in
     let h = number2 s 4 in
-    let a = not-refused (badGrid s) 8 _ _ (sym e) in
-    let b = not-refused (badSides w h) 1 _ _ (a .1) in
-    let c = not-refused (ltb 4096 (w * h)) 9 _ _ (b .1) in
-    let d = not-refused (badRest s w h) 8 _ _ (c .1) in
-    let f = not-refused (badSettings (headerAt s .settings)) 4 _ _ (d .1) in
-    let g = not-refused-at (allFinite (parsedOf s (headerAt s) .heights)) 5 (firstNotFinite (parsedOf s (headerAt s) .heights)) _ _ (f .1) in (
+    let a = not-refused (badGrid s) (refused 8) _ _ refl (sym e) in
+    let b = not-refused (badSides w h) (refused 1) _ _ refl (a .1) in
+    let c = not-refused (ltb 4096 (w * h)) (refused 9) _ _ refl (b .1) in
+    let d = not-refused (badRest s w h) (refused 8) _ _ refl (c .1) in
+    let f = not-refused (badSettings (headerAt s .settings)) (refused 4) _ _ refl (d .1) in
+    let g = not-refused-unless (allFinite (parsedOf s (headerAt s) .heights)) _ (refusedAt 5 (firstNotFinite (parsedOf s (headerAt s) .heights))) _ refl (f .1) in (
       g .1,
       record {
         framed = read-framed true s refl (a .0) refl refl (b .0) refl (c .0) refl (d .0) refl;
@@ -52,19 +53,11 @@ inputOnly (refusedAt number place) = forInput number
 refused-input : (s : List ℕ) → inputOnly (readStream true s) ≡ true
 unfolding readStream
 refused-input s =
-    go (badGrid s) (badSides (number2 s 2) (number2 s 4)) (ltb 4096 (number2 s 2 * number2 s 4)) (badRest s (number2 s 2) (number2 s 4))
-    (badSettings (headerAt s .settings)) (allFinite (parsedOf s (headerAt s) .heights))
+    allowed (badGrid s) _ _ refl (allowed (badSides (number2 s 2) (number2 s 4)) _ _ refl (allowed (ltb 4096 (number2 s 2 * number2 s 4)) _ _ refl
+    (allowed (badRest s (number2 s 2) (number2 s 4)) _ _ refl (allowed (badSettings (headerAt s .settings)) _ _ refl (allowed (allFinite (parsedOf s (headerAt s) .heights)) _ _ refl refl)))))
   where
-    go : (a b c d e f : Bool) → inputOnly (cond a (refused 8) (cond b (refused 1) (cond c (refused 9) (cond d (refused 8) (cond e (refused 4)
-        (cond f (gives (parsedOf s (headerAt s))) (refusedAt 5 (firstNotFinite (parsedOf s (headerAt s) .heights)))))))))
-        ≡ true
-    go true b c d e f = refl
-    go false true c d e f = refl
-    go false false true d e f = refl
-    go false false false true e f = refl
-    go false false false false true f = refl
-    go false false false false false true = refl
-    go false false false false false false = refl
+    allowed : (b : Bool) (x y : Outcome Parsed) → inputOnly x ≡ true → inputOnly y ≡ true → inputOnly (cond b x y) ≡ true
+    allowed = either (λ o. inputOnly o ≡ true)
 
 pub refused-number : (s : List ℕ) (number : ℕ) → readStream true s ≡ refused number → forInput number ≡ true
 refused-number s number e = ap inputOnly (sym e) ∙ refused-input s

@@ -10,6 +10,7 @@ use lib.ListN.{length, take, drop, length-append, length-drop}
 use lib.Seq.{take-at}
 use lib.Ieee.{Float}
 use Rattle.answers.specs.Outcome.{Outcome, gives, refused, refusedAt, numberIn}
+use Rattle.answers.proofs.OutcomeLaws.{not-refused}
 use Rattle.grid.specs.Sides.{badSides}
 use Rattle.grid.specs.declared.Sides.{Sides}
 use Rattle.grid.proofs.SidesLaws.{in-range}
@@ -22,11 +23,6 @@ use Rattle.stream_run.specs.StreamRun.{askedRun, StreamEnd, refusedEnd, 
 use Rattle.stream_run.specs.declared.StreamAnswer.{StreamAnswer}
 use Rattle.stream_run.proofs.ReadLaws.{read-accepted, refused-number, refused-number-at}
 use Rattle.stream_run.proofs.EndLaws.{lent-enough}
-
-abbrev bytesIn : Outcome ℕ → ℕ
-bytesIn (gives n) = n
-bytesIn (refused n) = 0
-bytesIn (refusedAt n p) = 0
 
 number-in : (n : ℕ) → numberIn (outcomeOf n) ≡ n
 number-in n = go (eqb n 0) refl
@@ -166,10 +162,7 @@ module _ (s : List ℕ) (old : List Float) (full : length old ≡ 4096) (r : Str
 
 -- what was written lies inside the slice
 pub relief-inside : (s old : List ℕ) (n : ℕ) {answer : Written} {new : List ℕ} → Relief s old answer new → answer ≡ Written.Bytes n → n ≤ length old
-relief-inside s old n {answer} m e = go (ltb (length old) (length (reliefOf s))) refl (ap writtenBy (sym e) ∙ m .answers)
-  where
-    go : (b : Bool) → ltb (length old) (length (reliefOf s)) ≡ b → gives n ≡ cond b (refused 3) (gives (length (reliefOf s))) → n ≤ length old
-    go true f g = let z : _≡_ {A = ℕ} 0 1 = cc in let x : ⊥ = omega arith in absurd x
-    go false f g =
-        let same : n ≡ length (reliefOf s) = ap bytesIn g in
-        omega (arith, same, ltb-false (length old) (length (reliefOf s)) f)
+relief-inside s old n {answer} m e =
+    let a = not-refused (ltb (length old) (length (reliefOf s))) (refused 3) (gives (length (reliefOf s))) n refl (sym (ap writtenBy (sym e) ∙ m .answers)) in
+    let same : length (reliefOf s) ≡ n = cc (a .1) in
+    omega (arith, same, ltb-false (length old) (length (reliefOf s)) (a .0))
