@@ -3,19 +3,19 @@ use Prim.Native.Nat.{ℕ, _+_, _*_, _≤_, _<_}
 use native.Mathlib.Nat.{mul-le-mul}
 use native.Mathlib.Omega.{arith}
 use mathlib.Core.Path.{_≡_, refl, sym, ap, _∙_}
-use mathlib.Core.Bool.{Bool, true, false, not, cond, true≢false}
+use mathlib.Core.Bool.{Bool, true, false, not, cond}
 use mathlib.Core.List.{List, _++_}
 use lib.ListN.{length, getD, drop}
 use lib.Dec.{eqb, ltb}
 use lib.Ieee.{Float}
 use borrow.Author.Tests.{lt-ltb, le-ltb, ltb-false, eqb-true, not-false}
-use Rattle.lists.proofs.TestLaws.{neither}
+use Rattle.lists.proofs.TestLaws.{neither, through}
 use Rattle.answers.specs.Outcome.{Outcome, gives, refused, refusedAt, answerOf, given}
 use Rattle.answers.specs.declared.Answer.{Answer}
 use Rattle.answers.specs.declared.Refusal.{Refusal}
 use Rattle.grid.specs.Sides.{badSides, InRange}
 use Rattle.grid.specs.Heights.{firstNotFinite, allFinite}
-use Rattle.answers.proofs.OutcomeLaws.{refusal-given}
+use Rattle.answers.proofs.OutcomeLaws.{refusal-given, not-refused, byOutcome, refused-whole, refused-kept, accepted-then}
 use Rattle.grid.proofs.SidesLaws.{good-sides, cells-bound, cell-back}
 use Rattle.grid.proofs.HeightsLaws.{all-finite, not-all-finite}
 use Rattle.lent_receivers.specs.Receivers.{firstBadReceiver, receiverTest}
@@ -28,25 +28,6 @@ use Rattle.steps.proofs.PlaceLaws.{near-of}
 use Rattle.fluvial_erosion.specs.Incise.{badLengths, badIncision, inciseRefusal, InciseMade}
 use Rattle.fluvial_erosion.specs.Along.{Drains, Carved}
 use Rattle.fluvial_erosion.specs.declared.FluvialParams.{FluvialParams}
-
--- what an outcome says, in other words
-byOutcome : {A : Type 0} → (ℕ → A) → (ℕ → ℕ → A) → A → Outcome (Unit {0}) → A
-byOutcome number at then (gives x) = then
-byOutcome number at then (refused k) = number k
-byOutcome number at then (refusedAt k c) = at k c
-
--- a refusal is itself, and leaves what was there
-by-itself : (o : Outcome (Unit {0})) (then : Outcome (Unit {0})) → given o ≡ false → byOutcome refused refusedAt then o ≡ o
-unfolding byOutcome
-by-itself (gives x) then e = absurd (true≢false e)
-by-itself (refused k) then e = refl
-by-itself (refusedAt k c) then e = refl
-
-by-staying : {A : Type 0} (x then : A) (o : Outcome (Unit {0})) → given o ≡ false → byOutcome (λ _. x) (λ _ _. x) then o ≡ x
-unfolding byOutcome
-by-staying x then (gives y) e = absurd (true≢false e)
-by-staying x then (refused k) e = refl
-by-staying x then (refusedAt k c) e = refl
 
 -- ---- what one test says that let pass
 pub record Sized (n heights recv list result scratch : ℕ) : Type 0 where
@@ -119,26 +100,12 @@ module _ (w h : ℕ) (hs : List Float) (p : FluvialParams) (recv list : List ℕ
   abbrev pub decided : Outcome (Unit {0})
   decided = inciseRefusal w h hs p recv list result scratch refused refusedAt (gives tt)
 
-  -- the same choice, whatever is chosen
-  natural : {A : Type 0} (number : ℕ → A) (at : ℕ → ℕ → A) (then : A) → byOutcome number at then decided ≡ inciseRefusal w h hs p recv list result scratch number at then
-  unfolding byOutcome
-  natural number at then =
-      go (badSides w h) (badLengths (w * h) (length hs) (length recv) (length list) result scratch) (badIncision p) (not (allFinite hs))
-      (ltb (firstBadReceiver w h recv) (w * h)) (ltb (firstBadEntry (w * h) recv list) (w * h))
-    where
-      go : (a b c d e f : Bool)
-          → byOutcome number at then
-          (cond a (refused 1) (cond b (refused 3) (cond c (refused 4) (cond d (refusedAt 5 (firstNotFinite hs))
-          (cond e (refusedAt 6 (firstBadReceiver w h recv)) (cond f (refusedAt 7 (firstBadEntry (w * h) recv list)) (gives tt)))))))
-          ≡ cond a (number 1) (cond b (number 3) (cond c (number 4) (cond d (at 5 (firstNotFinite hs))
-          (cond e (at 6 (firstBadReceiver w h recv)) (cond f (at 7 (firstBadEntry (w * h) recv list)) then)))))
-      go true b c d e f = refl
-      go false true c d e f = refl
-      go false false true d e f = refl
-      go false false false true e f = refl
-      go false false false false true f = refl
-      go false false false false false true = refl
-      go false false false false false false = refl
+  -- the tests, whatever they choose
+  abbrev tests : (A : Type 0) → (ℕ → A) → (ℕ → ℕ → A) → A → A
+  tests A = inciseRefusal w h hs p recv list result scratch
+
+  alike : (A : Type 0) (number : ℕ → A) (at : ℕ → ℕ → A) (then : A) → byOutcome number at then decided ≡ tests A number at then
+  alike A number at then = simp (through (byOutcome number at then))
 
   -- each end of the tests
   pub ends-side : {t : Bool} → t ≡ badSides w h → t ≡ true → refused 1 ≡ decided
@@ -178,21 +145,13 @@ module _ (w h : ℕ) (hs : List Float) (p : FluvialParams) (recv list : List ℕ
   -- an accepted input, from its outcome
   pub accepted : gives tt ≡ decided → Accepted
   accepted e =
-      go (badSides w h) refl (badLengths (w * h) (length hs) (length recv) (length list) result scratch) refl (badIncision p) refl (not (allFinite hs)) refl
-      (ltb (firstBadReceiver w h recv) (w * h)) refl (ltb (firstBadEntry (w * h) recv list) (w * h)) refl (ap given e)
-    where
-      go : (a : Bool) → badSides w h ≡ a → (b : Bool) → badLengths (w * h) (length hs) (length recv) (length list) result scratch ≡ b → (c : Bool) → badIncision p ≡ c
-          → (d : Bool) → not (allFinite hs) ≡ d → (f : Bool) → ltb (firstBadReceiver w h recv) (w * h) ≡ f → (g : Bool) → ltb (firstBadEntry (w * h) recv list) (w * h) ≡ g
-          → true ≡ given {A = Unit {0}} (cond a (refused 1) (cond b (refused 3) (cond c (refused 4) (cond d (refusedAt 5 (firstNotFinite hs))
-          (cond f (refusedAt 6 (firstBadReceiver w h recv)) (cond g (refusedAt 7 (firstBadEntry (w * h) recv list)) (gives tt)))))))
-          → Accepted
-      go true ea b eb c ec d ed f ef g eg t = absurd (true≢false t)
-      go false ea true eb c ec d ed f ef g eg t = absurd (true≢false t)
-      go false ea false eb true ec d ed f ef g eg t = absurd (true≢false t)
-      go false ea false eb false ec true ed f ef g eg t = absurd (true≢false t)
-      go false ea false eb false ec false ed true ef g eg t = absurd (true≢false t)
-      go false ea false eb false ec false ed false ef true eg t = absurd (true≢false t)
-      go false ea false eb false ec false ed false ef false eg t = record { sides = ea; lengths = eb; setting = ec; heights = ed; receivers = ef; entries = eg }
+      let a = not-refused (badSides w h) (refused 1) _ tt refl (sym e) in
+      let b = not-refused (badLengths (w * h) (length hs) (length recv) (length list) result scratch) (refused 3) _ tt refl (a .1) in
+      let c = not-refused (badIncision p) (refused 4) _ tt refl (b .1) in
+      let d = not-refused (not (allFinite hs)) (refusedAt 5 (firstNotFinite hs)) _ tt refl (c .1) in
+      let f = not-refused (ltb (firstBadReceiver w h recv) (w * h)) (refusedAt 6 (firstBadReceiver w h recv)) _ tt refl (d .1) in
+      let g = not-refused (ltb (firstBadEntry (w * h) recv list) (w * h)) (refusedAt 7 (firstBadEntry (w * h) recv list)) _ tt refl (f .1) in
+      record { sides = a .0; lengths = b .0; setting = c .0; heights = d .0; receivers = f .0; entries = g .0 }
 
   module _ (a : Accepted) where
     pub accepted-sizes : Sized (w * h) (length hs) (length recv) (length list) result scratch
@@ -215,31 +174,27 @@ module _ (w h : ℕ) (hs : List Float) (p : FluvialParams) (recv list : List ℕ
         }
 
 module _ (w h : ℕ) (hs : List Float) (p : FluvialParams) (recv list : List ℕ) (old scratch : List Float) where
+  abbrev own : (A : Type 0) → (ℕ → A) → (ℕ → ℕ → A) → A → A
+  own = tests w h hs p recv list (length old) (length scratch)
+
+  same : (A : Type 0) (number : ℕ → A) (at : ℕ → ℕ → A) (then : A) → byOutcome number at then (own (Outcome (Unit {0})) refused refusedAt (gives tt)) ≡ own A number at then
+  same = alike w h hs p recv list (length old) (length scratch)
+
   -- a refusal of the input leaves both slices as they were
   pub made-refused : (r : Answer) (q : Refusal) → answerOf r ≡ decided w h hs p recv list (length old) (length scratch) → r ≡ Answer.Refused q → InciseMade w h hs p recv list old scratch r old scratch
   made-refused r q d e =
-      record {
-        answer = sym (by-itself (answerOf r) _ none) ∙ ap (byOutcome refused refusedAt _) d ∙ natural w h hs p recv list (length old) (length scratch) refused refusedAt _;
-        result = sym (by-staying old _ (answerOf r) none) ∙ ap (byOutcome (λ _. old) (λ _ _. old) _) d ∙ natural w h hs p recv list (length old) (length scratch) (λ _. old) (λ _ _. old) _;
-        areas = sym (by-staying scratch _ (answerOf r) none) ∙ ap (byOutcome (λ _. scratch) (λ _ _. scratch) _) d ∙ natural w h hs p recv list (length old) (length scratch) (λ _. scratch) (λ _ _. scratch) _;
-      }
-    where
-      none : given (answerOf r) ≡ false
-      none = ap (λ (r : Answer). given (answerOf r)) e ∙ refusal-given q
+      let none : given (answerOf r) ≡ false = ap (λ (r : Answer). given (answerOf r)) e ∙ refusal-given q in
+      record { answer = refused-whole own same (answerOf r) d none _; result = refused-kept own same (answerOf r) d none old _; areas = refused-kept own same (answerOf r) d none scratch _ }
 
   -- an accepted input is incised
   module _ (e : gives tt ≡ decided w h hs p recv list (length old) (length scratch)) where
-    chosen : {A : Type 0} (number : ℕ → A) (at : ℕ → ℕ → A) (then : A) → then ≡ inciseRefusal w h hs p recv list (length old) (length scratch) number at then
-    unfolding byOutcome
-    chosen number at then = ap (byOutcome number at then) e ∙ natural w h hs p recv list (length old) (length scratch) number at then
-
     pub made-incised : {r : Answer} {out front area : List Float} → answerOf r ≡ cond (allFinite out) (gives tt) (refused 22) → Carved w h hs p recv list out front
         → area ≡ front ++ drop (w * h) scratch → InciseMade w h hs p recv list old scratch r out area
     made-incised {r} {out} {front} {area} b c d =
         record {
-          answer = b ∙ ap (λ (l : List Float). cond (allFinite l) (gives tt) (refused 22)) (c .heights) ∙ chosen refused refusedAt _;
-          result = c .heights ∙ chosen (λ _. old) (λ _ _. old) _;
-          areas = d ∙ ap (λ (l : List Float). l ++ drop (w * h) scratch) (c .areas) ∙ chosen (λ _. scratch) (λ _ _. scratch) _;
+          answer = b ∙ ap (λ (l : List Float). cond (allFinite l) (gives tt) (refused 22)) (c .heights) ∙ accepted-then own same e refused refusedAt _;
+          result = c .heights ∙ accepted-then own same e (λ _. old) (λ _ _. old) _;
+          areas = d ∙ ap (λ (l : List Float). l ++ drop (w * h) scratch) (c .areas) ∙ accepted-then own same e (λ _. scratch) (λ _ _. scratch) _;
         }
 
 -- the answer once the list is done

@@ -1,18 +1,18 @@
 -- Refusals in number order: what is known where a test has failed or held, and what a refusal for the shape says of the whole answer.
 use Prim.Native.Nat.{ℕ, _*_, _≤_}
 use mathlib.Core.Path.{_≡_, refl, sym, ap, _∙_}
-use mathlib.Core.Bool.{Bool, true, false, true≢false, not, cond, _||_}
+use mathlib.Core.Bool.{false, not, _||_}
 use mathlib.Core.List.{List}
 use native.Mathlib.Omega.{arith}
 use lib.Dec.{eqb, ltb}
 use lib.Ieee.{Float}
 use borrow.Author.Tests.{eqb-true, eqb-false, ltb-false, not-false}
-use Rattle.lists.proofs.TestLaws.{neither}
+use Rattle.lists.proofs.TestLaws.{neither, through}
 use Rattle.answers.specs.Outcome.{Outcome, gives, refused, answerOf, given}
 use Rattle.answers.specs.declared.Answer.{Answer}
 use Rattle.answers.specs.declared.Refusal.{Refusal}
 use Rattle.grid.specs.Sides.{badSides}
-use Rattle.answers.proofs.OutcomeLaws.{refusal-given}
+use Rattle.answers.proofs.OutcomeLaws.{refusal-given, not-refused, byOutcome, refused-whole, refused-kept}
 use Rattle.grid.proofs.SidesLaws.{good-sides}
 use Rattle.resample.specs.WorkSize.{Within}
 use Rattle.resample.specs.Blocks.{badReduced, shapeRefusal}
@@ -35,23 +35,19 @@ within-good w h dw dh e f =
 pub reduced-small : (w h dw dh : ℕ) → badSides w h ≡ false → (badReduced dw w || badReduced dh h) ≡ false → (dw ≤ 4096) × (dh ≤ 4096)
 reduced-small w h dw dh e f = omega (arith, within-good w h dw dh e f)
 
--- the shape's three tests, with what follows them as an argument
-abbrev tests : {A : Type 0} → Bool → Bool → Bool → (ℕ → A) → A → A
-tests a b c number then = cond a (number 1) (cond b (number 2) (cond c (number 3) then))
-
-refused-tests : (a b c : Bool) (o : Outcome (Unit {0})) → given o ≡ false → o ≡ tests a b c refused (gives tt)
-    → ((x : Outcome (Unit {0})) → o ≡ tests a b c refused x) × ((d x : List Float) → d ≡ tests a b c (λ n. d) x)
-refused-tests true b c o n e = (λ x. e, λ d x. refl)
-refused-tests false true c o n e = (λ x. e, λ d x. refl)
-refused-tests false false true o n e = (λ x. e, λ d x. refl)
-refused-tests false false false o n e = absurd (true≢false (sym (ap given e) ∙ n))
-
 -- an answer that refuses the shape is the whole answer, and what is kept is kept
-pub shape-refused : (w h len dw dh dlen : ℕ) (a : Answer) (r : Refusal) → answerOf a ≡ shapeRefusal w h len dw dh dlen refused (gives tt) → a ≡ Answer.Refused r
-    → ((x : Outcome (Unit {0})) → answerOf a ≡ shapeRefusal w h len dw dh dlen refused x) × ((d x : List Float) → d ≡ shapeRefusal w h len dw dh dlen (λ n. d) x)
-shape-refused w h len dw dh dlen a r e f =
-    refused-tests (badSides w h) (badReduced dw w || badReduced dh h) (not (eqb len (w * h)) || not (eqb dlen (dw * dh))) (answerOf a)
-    (ap (λ (b : Answer). given (answerOf b)) f ∙ refusal-given r) e
+module _ (w h len dw dh dlen : ℕ) where
+  abbrev tests : (A : Type 0) → (ℕ → A) → (ℕ → ℕ → A) → A → A
+  tests A number at then = shapeRefusal w h len dw dh dlen number then
+
+  alike : (A : Type 0) (number : ℕ → A) (at : ℕ → ℕ → A) (then : A) → byOutcome number at then (shapeRefusal w h len dw dh dlen refused (gives tt)) ≡ tests A number at then
+  alike A number at then = simp (through (byOutcome number at then))
+
+  pub shape-refused : (a : Answer) (r : Refusal) → answerOf a ≡ shapeRefusal w h len dw dh dlen refused (gives tt) → a ≡ Answer.Refused r
+      → ((x : Outcome (Unit {0})) → answerOf a ≡ shapeRefusal w h len dw dh dlen refused x) × ((d x : List Float) → d ≡ shapeRefusal w h len dw dh dlen (λ n. d) x)
+  shape-refused a r e f =
+      let none : given (answerOf a) ≡ false = ap (λ (b : Answer). given (answerOf b)) f ∙ refusal-given r in
+      (refused-whole tests alike (answerOf a) e none, refused-kept tests alike (answerOf a) e none)
 
 -- an accepted shape: no test holds, the reduced grid lies within the full one, and both slices are their grid's
 pub record Shaped (w h len dw dh dlen : ℕ) : Type 0 where
@@ -62,24 +58,17 @@ pub record Shaped (w h len dw dh dlen : ℕ) : Type 0 where
   pub full : len ≡ w * h
   pub small : dlen ≡ dw * dh
 
-accepted-tests : (a b c : Bool) → _≡_ {A = Outcome (Unit {0})} (gives tt) (tests a b c refused (gives tt)) → (a ≡ false) × ((b ≡ false) × (c ≡ false))
-accepted-tests true b c e = absurd (true≢false (ap given e))
-accepted-tests false true c e = absurd (true≢false (ap given e))
-accepted-tests false false true e = absurd (true≢false (ap given e))
-accepted-tests false false false e = (refl, (refl, refl))
-
 pub shape-good : (w h len dw dh dlen : ℕ) (a : Answer) → answerOf a ≡ shapeRefusal w h len dw dh dlen refused (gives tt) → a ≡ Answer.Done → Shaped w h len dw dh dlen
 shape-good w h len dw dh dlen r e f =
-    let a = badSides w h in
-    let b = badReduced dw w || badReduced dh h in
-    let c = not (eqb len (w * h)) || not (eqb dlen (dw * dh)) in
-    let p = accepted-tests a b c (sym (ap answerOf f) ∙ e) in
-    let q = neither (not (eqb len (w * h))) (not (eqb dlen (dw * dh))) (p .1 .1) in
+    let a = not-refused (badSides w h) (refused 1) _ tt refl (sym e ∙ ap answerOf f) in
+    let b = not-refused (badReduced dw w || badReduced dh h) (refused 2) _ tt refl (a .1) in
+    let c = not-refused (not (eqb len (w * h)) || not (eqb dlen (dw * dh))) (refused 3) _ tt refl (b .1) in
+    let q = neither (not (eqb len (w * h))) (not (eqb dlen (dw * dh))) (c .0) in
     record {
-      sides = p .0;
-      reduced = p .1 .0;
-      lengths = p .1 .1;
-      in-grid = within-good w h dw dh (p .0) (p .1 .0);
+      sides = a .0;
+      reduced = b .0;
+      lengths = c .0;
+      in-grid = within-good w h dw dh (a .0) (b .0);
       full = eqb-true len (w * h) (not-false (eqb len (w * h)) (q .0));
       small = eqb-true dlen (dw * dh) (not-false (eqb dlen (dw * dh)) (q .1));
     }
