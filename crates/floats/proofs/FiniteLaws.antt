@@ -1,7 +1,7 @@
--- Finite as two comparisons with the infinities; and that every stand-in's result is a binary32 value, finite where max's two numbers are.
+-- Finite as two comparisons with the infinities; and that every stand-in's result is a binary32 value.
 use Prim.Native.Nat.{ℕ, _+_, _-_, _*_, _/_}
 use mathlib.Core.Path.{_≡_, refl, sym}
-use mathlib.Core.Bool.{Bool, true, false, cond}
+use mathlib.Core.Bool.{Bool, true, false}
 use lib.Dec.{T}
 use lib.Ieee.{Float, nan, inf, fin, binary32, up, down, lt, le, fits}
 use lib.Ieee.Fits.{cond-fits, nan-fits, inf-fits, round-fits, sub-fits}
@@ -26,13 +26,6 @@ not-above-low (inf false) h = refl
 not-above-low (fin s m e) h = sym h
 
 -- ---- what the stand-ins keep
-pub maxOf-finite : (a b : Float) → T (finite a) → T (finite b) → T (finite (maxOf a b))
-maxOf-finite a b p q = go (le b a)
-  where
-    go : (t : Bool) → T (finite (cond t a b))
-    go true = p
-    go false = q
-
 pub maxOf-fits : (a b : Float) → T (fits binary32 a) → T (fits binary32 b) → T (fits binary32 (maxOf a b))
 maxOf-fits a b p q = cond-fits binary32 (le b a) a b p q
 

@@ -1,12 +1,13 @@
 -- Each step asks at most one question, so a run asks few enough to count in 32 bits.
 use Prim.Native.Nat.{ℕ, suc, _+_, _*_, _^_, _≤_, _<_}
 use mathlib.Core.Path.{_≡_, refl}
-use mathlib.Core.Bool.{Bool, true, false, not, _&&_, _||_, cond}
+use mathlib.Core.Bool.{Bool, not, _&&_, _||_, cond}
 use mathlib.Core.List.{List}
 use native.Mathlib.Nat.{mul-le-mul, mul-le-mul-right, le-trans, lt-of-le-of-lt, suc-le-suc-iff}
 use native.Mathlib.Omega.{arith}
 use lib.Dec.{eqb, leb, ltb, lit<}
 use lib.Ieee.{Float}
+use Rattle.lists.proofs.TestLaws.{either}
 use Rattle.lists.proofs.TurnLaws.{turns-hold}
 use Rattle.grid.specs.Heights.{allFinite}
 use Rattle.generators.specs.Marks.{reportOf}
@@ -15,31 +16,23 @@ use Rattle.generators.proofs.MarksLaws.{report-asked-most}
 use Rattle.talus.specs.Talus.{slideRow}
 use Rattle.thermal_erosion.specs.SlidePass.{Pass, fractionOf}
 use Rattle.thermal_erosion.proofs.PassLaws as Rows
-use Rattle.runs.specs.Machine.{Course, State, start, endedBy, cut, openStep, slid, closed, rowStep, step, after, steps}
+use Rattle.runs.specs.Machine.{Course, State, start, openStep, rowStep, step, after, steps}
 use Rattle.runs.specs.Nested.{rowsFrom, passDone, onePass, oneOpening, passesAfter, oneIteration, iterated}
-
--- choices between states with one record keep that record
-chosen : (a b d : Bool) (x y z u : State) (m : Progress) → x .marks ≡ m → y .marks ≡ m → z .marks ≡ m → u .marks ≡ m
-    → cond a x (cond b y (cond d z u)) .marks ≡ m
-chosen true b d x y z u m p q r t = p
-chosen false true d x y z u m p q r t = q
-chosen false false true x y z u m p q r t = r
-chosen false false false x y z u m p q r t = t
 
 module _ (c : Course) (s : State) where
   -- the record after an opening
   abbrev openReport : Progress
   openReport = reportOf (s .marks) (c .opening (s .iteration)) (c .stop)
 
+  -- a choice between states with one record keeps it
+  one-record : (m : Progress) (b : Bool) (x y : State) → x .marks ≡ m → y .marks ≡ m → cond b x y .marks ≡ m
+  one-record m = either (λ (x : State). x .marks ≡ m)
+
   open-marks : openStep c s .marks ≡ openReport
-  open-marks =
-      chosen (openReport .stopped) (allFinite (c .incision (s .iteration) (s .heights))) true (endedBy c 21 openReport s)
-      (cut c (c .incision (s .iteration) (s .heights)) openReport s) (endedBy c 22 openReport s) (endedBy c 22 openReport s) openReport refl refl refl refl
+  open-marks = one-record openReport (openReport .stopped) _ _ refl (one-record openReport (allFinite (c .incision (s .iteration) (s .heights))) _ _ refl refl)
 
   done-marks : (p : Pass) → passDone c s p .marks ≡ p .marks
-  done-marks p =
-      let end : ℕ → State = λ n. endedBy c n (p .marks) s in
-      chosen (p .marks .stopped) (allFinite (p .out)) true (end 21) (closed c (p .out) (p .marks) s) (end 22) (end 22) (p .marks) refl refl refl refl
+  done-marks p = one-record (p .marks) (p .marks .stopped) _ _ refl (one-record (p .marks) (allFinite (p .out)) _ _ refl refl)
 
   -- a row of the pass under way, with its question
   abbrev rowMade : Pass
@@ -52,17 +45,16 @@ module _ (c : Course) (s : State) where
   row-marks : rowStep c s .marks ≡ rowMade .marks
   row-marks =
       let m : Progress = rowMade .marks in
-      let new : List Float = rowMade .out in
-      chosen (m .stopped) (ltb (suc (s .row)) (c .h)) (allFinite new) (endedBy c 21 m s) (slid c new m s) (closed c new m s) (endedBy c 22 m s) m refl refl refl refl
+      one-record m (m .stopped) _ _ refl (one-record m (ltb (suc (s .row)) (c .h)) _ _ refl (one-record m (allFinite (rowMade .out)) _ _ refl refl))
 
   step-asked : step c s .marks .asked ≤ s .marks .asked + 1
   unfolding step
-  step-asked = go (not (eqb (s .number) 0) || leb (c .iterations) (s .iteration)) (s .opened)
+  step-asked =
+      few (not (eqb (s .number) 0) || leb (c .iterations) (s .iteration)) _ _ (omega arith)
+      (few (s .opened) _ _ (rw row-marks (report-asked-most (s .marks) _ (c .stop))) (rw open-marks (report-asked-most (s .marks) _ (c .stop))))
     where
-      go : (a b : Bool) → cond a s (cond b (rowStep c s) (openStep c s)) .marks .asked ≤ s .marks .asked + 1
-      go true b = omega arith
-      go false true = rw row-marks (report-asked-most (s .marks) _ (c .stop))
-      go false false = rw open-marks (report-asked-most (s .marks) _ (c .stop))
+      few : (b : Bool) (x y : State) → x .marks .asked ≤ s .marks .asked + 1 → y .marks .asked ≤ s .marks .asked + 1 → cond b x y .marks .asked ≤ s .marks .asked + 1
+      few = either (λ (x : State). x .marks .asked ≤ s .marks .asked + 1)
 
 -- n steps ask at most n questions
 pub after-asked : (c : Course) (hs : List Float) (n : ℕ) → after c n hs .marks .asked ≤ n
@@ -79,19 +71,13 @@ rows-asked c s r =
 module _ (c : Course) (s : State) where
   pub pass-asked : onePass c s .marks .asked ≤ s .marks .asked + c .h
   unfolding onePass
-  pass-asked = go (eqb (s .number) 0)
-    where
-      go : (b : Bool) → cond b (passDone c s (rowsFrom c (c .h) s)) s .marks .asked ≤ s .marks .asked + c .h
-      go true = rw done-marks (rows-asked c s (c .h))
-      go false = omega arith
+  pass-asked =
+      either (λ (x : State). x .marks .asked ≤ s .marks .asked + c .h) (eqb (s .number) 0) (passDone c s (rowsFrom c (c .h) s)) s (rw done-marks (rows-asked c s (c .h))) (omega arith)
 
   pub opening-asked : oneOpening c s .marks .asked ≤ s .marks .asked + 1
   unfolding oneOpening
-  opening-asked = go (c .cutting && eqb (s .number) 0)
-    where
-      go : (b : Bool) → cond b (openStep c s) s .marks .asked ≤ s .marks .asked + 1
-      go true = rw open-marks (report-asked-most (s .marks) _ (c .stop))
-      go false = omega arith
+  opening-asked =
+      either (λ (x : State). x .marks .asked ≤ s .marks .asked + 1) (c .cutting && eqb (s .number) 0) (openStep c s) s (rw open-marks (report-asked-most (s .marks) _ (c .stop))) (omega arith)
 
 module _ (c : Course) (s : State) where
   pub passes-asked : (q : ℕ) → passesAfter c q s .marks .asked ≤ s .marks .asked + 1 + q * c .h

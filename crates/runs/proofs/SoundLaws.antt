@@ -2,14 +2,15 @@
 use Prim.Native.Nat.{ℕ, zero, suc, _≤_}
 use native.Mathlib.Decide.{decLe}
 use native.Mathlib.Nat.{lt-of-not-le}
-use mathlib.Core.Path.{_≡_, refl, sym, subst}
-use mathlib.Core.Bool.{Bool, true, false, not, _||_, cond}
+use mathlib.Core.Path.{_≡_, refl, sym, ap, subst, _∙_}
+use mathlib.Core.Bool.{Bool, true, not, _||_, cond}
 use mathlib.Core.List.{List}
 use lib.ListN.{length, getD, List·getD-eq-default}
 use lib.Dec.{T, eqb, leb, ltb}
 use lib.Ieee.{Float, nan, binary32, fits}
 use lib.Ieee.Fits.{nan-fits}
 use Rattle.lists.specs.Loops.{tabulate}
+use Rattle.lists.proofs.TestLaws.{by-test, either}
 use Rattle.lists.proofs.TableLaws.{length-tabulate, getD-tabulate}
 use Rattle.float_order.specs.Fit.{Fit}
 use Rattle.grid.specs.Heights.{allFinite}
@@ -40,38 +41,34 @@ pub record Sound (n : ℕ) (s : State) : Type 0 where
   pub finite : allFinite (s .heights) ≡ true
   pub copy : Sized n (s .copy)
 
--- P of either arm
-either : {A : Type 0} (P : A → Type 0) (b : Bool) (x y : A) → (b ≡ true → P x) → (b ≡ false → P y) → P (cond b x y)
-either P true x y f g = f refl
-either P false x y f g = g refl
+-- what an incision or a pass that made new heights leads to: what has not ended the run is finite; a number that ended it leaves the heights
+module _ (n : ℕ) (c : Course) (s : State) (p : Sound n s) where
+  ended-sound : (number : ℕ) (m : Progress) → Sound n (endedBy c number m s)
+  ended-sound number m = record { heights = p .heights; finite = p .finite; copy = p .heights }
+
+  module _ (t : State) (new : List Float) (m : Progress) (z : Sized n new) (h : t .heights ≡ new) (k : t .copy ≡ new) where
+    finite-sound : Sound n (cond (allFinite new) t (endedBy c 22 m s))
+    finite-sound =
+        by-test (Sound n) (allFinite new) t (endedBy c 22 m s) (λ e. record { heights = subst (Sized n) (sym h) z; finite = ap allFinite h ∙ e; copy = subst (Sized n) (sym k) z })
+        (λ _. ended-sound 22 m)
+
+    pub made-sound : (a : Bool) → Sound n (cond a (endedBy c 21 m s) (cond (allFinite new) t (endedBy c 22 m s)))
+    made-sound a = either (Sound n) a (endedBy c 21 m s) _ (ended-sound 21 m) finite-sound
+
+module _ (n : ℕ) (c : Course) (cuts : (it : ℕ) (hs : List Float) → Sized n hs → Sized n (c .incision it hs)) where
+  pub open-sound : (s : State) → Sound n s → Sound n (openStep c s)
+  open-sound s p =
+      let m : Progress = reportOf (s .marks) (c .opening (s .iteration)) (c .stop) in
+      let new : List Float = c .incision (s .iteration) (s .heights) in
+      made-sound n c s p (cut c new m s) new m (cuts (s .iteration) (s .heights) (p .heights)) refl refl (m .stopped)
 
 module _ (n : ℕ) (c : Course)
     (cuts : (it : ℕ) (hs : List Float) → Sized n hs → Sized n (c .incision it hs))
     (slides : (y : ℕ) (hs copy : List Float) → Sized n hs → Sized n copy → Sized n (slideRow (c .w) (c .h) (c .thresholds) hs (c .strength) (c .water) y copy)) where
-  ended-sound : (number : ℕ) (m : Progress) (s : State) → Sound n s → Sound n (endedBy c number m s)
-  ended-sound number m s p = record { heights = p .heights; finite = p .finite; copy = p .heights }
-
-  open-sound : (s : State) → Sound n s → Sound n (openStep c s)
-  open-sound s p =
-      either (Sound n) (m .stopped) (endedBy c 21 m s) (cond (allFinite new) (cut c new m s) (endedBy c 22 m s)) (λ t. ended-sound 21 m s p)
-      (λ t. either (Sound n) (allFinite new) (cut c new m s) (endedBy c 22 m s) (λ f. record { heights = made; finite = f; copy = made }) (λ f. ended-sound 22 m s p))
-    where
-      m : Progress
-      m = reportOf (s .marks) (c .opening (s .iteration)) (c .stop)
-
-      new : List Float
-      new = c .incision (s .iteration) (s .heights)
-
-      made : Sized n new
-      made = cuts (s .iteration) (s .heights) (p .heights)
-
   row-sound : (s : State) → Sound n s → Sound n (rowStep c s)
   row-sound s p =
-      either (Sound n) (m .stopped) (endedBy c 21 m s) (cond (ltb (suc (s .row)) (c .h)) (slid c new m s) (cond (allFinite new) (closed c new m s) (endedBy c 22 m s))) (λ t. ended-sound 21 m s p)
-      (λ t.
-      either (Sound n) (ltb (suc (s .row)) (c .h)) (slid c new m s) (cond (allFinite new) (closed c new m s) (endedBy c 22 m s))
-      (λ l. record { heights = p .heights; finite = p .finite; copy = made })
-      (λ l. either (Sound n) (allFinite new) (closed c new m s) (endedBy c 22 m s) (λ f. record { heights = made; finite = f; copy = made }) (λ f. ended-sound 22 m s p)))
+      either (Sound n) (m .stopped) (endedBy c 21 m s) _ (ended-sound n c s p 21 m)
+      (either (Sound n) (ltb (suc (s .row)) (c .h)) (slid c new m s) _ (record { heights = p .heights; finite = p .finite; copy = made }) (finite-sound n c s p (closed c new m s) new m made refl refl))
     where
       m : Progress
       m = reportOf (s .marks) (fractionOf (c .begins (s .iteration) (s .pass)) (c .begins (s .iteration) (suc (s .pass))) (c .h) (s .row)) (c .stop)
@@ -85,8 +82,7 @@ module _ (n : ℕ) (c : Course)
   step-sound : (s : State) → Sound n s → Sound n (step c s)
   unfolding step
   step-sound s p =
-      either (Sound n) (not (eqb (s .number) 0) || leb (c .iterations) (s .iteration)) s (cond (s .opened) (rowStep c s) (openStep c s)) (λ t. p)
-      (λ t. either (Sound n) (s .opened) (rowStep c s) (openStep c s) (λ o. row-sound s p) (λ o. open-sound s p))
+      either (Sound n) (not (eqb (s .number) 0) || leb (c .iterations) (s .iteration)) s _ p (either (Sound n) (s .opened) (rowStep c s) (openStep c s) (row-sound s p) (open-sound n c cuts s p))
 
   pub after-sound : (hs : List Float) → Sized n hs → allFinite hs ≡ true → (k : ℕ) → Sound n (after c k hs)
   after-sound hs long fin zero = subst (Sound n) (sym (after-none hs c)) (record { heights = long; finite = fin; copy = long })

@@ -4,7 +4,9 @@ use mathlib.Core.Bool.{Bool, true, false, not, cond}
 use Prim.Native.Nat.{ℕ, zero, suc, _+_, _-_, _*_, _^_, _≤_, _<_, zero-le}
 use native.Mathlib.Nat.{mul-le-mul, mul-le-mul-right, le-antisymm, le-of-suc-le-suc, lt-of-not-le, pow-succ'}
 use native.Mathlib.Omega.{arith}
-use lib.Dec.{T, leb, ltb, leb→le, nleb→lt, ltb→lt, nltb→le}
+use lib.Dec.{T, leb, ltb, leb→le, nleb→lt}
+use borrow.Author.Tests.{ltb-true, ltb-false}
+use Rattle.lists.proofs.TestLaws.{by-test}
 use Rattle.square_root.specs.Root.{digits, wholeRoot, nearestRoot}
 use Rattle.square_root.specs.Inner.{Over}
 
@@ -64,15 +66,11 @@ near-le n (suc t) q a b = not-above (λ (g : q < suc t). no (mul-le-mul (le-of-s
 near-unique : (n p q : ℕ) → Near n p → Near n q → p ≡ q
 near-unique n p q a b = le-antisymm (near-le n p q a b) (near-le n q p b a)
 
-either-near : (n : ℕ) (b : Bool) (x y : ℕ) → (T b → Near n x) → (T (not b) → Near n y) → Near n (cond b x y)
-either-near n true x y f g = f tt
-either-near n false x y f g = g tt
-
 pub nearest-near : (n : ℕ) → 0 < n → n < 2 ^ 48 → Near n (nearestRoot n)
 unfolding nearestRoot
 nearest-near n p h =
     let w = whole-bracket n h in
-    either-near n (ltb (4 * n) ((2 * wholeRoot n + 1) * (2 * wholeRoot n + 1))) _ _ (λ t. (omega (arith, ltb→lt), short n (wholeRoot n) p (w .0))) (λ t. omega (arith, nltb→le, w))
+    by-test (Near n) (ltb (4 * n) ((2 * wholeRoot n + 1) * (2 * wholeRoot n + 1))) _ _ (λ t. (omega (arith, ltb-true), short n (wholeRoot n) p (w .0))) (λ t. omega (arith, ltb-false, w))
 
 -- what is near is the nearest
 pub nearest-is : (n q : ℕ) → 0 < n → n < 2 ^ 48 → Near n q → q ≡ nearestRoot n

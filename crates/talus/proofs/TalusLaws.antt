@@ -1,11 +1,11 @@
 -- What a row keeps: the number of heights, and that binary32 holds every one of them.
 use Prim.Native.Nat.{ℕ, suc, _+_, _*_}
 use mathlib.Core.Path.{_≡_, refl, _∙_}
-use mathlib.Core.Bool.{Bool, true, false, cond}
 use mathlib.Core.List.{List}
 use lib.ListN.{length, getD, set, length-set}
 use lib.Ieee.{Float, nan, binary32, ofBits, add, sub, lt, le}
 use lib.Ieee.Fits.{add-fits, sub-fits}
+use Rattle.lists.proofs.TestLaws.{either}
 use Rattle.lists.proofs.TurnLaws.{turns-keep}
 use Rattle.float_order.specs.Fit.{Fit}
 use Rattle.float_order.proofs.FitLaws.{fit-set}
@@ -15,21 +15,17 @@ use Rattle.talus.specs.Talus.{counted, shedOf, gainStep, gainsOf, slideC
 module _ (P : List Float → Type 0) (gained : (l : List Float) (i : ℕ) (a b : Float) → P l → P (set l i (add binary32 a b)))
     (lost : (l : List Float) (i : ℕ) (a b : Float) → P l → P (set l i (sub binary32 a b)))
     (w h : ℕ) (ts hs : List Float) where
-  either : (b : Bool) (x y : List Float) → P x → P y → P (cond b x y)
-  either true x y p q = p
-  either false x y p q = q
-
   gains-keep : (c : ℕ) (moved total : Float) (out : List Float) → P out → P (gainsOf w h ts hs c moved total out)
   unfolding gainsOf gainStep
   gains-keep c moved total out p =
       turns-keep (λ i. gainStep w h ts hs c moved total (suc i)) P out 8 p
-      (λ i t l q. either (counted w h ts hs c (suc i)) _ _ (gained t _ _ _ q) q)
+      (λ i t l q. either P (counted w h ts hs c (suc i)) _ _ (gained t _ _ _ q) q)
 
   cell-keeps : (strength water : Float) (c : ℕ) (out : List Float) → P out → P (slideCell w h ts hs strength water c out)
   unfolding slideCell
   cell-keeps strength water c out p =
-      either (lt (getD hs c nan) water) _ _ p
-      (either (le (shedOf w h ts hs c .total) (ofBits binary32 0)) _ _ p (gains-keep c _ _ _ (lost out c _ _ p)))
+      either P (lt (getD hs c nan) water) _ _ p
+      (either P (le (shedOf w h ts hs c .total) (ofBits binary32 0)) _ _ p (gains-keep c _ _ _ (lost out c _ _ p)))
 
   pub row-keeps : (strength water : Float) (y : ℕ) (out : List Float) → P out → P (slideRow w h ts hs strength water y out)
   unfolding slideRow

@@ -7,6 +7,7 @@ use native.Mathlib.Omega.{arith}
 use lib.ListN.{length}
 use lib.Ieee.{Float}
 use Rattle.lists.specs.Loops.{turns}
+use Rattle.lists.proofs.TestLaws.{either}
 use Rattle.lists.proofs.TurnLaws.{turns-none, turns-more, turns-stay, turns-keep}
 use Rattle.float_order.specs.Fit.{Fit}
 use Rattle.generators.specs.Marks.{reportOf}
@@ -58,21 +59,17 @@ module _ (w h : ℕ) (ts : List Float) (strength water : Float) (hs : List Float
         still : (j : ℕ) → f j s ≡ s
         still j = rw off
 
-  either : (P : Pass → Type 0) (b : Bool) (x y : Pass) → P x → P y → P (cond b x y)
-  either P true x y p q = p
-  either P false x y p q = q
-
   pub rows-length : (n : ℕ) → length (rowsOf w h ts strength water hs from to stop n m .out) ≡ length hs
   unfolding rowsOf
   rows-length n =
       turns-keep (rowStep w h ts strength water hs from to stop) (λ s. length (s .out) ≡ length hs) (record { out = hs; marks = m }) n refl
-      (λ i s l e. either (λ s. length (s .out) ≡ length hs) (s .marks .stopped) _ _ e (row-length w h ts hs strength water i (s .out) ∙ e))
+      (λ i s l e. either (λ (s : Pass). length (s .out) ≡ length hs) (s .marks .stopped) _ _ e (row-length w h ts hs strength water i (s .out) ∙ e))
 
   pub rows-fit : (n : ℕ) → Fit hs → Fit (rowsOf w h ts strength water hs from to stop n m .out)
   unfolding rowsOf
   rows-fit n fit =
       turns-keep (rowStep w h ts strength water hs from to stop) (λ s. Fit (s .out)) (record { out = hs; marks = m }) n fit
-      (λ i s l e. either (λ s. Fit (s .out)) (s .marks .stopped) _ _ e (row-fit w h ts hs strength water i (s .out) e))
+      (λ i s l e. either (λ (s : Pass). Fit (s .out)) (s .marks .stopped) _ _ e (row-fit w h ts hs strength water i (s .out) e))
 
   -- each row asks at most one question
   pub rows-asked : (n : ℕ) → rowsOf w h ts strength water hs from to stop n m .marks .asked ≤ m .asked + n
@@ -81,7 +78,7 @@ module _ (w h : ℕ) (ts : List Float) (strength water : Float) (hs : List Float
   rows-asked (suc n) =
       let s : Pass = rowsOf w h ts strength water hs from to stop n m in
       let most : s .marks .asked ≤ m .asked + n = rows-asked n in
-      either (λ s. s .marks .asked ≤ m .asked + suc n) (s .marks .stopped) _ _ (omega arith) (omega (arith, report-asked-most (s .marks) (fractionOf from to h n) stop))
+      either (λ (s : Pass). s .marks .asked ≤ m .asked + suc n) (s .marks .stopped) _ _ (omega arith) (omega (arith, report-asked-most (s .marks) (fractionOf from to h n) stop))
 
 -- the loop over the rows: out and marks are those of the rows below y
 pub record Rowed (w h : ℕ) (ts : List Float) (strength water : Float) (hs : List Float) (from to : Float) (stop : ℕ) (m : Progress) (y : ℕ) (out : List Float) (marks : Progress) : Type 0 where
