@@ -1,6 +1,7 @@
 -- An answer in one u64: the refusal number × 2^32 plus the place that it carries, cut to 32 bits; where nothing is refused, the result alone.
 use Prim.Native.Nat.{ℕ, _+_, _*_, _%_, _^_}
 use mathlib.Core.Path.{_≡_}
+use mathlib.Core.Bool.{Bool, cond}
 use lib.Ieee.{binary32, toBits}
 use Rattle.answers.specs.Outcome.{Outcome, gives, refused, refusedAt, answerOf}
 use Rattle.answers.specs.declared.Answer.{Answer}
@@ -16,6 +17,10 @@ leastBits m = toBits binary32 (m .min)
 
 abbrev pub greatestBits : MinMax → ℕ
 greatestBits m = toBits binary32 (m .max)
+
+-- either of the two
+abbrev pub endBits : Bool → MinMax → ℕ
+endBits greatest m = toBits binary32 (cond greatest (m .max) (m .min))
 
 -- The call makes what the public call makes, and gives the word of that call's answer. `Made` is the public call's own promise with its answer left
 -- open; that promise fixes the answer by an equation, and so the word.

@@ -4,16 +4,18 @@ use answers::Answer;
 use answers::Refusal;
 use answers::Value;
 use generators::Extent;
+use generators::MinMax;
 use grid::Sides;
 ghost use Prim.Native.Nat.{_+_, _*_, _%_, _^_};
 ghost use mathlib.Core.Path.{_≡_};
+ghost use mathlib.Core.Bool.{cond};
 ghost use lib.Ieee.{binary32, toBits};
 ghost use Rattle.answers.specs.Outcome.{numberOf, placeOf, answerOf, valueOf};
 ghost use Rattle.generators.specs.Extents.{extentOf, getMinMaxAnswer, NormalizeMade};
 ghost use Rattle.resample.specs.Blocks.{Downsampled};
 ghost use Rattle.bilinear.specs.Samples.{bilinearAnswer};
 ghost use Rattle.upsample.specs.Samples.{Added};
-ghost use Rattle.harness_calls.specs.Word.{wordOf, leastBits, greatestBits, Exported};
+ghost use Rattle.harness_calls.specs.Word.{wordOf, leastBits, greatestBits, endBits, Exported};
 
 // A refusal's number and place in one word.
 pub fn refusal_word(r: Refusal) -> u64
@@ -42,20 +44,18 @@ fn value_word(v: Value) -> u64
     }
 }
 
-fn least_word(e: Extent) -> u64
-    ensures { λ w. ⌜ w ≡ wordOf leastBits (extentOf e) ⌝ }
+// One end of an extent: max, or min.
+fn end_of(m: MinMax, greatest: bool) -> f32
+    ensures { λ r. ⌜ r ≡ cond greatest (m .max) (m .min) ⌝ }
 {
-    match e {
-        Extent::Of(m) => floats::to_bits(m.min) as u64,
-        Extent::Refused(r) => refusal_word(r),
-    }
+    if greatest { m.max } else { m.min }
 }
 
-fn greatest_word(e: Extent) -> u64
-    ensures { λ w. ⌜ w ≡ wordOf greatestBits (extentOf e) ⌝ }
+fn extent_word(e: Extent, greatest: bool) -> u64
+    ensures { λ w. ⌜ w ≡ wordOf (endBits greatest) (extentOf e) ⌝ }
 {
     match e {
-        Extent::Of(m) => floats::to_bits(m.max) as u64,
+        Extent::Of(m) => floats::to_bits(end_of(m, greatest)) as u64,
         Extent::Refused(r) => refusal_word(r),
     }
 }
@@ -65,7 +65,7 @@ fn greatest_word(e: Extent) -> u64
 pub extern "C" fn harness_least(v: &[f32]) -> u64
     ensures { λ w. ⌜ w ≡ wordOf leastBits (getMinMaxAnswer (now (v .entry))) ⌝ }
 {
-    least_word(generators::get_min_max(v))
+    extent_word(generators::get_min_max(v), false)
 }
 
 // `get_min_max`: the bits of max.
@@ -73,7 +73,7 @@ pub extern "C" fn harness_least(v: &[f32]) -> u64
 pub extern "C" fn harness_greatest(v: &[f32]) -> u64
     ensures { λ w. ⌜ w ≡ wordOf greatestBits (getMinMaxAnswer (now (v .entry))) ⌝ }
 {
-    greatest_word(generators::get_min_max(v))
+    extent_word(generators::get_min_max(v), true)
 }
 
 // `normalize`.

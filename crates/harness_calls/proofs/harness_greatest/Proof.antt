@@ -7,12 +7,12 @@ use Rattle.harness_calls.proofs.harness_greatest.Tie as tie
 get-min-max-requires : tie.Need-get-min-max-requires
 get-min-max-requires c κs = search needs
 
-greatest-word-requires : tie.Need-greatest-word-requires
-greatest-word-requires c κs = search needs
+extent-word-requires : tie.Need-extent-word-requires
+extent-word-requires c κs = search needs
 
 returns : tie.Need-returns
 returns c =
-    c .greatest-word .ensures ∙ ap (wordOf greatestBits) (c .before .get-min-max .ensures)
+    c .extent-word .ensures ∙ ap (wordOf greatestBits) (c .before .get-min-max .ensures)
 
 pub harness-greatest-spec : {M : Type 1} → statement M
-harness-greatest-spec = tie.close (tie.spec get-min-max-requires greatest-word-requires returns)
+harness-greatest-spec = tie.close (tie.spec get-min-max-requires extent-word-requires returns)

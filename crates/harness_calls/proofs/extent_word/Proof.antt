@@ -1,13 +1,17 @@
 use mathlib.Core.Path.{sym, ap, _∙_}
+use lib.Ieee.{binary32, toBits}
 use Rattle.generators.specs.Extents.{extentOf}
-use Rattle.harness_calls.specs.Word.{wordOf, leastBits}
+use Rattle.harness_calls.specs.Word.{wordOf, endBits}
 use Rattle.harness_calls.proofs.WordLaws.{word-of-refusal}
 use borrow.Author.Needs.{needs}
-use Rattle.harness_calls.proofs.least_word.Statement.{statement}
-use Rattle.harness_calls.proofs.least_word.Tie as tie
+use Rattle.harness_calls.proofs.extent_word.Statement.{statement}
+use Rattle.harness_calls.proofs.extent_word.Tie as tie
 
 enum-known-e : tie.Need-enum-known-e
 enum-known-e c = search needs
+
+end-of-requires : tie.Need-end-of-requires
+end-of-requires c κs = search needs
 
 to-bits-requires : tie.Need-to-bits-requires
 to-bits-requires c κs = search needs
@@ -23,18 +27,20 @@ refusal-word-requires c κs = search needs
 
 returns : tie.Need-returns
 returns c =
-    c .to-bits .ensures ∙ ap (wordOf leastBits) (ap extentOf (sym (c .before .before .e .given .1)))
+    c .to-bits .ensures ∙ ap (toBits binary32) (c .before .end-of .ensures)
+    ∙ ap (wordOf (endBits (c .before .before .before .before .before .args .greatest))) (ap extentOf (sym (c .before .before .before .e .given .1)))
 
 returns-2 : tie.Need-returns-2
 returns-2 c =
-    word-of-refusal leastBits (extentOf (c .before .before .before .before .args .e)) (c .before .before .e2 .given .0 .0)
+    word-of-refusal (endBits (c .before .before .before .before .args .greatest)) (extentOf (c .before .before .before .before .args .e)) (c .before .before .e2 .given .0 .0)
     (ap extentOf (sym (c .before .before .e2 .given .1))) (c .refusal-word .ensures)
 
-pub least-word-spec : {M : Type 1} → statement M
-least-word-spec =
+pub extent-word-spec : {M : Type 1} → statement M
+extent-word-spec =
     tie.close
     (tie.spec
     enum-known-e
+    end-of-requires
     to-bits-requires
     cast-result
     enum-known-e-2
