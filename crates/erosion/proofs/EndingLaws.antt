@@ -8,35 +8,29 @@ use lib.Ieee.{Float}
 use Rattle.answers.specs.Outcome.{Outcome, gives, refused, refusalOf, answerOf}
 use Rattle.answers.specs.declared.Answer.{Answer}
 use Rattle.answers.specs.declared.Refusal.{Refusal}
-use Rattle.answers.specs.declared.Refusal.the-variants.{Side, ReducedSide, Length, Setting, Height, Receiver, List as LentList, Stream, Cells, Stopped, RunOff}
+use Rattle.answers.proofs.OutcomeLaws.{refusal-by}
 use Rattle.grid.specs.Heights.{allFinite}
 use Rattle.runs.specs.Run.{Ran, differenceOf}
 use Rattle.upsample.specs.Samples.{asSource}
 use Rattle.upsample.specs.Samples.{addedOf}
 use Rattle.erosion.specs.Reached.{halted, ranBy, addedTo}
-use Rattle.erosion.specs.Ending.{accepted, outcomeOf, ranTo, endingOf, endedWith, refusedTo, Numbered, Answered}
+use Rattle.erosion.specs.Ending.{Ending, accepted, outcomeOf, ranTo, endingOf, endedWith, refusedTo, Numbered, Answered}
 use Rattle.erosion.specs.declared.RunAnswer.{RunAnswer}
 use Rattle.erosion.specs.declared.Reached.{Reached}
 
 -- an input that is refused
-refused-by : (why : Refusal) (map : List Float) (ran : Ran) → endedWith (refusedTo why) map ≡ endingOf (refusalOf why) map ran
-refused-by Side map ran = refl
-refused-by ReducedSide map ran = refl
-refused-by Length map ran = refl
-refused-by Setting map ran = refl
-refused-by (Height c) map ran = refl
-refused-by (Receiver c) map ran = refl
-refused-by (LentList p) map ran = refl
-refused-by Stream map ran = refl
-refused-by Cells map ran = refl
-refused-by Stopped map ran = refl
-refused-by RunOff map ran = refl
+abbrev refusedWith : Outcome (Unit {0}) → List Float → Ending
+refusedWith o map = record { outcome = o; incisions = 0; passes = 0; questions = 0; map = map }
 
-pub ending-refused : (why : Refusal) (early : Answer) (o : Outcome (Unit {0})) (map : List Float) (ran : Ran)
+refused-by : (why : Refusal) (map : List Float) (ran : Ran) → endedWith (refusedTo why) map ≡ endingOf (refusalOf why) map ran
+refused-by why map ran = refusal-by (λ o n p. refusedWith (o (Unit {0})) map ≡ endingOf (o (Unit {0})) map ran) (λ n l. refl) (λ n p l. refl) why
+
+pub ending-refused : (why : Refusal) (early : Answer) (o : Outcome (Unit {0})) (map : List Float) (ran : Ran) {r : RunAnswer}
     → early ≡ Answer.Refused why
     → answerOf early ≡ o
-    → endedWith (refusedTo why) map ≡ endingOf o map ran
-ending-refused why early o map ran e f = refused-by why map ran ∙ ap (λ (o : Outcome (Unit {0})). endingOf o map ran) (ap answerOf (sym e) ∙ f)
+    → r ≡ refusedTo why
+    → endedWith r map ≡ endingOf o map ran
+ending-refused why early o map ran e f g = ap (λ (r : RunAnswer). endedWith r map) g ∙ refused-by why map ran ∙ ap (λ (o : Outcome (Unit {0})). endingOf o map ran) (ap answerOf (sym e) ∙ f)
 
 -- an input that is accepted
 pub done-accepts : {early : Answer} {o : Outcome (Unit {0})} → answerOf early ≡ o → early ≡ Answer.Done → o ≡ gives tt

@@ -2,13 +2,14 @@
 -- and what the code has when it leaves them, after the last turn or by 21 or 22.
 use Prim.Native.Nat.{ℕ, _+_, _*_, _^_, _≤_, _<_}
 use mathlib.Core.Path.{_≡_, refl, sym, ap, _∙_}
-use mathlib.Core.Bool.{Bool, true, false, cond}
+use mathlib.Core.Bool.{true, false, cond}
 use mathlib.Core.List.{List}
 use native.Mathlib.Nat.{mul-le-mul-right}
 use native.Mathlib.Omega.{arith}
 use borrow.Author.Tests.{ne-eqb}
 use lib.Dec.{eqb}
 use lib.Ieee.{Float}
+use Rattle.lists.proofs.TestLaws.{either}
 use Rattle.lists.proofs.TurnLaws.{turns-none, turns-more}
 use Rattle.generators.specs.Marks.{reportOf}
 use Rattle.runs.specs.Machine.{Course, State, start}
@@ -111,11 +112,7 @@ module _ (c : Course) (hs : List Float) where
       pub going-incisions : r .incisions + 1 < 2 ^ 32
       going-incisions =
           let counted : r .incisions ≡ cond (c .cutting) it 0 = ap (λ (x : Worked). x .reached .incisions) (g .held) ∙ due .incisions in
-          omega (arith, counted, most (c .cutting), b .iterations)
-        where
-          most : (x : Bool) → cond x it 0 ≤ it
-          most true = omega arith
-          most false = omega arith
+          omega (arith, counted, either (λ (n : ℕ). n ≤ it) (c .cutting) it 0 (omega arith) (omega arith), b .iterations)
 
       -- as the code leaves it
       pub going-opening : {x : Worked} → c .cutting ≡ true → x ≡ openedBy c it map r (reportOf (r .marks) (c .opening it) (c .stop))

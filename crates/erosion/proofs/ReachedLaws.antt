@@ -8,7 +8,7 @@ use native.Mathlib.Numerals.{add-one}
 use lib.ListN.{length, getD, set}
 use lib.Dec.{eqb}
 use lib.Ieee.{Float, nan, binary32, sub}
-use Rattle.lists.proofs.TestLaws.{chosen, passed}
+use Rattle.lists.proofs.TestLaws.{chosen, passed, either, through}
 use Rattle.lists.proofs.TurnLaws.{turns-keep}
 use Rattle.lists.proofs.FillLaws.{Filling, filling-more, filling-next, filling-done}
 use Rattle.grid.specs.Heights.{allFinite}
@@ -32,17 +32,7 @@ abbrev pub worked : List Float → Reached → Worked
 worked map r = record { heights = map; reached = r }
 
 seen-done : (c : Course) (s : State) (p : Pass) → seen (passDone c s p) ≡ afterPass (s .heights) (reachedIn s) p
-seen-done c s p = rw add-one (go (p .marks .stopped) (allFinite (p .out)))
-  where
-    completed : Reached
-    completed = record { marks = p .marks; incisions = s .incisions; passes = suc (s .passes); number = 0 }
-
-    go : (a b : Bool) → seen (cond a (endedBy c 21 (p .marks) s) (cond b (closed c (p .out) (p .marks) s) (endedBy c 22 (p .marks) s)))
-        ≡ cond a (record { heights = s .heights; reached = halted 21 (p .marks) (reachedIn s) })
-        (cond b (record { heights = p .out; reached = completed }) (record { heights = s .heights; reached = halted 22 (p .marks) (reachedIn s) }))
-    go true b = refl
-    go false true = refl
-    go false false = refl
+seen-done c s p = rw add-one (simp (through seen))
 
 -- what the code leaves of a pass is the state after it
 pub pass-seen : (c : Course) (it q : ℕ) (s : State) (map : List Float) (r : Reached) (x : Worked)
@@ -61,22 +51,7 @@ openedBy c it map r m =
     afterMade map r m (c .incision it map) (record { marks = m; incisions = r .incisions + 1; passes = r .passes; number = 0 })
 
 seen-opened : (c : Course) (s : State) → seen (openStep c s) ≡ openedBy c (s .iteration) (s .heights) (reachedIn s) (reportOf (s .marks) (c .opening (s .iteration)) (c .stop))
-seen-opened c s =
-    rw add-one (go (reportOf (s .marks) (c .opening (s .iteration)) (c .stop)) (c .incision (s .iteration) (s .heights)))
-  where
-    completed : Progress → Reached
-    completed m = record { marks = m; incisions = suc (s .incisions); passes = s .passes; number = 0 }
-
-    both : (m : Progress) (new : List Float) (a b : Bool) → seen (cond a (endedBy c 21 m s) (cond b (cut c new m s) (endedBy c 22 m s)))
-        ≡ cond a (record { heights = s .heights; reached = halted 21 m (reachedIn s) })
-        (cond b (record { heights = new; reached = completed m }) (record { heights = s .heights; reached = halted 22 m (reachedIn s) }))
-    both m new true b = refl
-    both m new false true = refl
-    both m new false false = refl
-
-    go : (m : Progress) (new : List Float) → seen (cond (m .stopped) (endedBy c 21 m s) (cond (allFinite new) (cut c new m s) (endedBy c 22 m s)))
-        ≡ afterMade (s .heights) (reachedIn s) m new (completed m)
-    go m new = both m new (m .stopped) (allFinite new)
+seen-opened c s = rw add-one (simp (through seen))
 
 -- what the code leaves of an opening is the state after it
 pub opening-seen : (c : Course) (it : ℕ) (s : State) (map : List Float) (r : Reached) (x : Worked)
@@ -89,6 +64,11 @@ opening-seen c it s map r x t d e f =
     f ∙ ap (λ (x : Worked). openedBy c it (x .heights) (x .reached) (reportOf (x .reached .marks) (c .opening it) (c .stop))) e
     ∙ ap (λ (it : ℕ). openedBy c it (s .heights) (reachedIn s) (reportOf (s .marks) (c .opening it) (c .stop))) (sym (d .iteration))
     ∙ sym (ap seen (opening-is c s t (d .number)) ∙ seen-opened c s)
+
+-- what holds of the three ends of an incision or a pass holds after it
+pub made-cases : (P : Worked → Type 0) (hs : List Float) (r : Reached) (m : Progress) (new : List Float) (completed : Reached)
+    → P (worked hs (halted 21 m r)) → P (worked new completed) → P (worked hs (halted 22 m r)) → P (afterMade hs r m new completed)
+made-cases P hs r m new completed p q u = either P (m .stopped) _ _ p (either P (allFinite new) _ _ q u)
 
 -- the three ends of an incision or a pass, with what the code has reached after it
 module _ (hs : List Float) (r : Reached) (m : Progress) (new : List Float) (completed x : Reached) where
@@ -132,33 +112,23 @@ module _ (old small : List Float) {new : List Float} {i : ℕ} (s : Filling (sub
 
 -- every state of a run has one of the three numbers
 module _ (c : Course) where
-  each-numbered : (a b : Bool) (x y z : State) → Numbered (x .number) → Numbered (y .number) → Numbered (z .number) → Numbered (cond a x (cond b y z) .number)
-  each-numbered true b x y z p q r = p
-  each-numbered false true x y z p q r = q
-  each-numbered false false x y z p q r = r
+  -- a choice between states that have one has one
+  each-numbered : (b : Bool) (x y : State) → Numbered (x .number) → Numbered (y .number) → Numbered (cond b x y .number)
+  each-numbered = either (λ (x : State). Numbered (x .number))
+
+  made-numbered : (m : Progress) (new : List Float) (s t : State) → t .number ≡ 0 → Numbered (cond (m .stopped) (endedBy c 21 m s) (cond (allFinite new) t (endedBy c 22 m s)) .number)
+  made-numbered m new s t z = each-numbered (m .stopped) _ _ (inr (inl refl)) (each-numbered (allFinite new) _ _ (inl z) (inr (inr refl)))
 
   pass-numbered : (s : State) → Numbered (s .number) → Numbered (onePass c s .number)
   unfolding onePass
-  pass-numbered s n = go (eqb (s .number) 0)
-    where
-      p : Pass
-      p = rowsFrom c (c .h) s
-
-      go : (b : Bool) → Numbered (cond b (passDone c s (rowsFrom c (c .h) s)) s .number)
-      go true =
-          each-numbered (rowsFrom c (c .h) s .marks .stopped) (allFinite (rowsFrom c (c .h) s .out)) (endedBy c 21 _ s) (closed c _ _ s) (endedBy c 22 _ s) (inr (inl refl)) (inl refl)
-          (inr (inr refl))
-      go false = n
+  pass-numbered s n = let p : Pass = rowsFrom c (c .h) s in each-numbered (eqb (s .number) 0) _ s (made-numbered (p .marks) (p .out) s (closed c (p .out) (p .marks) s) refl) n
 
   opening-numbered : (s : State) → Numbered (s .number) → Numbered (oneOpening c s .number)
   unfolding oneOpening
-  opening-numbered s n = go (c .cutting && eqb (s .number) 0)
-    where
-      go : (b : Bool) → Numbered (cond b (openStep c s) s .number)
-      go true =
-          each-numbered (reportOf (s .marks) (c .opening (s .iteration)) (c .stop) .stopped) (allFinite (c .incision (s .iteration) (s .heights))) (endedBy c 21 _ s) (cut c _ _ s)
-          (endedBy c 22 _ s) (inr (inl refl)) (inl refl) (inr (inr refl))
-      go false = n
+  opening-numbered s n =
+      let m : Progress = reportOf (s .marks) (c .opening (s .iteration)) (c .stop) in
+      let new : List Float = c .incision (s .iteration) (s .heights) in
+      each-numbered (c .cutting && eqb (s .number) 0) _ s (made-numbered m new s (cut c new m s) refl) n
 
   pub iterated-numbered : (n : ℕ) (hs : List Float) → Numbered (iterated c n hs .number)
   unfolding oneIteration

@@ -7,11 +7,12 @@ use mathlib.Core.List.{List}
 use borrow.Author.Tests.{eq-eqb, ne-eqb}
 use lib.Dec.{eqb}
 use lib.Ieee.{Float}
+use Rattle.lists.proofs.TestLaws.{either}
 use Rattle.grid.specs.Heights.{allFinite}
 use Rattle.resample.specs.Blocks.{downsampled}
 use Rattle.upsample.specs.Samples.{asSource, addedOf}
 use Rattle.runs.specs.Machine.{Course}
-use Rattle.runs.specs.Run.{Ran, ranAs, differenceOf, runFrom, runOn}
+use Rattle.runs.specs.Run.{Ran, differenceOf, runFrom, runOn}
 use Rattle.runs.specs.Nested.{nested}
 use Rattle.runs.proofs.CourseLaws.{run-nested}
 use Rattle.erosion.specs.Reached.{Worked, seen, begun, halted, ranBy, addedTo, Reduced}
@@ -33,23 +34,16 @@ module _ (w h : ℕ) (c : Course) (map : List Float) where
   -- it ends with one of the three numbers
   pub whole-numbered : Numbered (wholeRun .number)
   whole-numbered =
-      go onMap (allFinite reducedMap) (eqb (nested c reducedMap .number) 0)
-      (allFinite (differenceOf (nested c reducedMap .heights) reducedMap)
-      && allFinite (addedOf asSource map w h (differenceOf (nested c reducedMap .heights) reducedMap) (c .w) (c .h)))
+      one onMap _ _ (iterated-numbered c (c .iterations) map)
+      (one (allFinite reducedMap) _ _
+      (one (eqb (nested c reducedMap .number) 0) _ _ (one (allFinite difference && allFinite (addedOf asSource map w h difference (c .w) (c .h))) _ _ (inl refl) (inr (inr refl)))
+      (iterated-numbered c (c .iterations) reducedMap)) (inr (inr refl)))
     where
-      back : (e : Bool) (sum : List Float) → Numbered (cond e (ranAs 0 (nested c reducedMap) sum) (ranAs 22 (nested c reducedMap) map) .number)
-      back true sum = inl refl
-      back false sum = inr (inr refl)
+      difference : List Float
+      difference = differenceOf (nested c reducedMap .heights) reducedMap
 
-      go : (a b d e : Bool)
-          → Numbered (cond a (ranAs (nested c map .number) (nested c map) (nested c map .heights))
-          (cond b (cond d (cond e (ranAs 0 (nested c reducedMap) (addedOf asSource map w h (differenceOf (nested c reducedMap .heights) reducedMap) (c .w) (c .h)))
-          (ranAs 22 (nested c reducedMap) map)) (ranAs (nested c reducedMap .number) (nested c reducedMap) map))
-          (record { number = 22; incisions = 0; passes = 0; questions = 0; map = map })) .number)
-      go true b d e = iterated-numbered c (c .iterations) map
-      go false true true e = back e _
-      go false true false e = iterated-numbered c (c .iterations) reducedMap
-      go false false d e = inr (inr refl)
+      one : (b : Bool) (x y : Ran) → Numbered (x .number) → Numbered (y .number) → Numbered (cond b x y .number)
+      one = either (λ (x : Ran). Numbered (x .number))
 
   -- it is the run
   module _ (high : 0 < c .h) (some : 0 < c .passes) where

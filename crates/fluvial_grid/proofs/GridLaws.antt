@@ -1,19 +1,17 @@
 -- What the parts of a run on its working grid ask follows from what it is given, and the run by its loops is the run.
 use Prim.Native.Nat.{ℕ, _*_}
-use mathlib.Core.Path.{_≡_, sym, ap, ap₂, _∙_}
+use mathlib.Core.Path.{_≡_, sym, ap, _∙_}
 use mathlib.Core.Bool.{Bool, true, _&&_}
 use mathlib.Core.List.{List}
-use borrow.Author.Tests.{eqb-true}
 use lib.ListN.{length}
 use lib.Dec.{eqb}
 use lib.Ieee.{Float}
-use Rattle.lists.proofs.TestLaws.{both}
 use Rattle.grid.specs.Heights.{allFinite}
 use Rattle.flood.specs.Slices.{Accepted}
 use Rattle.flow.specs.Route.{Enough}
 use Rattle.upsample.specs.Samples.{asSource}
 use Rattle.runs.specs.Run.{Ran, runOn}
-use Rattle.plans.proofs.InputLaws.{within-range}
+use Rattle.plans.proofs.InputLaws.{within-range, own-cells}
 use Rattle.erosion.specs.Reached.{Reduced}
 use Rattle.erosion.specs.Ending.{Numbered}
 use Rattle.erosion.proofs.WholeLaws.{wholeRun, whole-run, run-numbered}
@@ -38,13 +36,7 @@ module _ {w h dw dh : ℕ} {plan : FluvialPlan} {stop : ℕ} {map : List Float} 
 
   -- the map may be routed where the working sides are its own
   pub erodes-map : {t : Bool} → t ≡ (eqb dw w && eqb dh h) → t ≡ true → Accepted dw dh map
-  erodes-map f t =
-      let same = both (eqb dw w) (eqb dh h) (sym f ∙ t) in
-      record {
-        sides = within-range (e .sides);
-        cells = e .heights ∙ ap₂ (λ (a b : ℕ). a * b) (sym (eqb-true dw w (same .0))) (sym (eqb-true dh h (same .1)));
-        finites = e .finites;
-      }
+  erodes-map f t = record { sides = within-range (e .sides); cells = own-cells (e .sides) f t (e .heights); finites = e .finites }
 
   -- and so may its averages, if they are finite
   pub erodes-averages : {small : List Float} (eroded : List Float) {finite : Bool} → Reduced w h dw dh map finite small eroded → finite ≡ true → length eroded ≡ s .eroded

@@ -1,7 +1,6 @@
 -- The loop over the iterations of a fluvial run: what holds at its test, what its parts ask, and what it leaves.
 use Prim.Native.Nat.{ℕ, suc, _+_, _*_, _≤_, _<_}
 use mathlib.Core.Path.{_≡_, refl, sym, ap, _∙_, subst}
-use mathlib.Core.Bool.{Bool, true, false, cond}
 use mathlib.Core.List.{List}
 use native.Mathlib.Nat.{mul-le-mul-right}
 use native.Mathlib.Omega.{arith}
@@ -24,9 +23,9 @@ use Rattle.runs.proofs.KeptLaws.{iterated-sound}
 use Rattle.runs.proofs.CutLaws.{incision-sized}
 use Rattle.runs.proofs.AskedLaws.{opening-asked, iterated-asked}
 use Rattle.runs.proofs.IterationLaws.{due-iterated}
-use Rattle.erosion.specs.Reached.{Worked, seen, begun, halted, afterMade}
+use Rattle.erosion.specs.Reached.{Worked, seen, begun, afterMade}
 use Rattle.erosion.specs.declared.Reached.{Reached}
-use Rattle.erosion.proofs.ReachedLaws.{worked, openedBy}
+use Rattle.erosion.proofs.ReachedLaws.{worked, openedBy, made-cases}
 use Rattle.erosion.proofs.LoopLaws.{Going, going-none, going-ended, going-asked, going-incisions, going-opening}
 use Rattle.incision_step.specs.Opening.{cutOf, afterOpening, Counts}
 use Rattle.incision_step.proofs.OpeningLaws.{cut-any}
@@ -97,19 +96,9 @@ module _ (w h : ℕ) (plan : FluvialPlan) (stop : ℕ) (hs : List Float) (then :
                 (cut-any w h (plan .cuts) it map)
 
         opened-passes : o .passes ≡ r .passes
-        opened-passes = ap (λ (x : Worked). x .reached .passes) made ∙ go (reportOf (r .marks) (course .opening it) stop) (cutOf w h (plan .cuts) 0 map)
-          where
-            go : (m : Progress) (new : List Float)
-                → afterMade map r m new (record { marks = m; incisions = r .incisions + 1; passes = r .passes; number = 0 }) .reached .passes ≡ r .passes
-            go m new = both (m .stopped) (allFinite new)
-              where
-                both : (a b : Bool)
-                    → cond a (worked map (halted 21 m r))
-                    (cond b (worked new (record { marks = m; incisions = r .incisions + 1; passes = r .passes; number = 0 })) (worked map (halted 22 m r))) .reached .passes
-                    ≡ r .passes
-                both true b = refl
-                both false true = refl
-                both false false = refl
+        opened-passes =
+            ap (λ (x : Worked). x .reached .passes) made
+            ∙ made-cases (λ (x : Worked). x .reached .passes ≡ r .passes) map r (reportOf (r .marks) (course .opening it) stop) (cutOf w h (plan .cuts) 0 map) _ refl refl refl
 
         -- what the passes ask
         pub iterating-slides : {n k : ℕ} → n ≡ w * h → k ≡ n → Slides course it n k o

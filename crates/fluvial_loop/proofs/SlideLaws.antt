@@ -1,7 +1,7 @@
 -- The passes of an iteration: the loop over them, and that what it leaves is the state after them.
 use Prim.Native.Nat.{ℕ, suc, _+_, _-_, _*_, _^_, _≤_, _<_}
 use mathlib.Core.Path.{_≡_, refl, sym, ap, _∙_}
-use mathlib.Core.Bool.{Bool, true, false, cond}
+use mathlib.Core.Bool.{Bool, true, false}
 use mathlib.Core.List.{List}
 use native.Mathlib.Nat.{mul-le-mul-right}
 use native.Mathlib.Numerals.{add-one}
@@ -12,17 +12,17 @@ use lib.Dec.{T, eqb, le→leb}
 use lib.IntN.{pos}
 use lib.Ieee.{Float, binary32, inFloat}
 use Rattle.lists.specs.Loops.{turns}
+use Rattle.lists.proofs.TestLaws.{either}
 use Rattle.lists.proofs.TurnLaws.{turns-none, turns-more, turns-hold, turns-stay, turns-through}
-use Rattle.grid.specs.Heights.{allFinite}
 use Rattle.thermal_erosion.specs.SlidePass.{Pass, rowsOf}
 use Rattle.thermal_erosion.proofs.PassLaws as Rows
 use Rattle.runs.specs.Machine.{Course, State}
 use Rattle.runs.specs.Nested.{onePass, oneOpening, oneIteration, Due, Underway, Bounded}
 use Rattle.runs.proofs.PassLaws.{pass-ended}
 use Rattle.runs.proofs.IterationLaws.{Place, underway-opening, underway-pass, due-pass, pass-before, opening-before}
-use Rattle.erosion.specs.Reached.{Worked, seen, afterPass, PassReady}
+use Rattle.erosion.specs.Reached.{Worked, seen, halted, afterPass, PassReady}
 use Rattle.erosion.specs.declared.Reached.{Reached}
-use Rattle.erosion.proofs.ReachedLaws.{worked, rowsBy, pass-seen}
+use Rattle.erosion.proofs.ReachedLaws.{worked, rowsBy, pass-seen, made-cases}
 use Rattle.fluvial_loop.specs.Loops.{passedBy, slidBy, Slides}
 
 -- a count is exact in binary32
@@ -43,33 +43,17 @@ module _ (c : Course) (it q : ℕ) (x : Worked) where
   rows-asked =
       Rows.rows-asked (c .w) (c .h) (c .thresholds) (c .strength) (c .water) (x .heights) (c .begins it q) (c .begins it (suc q)) (c .stop) (x .reached .marks) (c .h)
 
+  -- what holds of the run as it was, and of the ends of a pass, holds after pass q
+  passed-cases : (P : Worked → Type 0) → P x → P (worked (x .heights) (halted 21 (rows .marks) (x .reached)))
+      → P (worked (rows .out) (record { marks = rows .marks; incisions = x .reached .incisions; passes = x .reached .passes + 1; number = 0 }))
+      → P (worked (x .heights) (halted 22 (rows .marks) (x .reached))) → P (passedBy c it q x)
+  passed-cases P ended stopped done off = either P (eqb (x .reached .number) 0) _ x (made-cases P (x .heights) (x .reached) (rows .marks) (rows .out) _ stopped done off) ended
+
   passed-asked : passedBy c it q x .reached .marks .asked ≤ x .reached .marks .asked + c .h
-  passed-asked = go (eqb (x .reached .number) 0) (rows .marks .stopped) (allFinite (rows .out)) rows-asked
-    where
-      go : (b s f : Bool) → rows .marks .asked ≤ x .reached .marks .asked + c .h
-          → cond b
-          (cond s (worked (x .heights) (record { marks = rows .marks; incisions = x .reached .incisions; passes = x .reached .passes; number = 21 }))
-          (cond f (worked (rows .out) (record { marks = rows .marks; incisions = x .reached .incisions; passes = x .reached .passes + 1; number = 0 }))
-          (worked (x .heights) (record { marks = rows .marks; incisions = x .reached .incisions; passes = x .reached .passes; number = 22 }))))
-          x .reached .marks .asked ≤ x .reached .marks .asked + c .h
-      go true true f l = l
-      go true false true l = l
-      go true false false l = l
-      go false s f l = omega arith
+  passed-asked = passed-cases (λ (y : Worked). y .reached .marks .asked ≤ x .reached .marks .asked + c .h) (omega arith) rows-asked rows-asked rows-asked
 
   passed-count : passedBy c it q x .reached .passes ≤ x .reached .passes + 1
-  passed-count = go (eqb (x .reached .number) 0) (rows .marks .stopped) (allFinite (rows .out))
-    where
-      go : (b s f : Bool)
-          → cond b
-          (cond s (worked (x .heights) (record { marks = rows .marks; incisions = x .reached .incisions; passes = x .reached .passes; number = 21 }))
-          (cond f (worked (rows .out) (record { marks = rows .marks; incisions = x .reached .incisions; passes = x .reached .passes + 1; number = 0 }))
-          (worked (x .heights) (record { marks = rows .marks; incisions = x .reached .incisions; passes = x .reached .passes; number = 22 }))))
-          x .reached .passes ≤ x .reached .passes + 1
-      go true true f = omega arith
-      go true false true = omega arith
-      go true false false = omega arith
-      go false s f = omega arith
+  passed-count = passed-cases (λ (y : Worked). y .reached .passes ≤ x .reached .passes + 1) (omega arith) (omega arith) (omega arith) (omega arith)
 
   passed-ended : (x .reached .number ≡ 0 → ⊥) → passedBy c it q x ≡ x
   passed-ended z = rw (ne-eqb (x .reached .number) 0 z)

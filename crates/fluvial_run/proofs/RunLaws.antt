@@ -1,6 +1,6 @@
 -- The run on its working grid, and the whole call: what its parts ask follows from what they are given, and its ends are the run's.
 use Prim.Native.Nat.{ℕ, _*_, _≤_, min}
-use mathlib.Core.Path.{_≡_, refl, sym, ap, ap₂, _∙_, subst}
+use mathlib.Core.Path.{_≡_, refl, sym, ap, _∙_, subst}
 use mathlib.Core.Bool.{Bool, false}
 use mathlib.Core.List.{List}
 use native.Mathlib.Nat.{le-trans}
@@ -26,9 +26,9 @@ use Rattle.runs.proofs.BoundLaws.{fluvial-bounded}
 use Rattle.plans.specs.Accepted as Input
 use Rattle.plans.specs.Accepted.{refusalOn}
 use Rattle.plans.proofs.RefusalLaws.{accepted-by}
-use Rattle.plans.proofs.InputLaws.{within-range, within-cells, accepted-within, fluvial-iterations}
+use Rattle.plans.proofs.InputLaws.{within-range, within-cells, decided-by, accepted-within, fluvial-iterations}
 use Rattle.erosion.specs.Reached.{ranBy}
-use Rattle.erosion.specs.Ending.{endedWith, accepted, refusedTo, Answered}
+use Rattle.erosion.specs.Ending.{accepted, refusedTo, Answered}
 use Rattle.erosion.specs.declared.Reached.{Reached}
 use Rattle.erosion.specs.declared.RunAnswer.{RunAnswer}
 use Rattle.erosion.proofs.EndingLaws.{ending-refused, ending-ran, done-accepts, accepts-all}
@@ -75,12 +75,12 @@ module _ (w h : ℕ) (conf : FluvialSettings) (stop : ℕ) (map small eroded cop
 
   -- by the test of the settings and the length of the shortest scratch slice
   pub decided : {o : Outcome (Unit {0})} {bad : Bool} {scratch : ℕ} → o ≡ refusalOn w h bad map scratch → bad ≡ badFluvial conf → scratch ≡ shortestOf lengths → o ≡ outcome
-  decided e b s = e ∙ ap₂ (λ (bad : Bool) (scratch : ℕ). refusalOn w h bad map scratch) b s
+  decided = decided-by w h map
 
   pub run-refused : {r : RunAnswer} {early : Answer} (why : Refusal) → answerOf early ≡ outcome → early ≡ Answer.Refused why → r ≡ refusedTo why
       → FluvialRun w h conf stop map small eroded copy area order recv queue status r map small eroded copy area order recv queue status
   run-refused {r} {early} why f e g = record {
-    ended = ap (λ (r : RunAnswer). endedWith r map) g ∙ ending-refused why early outcome map (runBy w h conf stop ours map) e f;
+    ended = ending-refused why early outcome map (runBy w h conf stop ours map) e f g;
     small-kept = λ _. refl;
     eroded-kept = λ _. refl;
     copy-kept = λ _. refl;

@@ -4,11 +4,9 @@ use mathlib.Core.Path.{_≡_, refl, sym, ap, ap₂, _∙_, subst}
 use mathlib.Core.Bool.{Bool, true, false, _&&_}
 use mathlib.Core.List.{List}
 use native.Mathlib.Omega.{arith}
-use borrow.Author.Tests.{eqb-true}
 use lib.ListN.{length}
 use lib.Dec.{eqb}
 use lib.Ieee.{Float}
-use Rattle.lists.proofs.TestLaws.{both}
 use Rattle.answers.specs.Outcome.{Outcome, gives, answerOf}
 use Rattle.answers.specs.declared.Answer.{Answer}
 use Rattle.answers.specs.declared.Refusal.{Refusal}
@@ -23,9 +21,9 @@ use Rattle.runs.specs.declared.ThermalSettings.{ThermalSettings}
 use Rattle.runs.proofs.PlanLaws.{Counted, thermal-passes}
 use Rattle.plans.specs.Accepted.{refusalOn, Accepted}
 use Rattle.plans.proofs.RefusalLaws.{accepted-by}
-use Rattle.plans.proofs.InputLaws.{within-range, within-cells, accepted-within, thermal-iterations}
+use Rattle.plans.proofs.InputLaws.{within-range, within-cells, own-cells, decided-by, accepted-within, thermal-iterations}
 use Rattle.erosion.specs.Reached.{ranBy}
-use Rattle.erosion.specs.Ending.{endedWith, accepted, refusedTo, Numbered, Answered}
+use Rattle.erosion.specs.Ending.{accepted, refusedTo, Numbered, Answered}
 use Rattle.erosion.specs.declared.Reached.{Reached}
 use Rattle.erosion.specs.declared.RunAnswer.{RunAnswer}
 use Rattle.erosion.proofs.EndingLaws.{done-accepts, accepts-all, ending-refused, ending-ran}
@@ -55,15 +53,7 @@ module _ {w h dw dh : ℕ} {passes map small eroded copy : ℕ} where
 
     -- on the map
     pub erodes-slides : {t : Bool} {k : ℕ} → t ≡ (eqb dw w && eqb dh h) → t ≡ true → k ≡ dw * dh → Slides dw dh passes map k
-    erodes-slides f t k =
-        let s = both (eqb dw w) (eqb dh h) (sym f ∙ t) in
-        record {
-          sides = within-range (e .sides);
-          some = e .some;
-          few = e .few;
-          heights = e .heights ∙ ap₂ (λ (a b : ℕ). a * b) (sym (eqb-true dw w (s .0))) (sym (eqb-true dh h (s .1)));
-          copied = k;
-        }
+    erodes-slides f t k = record { sides = within-range (e .sides); some = e .some; few = e .few; heights = own-cells (e .sides) f t (e .heights); copied = k }
 
     -- on the averages
     pub erodes-reduces : {a b d : ℕ} → a ≡ dw * dh → b ≡ dw * dh → d ≡ dw * dh → Reduces w h dw dh passes map a b d
@@ -78,12 +68,12 @@ module _ (w h : ℕ) (conf : ThermalSettings) (stop : ℕ) (map small eroded cop
   -- by the test of the settings and the length of the shortest scratch slice
   pub decided : {o : Outcome (Unit {0})} {bad : Bool} {scratch k : ℕ} → o ≡ refusalOn w h bad map scratch → bad ≡ badThermal conf
       → scratch ≡ min (length small) k → k ≡ min (length eroded) (length copy) → o ≡ outcome
-  decided e b s k = e ∙ ap₂ (λ (bad : Bool) (scratch : ℕ). refusalOn w h bad map scratch) b (s ∙ ap (min (length small)) k)
+  decided e b s k = decided-by w h map e b (s ∙ ap (min (length small)) k)
 
   pub run-refused : {r : RunAnswer} {early : Answer} (why : Refusal) → answerOf early ≡ outcome → early ≡ Answer.Refused why → r ≡ refusedTo why
       → ThermalRun w h conf stop map small eroded copy r map small eroded copy
   run-refused {r} {early} why f e g = record {
-    ended = ap (λ (r : RunAnswer). endedWith r map) g ∙ ending-refused why early outcome map (thermalRun w h conf stop map) e f;
+    ended = ending-refused why early outcome map (thermalRun w h conf stop map) e f g;
     small-kept = λ _. refl;
     eroded-kept = λ _. refl;
     copy-kept = λ _. refl;

@@ -1,9 +1,21 @@
-use native.Mathlib.Omega.{arith}
+use mathlib.Core.Path.{_≡_}
+use lib.ListN.{length}
 use borrow.Author.Needs.{needs}
-use Rattle.plans.proofs.InputLaws.{thermal-iterations}
+use Rattle.answers.specs.Outcome.{answerOf}
+use Rattle.resample.specs.WorkSize.{Within}
+use Rattle.plans.proofs.InputLaws.{within-range, thermal-iterations}
+use Rattle.thermal_run.specs.ThermalRun.{inputRefusal}
 use Rattle.thermal_run.proofs.RunLaws.{decided, run-refused, run-accepted, run-within, run-erodes, run-done, ran-numbered}
 use Rattle.thermal_run.proofs.gen_thermal_erosion.Statement.{statement}
 use Rattle.thermal_run.proofs.gen_thermal_erosion.Tie as tie
+
+-- what was decided of an input that is accepted
+told : (c : tie.After-enum-told) → let a = c .before .before .before .before .before .before .before .before .before .before .before .args in answerOf (c .before .before .refusal .result) ≡ inputRefusal (a .size .w) (a .size .h) (a .conf) (a .hmap .now) (length (a .small .now)) (length (a .eroded .now)) (length (a .copy .now))
+told c = let a = c .before .before .before .before .before .before .before .before .before .before .before .args in decided (a .size .w) (a .size .h) (a .conf) (a .stop) (a .hmap .now) (a .small .now) (a .eroded .now) (a .copy .now) (c .before .before .refusal .ensures) (c .before .before .before .bad-thermal .ensures) (c .before .before .before .before .before .least2 .ensures) (c .before .before .before .before .before .before .least .ensures)
+
+-- the working sides
+within : (c : tie.After-work-sides) → let a = c .before .before .before .before .before .before .before .before .before .before .before .before .args in Within (a .size .w) (a .size .h) (c .work-sides .result .w) (c .work-sides .result .h)
+within c = let a = c .before .before .before .before .before .before .before .before .before .before .before .before .args in run-within (a .size .w) (a .size .h) (a .conf) (a .stop) (a .hmap .now) (a .small .now) (a .eroded .now) (a .copy .now) (told (c .before)) (c .before .enum-told .given .1) (c .work-sides .ensures)
 
 least-requires : tie.Need-least-requires
 least-requires c κs = search needs
@@ -33,19 +45,19 @@ enum-told : tie.Need-enum-told
 enum-told c = search needs
 
 work-sides-requires : tie.Need-work-sides-requires
-work-sides-requires c κs = let a = c .before .before .before .before .before .before .before .before .before .before .before .args in let s = run-accepted (a .size .w) (a .size .h) (a .conf) (a .stop) (a .hmap .now) (a .small .now) (a .eroded .now) (a .copy .now) (decided (a .size .w) (a .size .h) (a .conf) (a .stop) (a .hmap .now) (a .small .now) (a .eroded .now) (a .copy .now) (c .before .before .refusal .ensures) (c .before .before .before .bad-thermal .ensures) (c .before .before .before .before .before .least2 .ensures) (c .before .before .before .before .before .before .least .ensures)) (c .enum-told .given .1) .sides in (s .wide, s .high)
+work-sides-requires c κs = let a = c .before .before .before .before .before .before .before .before .before .before .before .args in let s = run-accepted (a .size .w) (a .size .h) (a .conf) (a .stop) (a .hmap .now) (a .small .now) (a .eroded .now) (a .copy .now) (told c) (c .enum-told .given .1) .sides in (s .wide, s .high)
 
 thermal-plan-requires : tie.Need-thermal-plan-requires
-thermal-plan-requires c κs = let a = c .before .before .before .before .before .before .before .before .before .before .before .before .args in let n = run-within (a .size .w) (a .size .h) (a .conf) (a .stop) (a .hmap .now) (a .small .now) (a .eroded .now) (a .copy .now) (decided (a .size .w) (a .size .h) (a .conf) (a .stop) (a .hmap .now) (a .small .now) (a .eroded .now) (a .copy .now) (c .before .before .before .refusal .ensures) (c .before .before .before .before .bad-thermal .ensures) (c .before .before .before .before .before .before .least2 .ensures) (c .before .before .before .before .before .before .before .least .ensures)) (c .before .enum-told .given .1) (c .work-sides .ensures) in (omega (arith, n .dw-high, n .wide), omega (arith, n .dh-high, n .high))
+thermal-plan-requires c κs = let a = c .before .before .before .before .before .before .before .before .before .before .before .before .args in let r = within-range (within c) in (r .wide, r .high)
 
 thermal-passes-requires : tie.Need-thermal-passes-requires
-thermal-passes-requires c κs = let a = c .before .before .before .before .before .before .before .before .before .before .before .before .before .args in let n = run-within (a .size .w) (a .size .h) (a .conf) (a .stop) (a .hmap .now) (a .small .now) (a .eroded .now) (a .copy .now) (decided (a .size .w) (a .size .h) (a .conf) (a .stop) (a .hmap .now) (a .small .now) (a .eroded .now) (a .copy .now) (c .before .before .before .before .refusal .ensures) (c .before .before .before .before .before .bad-thermal .ensures) (c .before .before .before .before .before .before .before .least2 .ensures) (c .before .before .before .before .before .before .before .before .least .ensures)) (c .before .before .enum-told .given .1) (c .before .work-sides .ensures) in (omega (arith, n .dw-high, n .wide), (omega (arith, n .dh-high, n .high), thermal-iterations (a .conf) (run-accepted (a .size .w) (a .size .h) (a .conf) (a .stop) (a .hmap .now) (a .small .now) (a .eroded .now) (a .copy .now) (decided (a .size .w) (a .size .h) (a .conf) (a .stop) (a .hmap .now) (a .small .now) (a .eroded .now) (a .copy .now) (c .before .before .before .before .refusal .ensures) (c .before .before .before .before .before .bad-thermal .ensures) (c .before .before .before .before .before .before .before .least2 .ensures) (c .before .before .before .before .before .before .before .before .least .ensures)) (c .before .before .enum-told .given .1) .settings)))
+thermal-passes-requires c κs = let a = c .before .before .before .before .before .before .before .before .before .before .before .before .before .args in let r = within-range (within (c .before)) in (r .wide, (r .high, thermal-iterations (a .conf) (run-accepted (a .size .w) (a .size .h) (a .conf) (a .stop) (a .hmap .now) (a .small .now) (a .eroded .now) (a .copy .now) (told (c .before .before)) (c .before .before .enum-told .given .1) .settings)))
 
 erode-requires : tie.Need-erode-requires
-erode-requires c κs = let a = c .before .before .before .before .before .before .before .before .before .before .before .before .before .before .before .before .before .before .args in run-erodes (a .size .w) (a .size .h) (a .conf) (a .stop) (a .hmap .now) (a .small .now) (a .eroded .now) (a .copy .now) (decided (a .size .w) (a .size .h) (a .conf) (a .stop) (a .hmap .now) (a .small .now) (a .eroded .now) (a .copy .now) (c .before .before .before .before .before .before .before .before .before .refusal .ensures) (c .before .before .before .before .before .before .before .before .before .before .bad-thermal .ensures) (c .before .before .before .before .before .before .before .before .before .before .before .before .least2 .ensures) (c .before .before .before .before .before .before .before .before .before .before .before .before .before .least .ensures)) (c .before .before .before .before .before .before .before .enum-told .given .1) (c .before .before .before .before .before .before .work-sides .ensures) (c .before .before .before .before .thermal-passes .ensures)
+erode-requires c κs = let a = c .before .before .before .before .before .before .before .before .before .before .before .before .before .before .before .before .before .before .args in run-erodes (a .size .w) (a .size .h) (a .conf) (a .stop) (a .hmap .now) (a .small .now) (a .eroded .now) (a .copy .now) (told (c .before .before .before .before .before .before .before)) (c .before .before .before .before .before .before .before .enum-told .given .1) (c .before .before .before .before .before .before .work-sides .ensures) (c .before .before .before .before .thermal-passes .ensures)
 
 answered-requires : tie.Need-answered-requires
-answered-requires c κs = let a = c .before .before .before .before .before .before .before .before .before .before .before .before .before .before .before .before .before .before .before .before .before .before .before .before .before .before .before .args in ran-numbered (run-within (a .size .w) (a .size .h) (a .conf) (a .stop) (a .hmap .now) (a .small .now) (a .eroded .now) (a .copy .now) (decided (a .size .w) (a .size .h) (a .conf) (a .stop) (a .hmap .now) (a .small .now) (a .eroded .now) (a .copy .now) (c .before .before .before .before .before .before .before .before .before .before .before .before .before .before .before .before .before .before .refusal .ensures) (c .before .before .before .before .before .before .before .before .before .before .before .before .before .before .before .before .before .before .before .bad-thermal .ensures) (c .before .before .before .before .before .before .before .before .before .before .before .before .before .before .before .before .before .before .before .before .before .least2 .ensures) (c .before .before .before .before .before .before .before .before .before .before .before .before .before .before .before .before .before .before .before .before .before .before .least .ensures)) (c .before .before .before .before .before .before .before .before .before .before .before .before .before .before .before .before .enum-told .given .1) (c .before .before .before .before .before .before .before .before .before .before .before .before .before .before .before .work-sides .ensures)) (c .before .before .before .before .before .before .before .before .before .before .before .before .before .before .thermal-plan .result) (c .before .before .before .before .before .before .before .before .before .before .before .before .before .thermal-passes .result) (a .stop) (a .hmap .now) (c .before .before .before .before .before .before .before .before .erode .ensures)
+answered-requires c κs = let a = c .before .before .before .before .before .before .before .before .before .before .before .before .before .before .before .before .before .before .before .before .before .before .before .before .before .before .before .args in ran-numbered (within (c .before .before .before .before .before .before .before .before .before .before .before .before .before .before .before)) (c .before .before .before .before .before .before .before .before .before .before .before .before .before .before .thermal-plan .result) (c .before .before .before .before .before .before .before .before .before .before .before .before .before .thermal-passes .result) (a .stop) (a .hmap .now) (c .before .before .before .before .before .before .before .before .erode .ensures)
 
 same-length-2 : tie.Need-same-length-2
 same-length-2 c = search needs
@@ -60,7 +72,7 @@ same-length-5 : tie.Need-same-length-5
 same-length-5 c = search needs
 
 returns-2 : tie.Need-returns-2
-returns-2 c = let a = c .before .before .before .before .before .before .before .before .before .before .before .before .before .before .before .before .before .before .before .before .before .before .before .before .before .before .before .before .args in run-done (a .size .w) (a .size .h) (a .conf) (a .stop) (a .hmap .now) (a .small .now) (a .eroded .now) (a .copy .now) (decided (a .size .w) (a .size .h) (a .conf) (a .stop) (a .hmap .now) (a .small .now) (a .eroded .now) (a .copy .now) (c .before .before .before .before .before .before .before .before .before .before .before .before .before .before .before .before .before .before .before .refusal .ensures) (c .before .before .before .before .before .before .before .before .before .before .before .before .before .before .before .before .before .before .before .before .bad-thermal .ensures) (c .before .before .before .before .before .before .before .before .before .before .before .before .before .before .before .before .before .before .before .before .before .before .least2 .ensures) (c .before .before .before .before .before .before .before .before .before .before .before .before .before .before .before .before .before .before .before .before .before .before .before .least .ensures)) (c .before .before .before .before .before .before .before .before .before .before .before .before .before .before .before .before .before .enum-told .given .1) (c .before .before .before .before .before .before .before .before .before .before .before .before .before .before .before .before .work-sides .ensures) (c .before .before .before .before .before .before .before .before .before .before .before .before .before .before .thermal-passes .ensures) (c .before .before .before .before .before .before .before .before .before .before .before .before .before .before .before .thermal-plan .ensures) _ _ _ _ (c .answered .ensures) (c .before .before .before .before .before .before .before .before .before .erode .ensures)
+returns-2 c = let a = c .before .before .before .before .before .before .before .before .before .before .before .before .before .before .before .before .before .before .before .before .before .before .before .before .before .before .before .before .args in run-done (a .size .w) (a .size .h) (a .conf) (a .stop) (a .hmap .now) (a .small .now) (a .eroded .now) (a .copy .now) (told (c .before .before .before .before .before .before .before .before .before .before .before .before .before .before .before .before .before)) (c .before .before .before .before .before .before .before .before .before .before .before .before .before .before .before .before .before .enum-told .given .1) (c .before .before .before .before .before .before .before .before .before .before .before .before .before .before .before .before .work-sides .ensures) (c .before .before .before .before .before .before .before .before .before .before .before .before .before .before .thermal-passes .ensures) (c .before .before .before .before .before .before .before .before .before .before .before .before .before .before .before .thermal-plan .ensures) _ _ _ _ (c .answered .ensures) (c .before .before .before .before .before .before .before .before .before .erode .ensures)
 
 pub gen-thermal-erosion-spec : {M : Type 1} → statement M
 gen-thermal-erosion-spec =
