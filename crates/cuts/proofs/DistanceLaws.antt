@@ -70,13 +70,13 @@ module _ (w i r : ℕ) (l : 3 ≤ w) where
 
   pub tabled-is : Near w i r → tabled w i r ≡ apart w i r
   unfolding placeOf
-  tabled-is n = go (decLt (gap i r) 2) (place-holds n)
+  tabled-is n = go (decLt (gap i r) 2) (place-holds n l)
     where
       go : Dec (gap i r < 2) → (placeOf w i r < 5) × (getD distanceTable (placeOf w i r) nan ≡ apart w i r) → tabled w i r ≡ apart w i r
-      go (yes k) h = level k ∙ (rw (le-ltb w 3 l, lt-ltb (gap i r) 2 k) at h) .1
+      go (yes k) h = level k ∙ (rw (lt-ltb (gap i r) 2 k) at h) .1
       go (no k) h =
           let m : 2 ≤ gap i r = omega arith in
-          let q = rw (le-ltb w 3 l, le-ltb (gap i r) 2 m) at h in
+          let q = rw (le-ltb (gap i r) 2 m) at h in
           across (gap i r + 3 - w) (q .0) (omega (arith, gap-enough n l m)) ∙ q .1
 
 -- the two ends of `distance`

@@ -53,10 +53,10 @@ module _ {w h c : ℕ} (a : Inner w h c) where
 
 -- the slope down to a finder, as the code works it out
 pub slope-read :
-    (w : ℕ) (spill : List Float) (c f : ℕ) → Near w c f → (ds : List Float) (place : ℕ) → ds ≡ distanceTable → place ≡ placeOf w c f
+    (w : ℕ) (spill : List Float) (c f : ℕ) → Near w c f → 3 ≤ w → (ds : List Float) (place : ℕ) → ds ≡ distanceTable → place ≡ placeOf w c f
     → slopeDown spill c f (getD ds place nan) ≡ slopeDown spill c f (apart w c f)
-slope-read w spill c f near ds place e p =
-    ap (slopeDown spill c f) (ap (λ (t : List Float). getD t place nan) e ∙ ap (λ (k : ℕ). getD distanceTable k nan) p ∙ place-holds near .1)
+slope-read w spill c f near wide ds place e p =
+    ap (slopeDown spill c f) (ap (λ (t : List Float). getD t place nan) e ∙ ap (λ (k : ℕ). getD distanceTable k nan) p ∙ place-holds near wide .1)
 
 -- the offsets, as the code reads them
 pub offset-read : (w : ℕ) (os : List ℕ) → os ≡ offsetsOf w → (d : ℕ) → d < 9 → getD os d 0 ≡ offsetOf w d

@@ -34,6 +34,7 @@ pub fn narrow(os: &[usize; 9], width: usize) -> [u32; 9]
 // The slope from cell c down to its finder f.
 fn finder_slope(width: usize, ds: &[f32; 5], spill: &[f32], c: usize, f: usize) -> f32
     requires { ⌜ Near width c f ⌝ }
+    requires { ⌜ 3 ≤ width ⌝ }
     requires { ⌜ now ds ≡ distanceTable ⌝ }
     requires { ⌜ c < length (now spill) ⌝ }
     requires { ⌜ f < length (now spill) ⌝ }

@@ -2,7 +2,7 @@
 use Prim.Native.Nat.{ℕ, zero, suc, _+_, _-_, _*_, _≤_, _<_}
 use native.Mathlib.Omega.{arith}
 use native.Mathlib.Nat.{suc-mul}
-use native.Mathlib.Decide.{decLt, ℕ-discrete}
+use native.Mathlib.Decide.{ℕ-discrete}
 use mathlib.Core.Path.{_≡_, refl, sym, ap, _∙_, subst}
 use mathlib.Core.Logic.{_≢_, _⊎_, inl, inr}
 use mathlib.Core.Bool.{Bool, true, false, cond}
@@ -15,7 +15,7 @@ use Rattle.grid.specs.Directions.{Adjacent}
 use Rattle.grid.proofs.SidesLaws.{cell-back}
 use Rattle.grid.proofs.NeighbourLaws.{stepX, stepY, inside-beside, small-steps, close-step}
 use Rattle.ways.specs.Apart.{apart}
-use Rattle.steps.specs.Step.{distanceTable, gap, narrowPlace, placeOf, Near}
+use Rattle.steps.specs.Step.{distanceTable, gap, placeOf, Near}
 
 -- the numbers of two cells of neighbouring columns and rows, on three columns or more
 record Wide (w x y nx ny g : ℕ) : Type 0 where
@@ -64,14 +64,6 @@ holds-at : {p : ℕ} (q : ℕ) {d : Float} → p ≡ q → Holds q d → Holds p
 holds-at q e h = rw e h
 
 module _ {w i r : ℕ} (near : Near w i r) where
-  narrow : Holds (narrowPlace w i r) (apart w i r)
-  narrow = go (eqb (columnOf w i) (columnOf w r)) (eqb (rowOf w i) (rowOf w r))
-    where
-      go : (a b : Bool) → Holds (cond a 0 (cond b 0 2)) (cond a one (cond b one diagonal))
-      go true b = (omega arith, refl)
-      go false true = (omega arith, refl)
-      go false false = (omega arith, refl)
-
   gap-wide : 3 ≤ w → Wide w (columnOf w i) (rowOf w i) (columnOf w r) (rowOf w r) (gap i r)
   gap-wide l =
       subst (λ (k : ℕ). Wide w (columnOf w i) (rowOf w i) (columnOf w r) (rowOf w r) (gap k r)) (cell-back w i)
@@ -116,28 +108,19 @@ module _ {w i r : ℕ} (near : Near w i r) where
           aslant (inl q) = holds-at 2 q (omega arith, refl)
           aslant (inr q) = holds-at 4 q (omega arith, refl)
 
-  pub place-holds : Holds (placeOf w i r) (apart w i r)
+  pub place-holds : 3 ≤ w → Holds (placeOf w i r) (apart w i r)
   unfolding placeOf
-  place-holds = go (decLt w 3)
-    where
-      go : Dec (w < 3) → Holds (cond (ltb w 3) (narrowPlace w i r) (cond (ltb (gap i r) 2) (gap i r) (gap i r + 3 - w))) (apart w i r)
-      go (yes l) = rw (lt-ltb w 3 l) narrow
-      go (no l) = let k : 3 ≤ w = omega arith in rw (le-ltb w 3 k) (wide k (gap-wide k))
+  place-holds l = wide l (gap-wide l)
 
--- ---- the three ends of `step_place`
-module _ (w i r : ℕ) where
-  pub place-narrow : {p : ℕ} → w < 3 → p ≡ narrowPlace w i r → p ≡ placeOf w i r
+-- ---- the two ends of `step_place`
+module _ (w i r g : ℕ) (e : g ≡ gap i r) where
+  pub place-level : g < 2 → g ≡ placeOf w i r
   unfolding placeOf
-  place-narrow l e = rw (lt-ltb w 3 l) e
+  place-level k = rw (← e, lt-ltb g 2 k)
 
-  module _ (g : ℕ) (l : 3 ≤ w) (e : g ≡ gap i r) where
-    pub place-level : g < 2 → g ≡ placeOf w i r
-    unfolding placeOf
-    place-level k = rw (le-ltb w 3 l, ← e, lt-ltb g 2 k)
-
-    pub place-across : 2 ≤ g → g + 3 - w ≡ placeOf w i r
-    unfolding placeOf
-    place-across k = rw (le-ltb w 3 l, ← e, le-ltb g 2 k)
+  pub place-across : 2 ≤ g → g + 3 - w ≡ placeOf w i r
+  unfolding placeOf
+  place-across k = rw (← e, le-ltb g 2 k)
 
 -- ---- a receiver is near
 pub near-of : {w h c r : ℕ} → 0 < w → w ≤ 4096 → (r ≡ c) ⊎ Adjacent w h c r → Near w c r

@@ -2,7 +2,7 @@
 use Prim.Native.Nat.{ℕ, _+_, _-_, _≤_, _<_}
 use mathlib.Core.Bool.{cond}
 use mathlib.Core.List.{List, [], _∷_}
-use lib.Dec.{eqb, ltb}
+use lib.Dec.{ltb}
 use lib.Ieee.{Float, binary32, ofBits}
 use Rattle.grid.specs.Sides.{columnOf, rowOf}
 
@@ -17,12 +17,9 @@ distanceTable =
 abbrev pub gap : ℕ → ℕ → ℕ
 gap a b = (a - b) + (b - a)
 
-abbrev pub narrowPlace : ℕ → ℕ → ℕ → ℕ
-narrowPlace w i r = cond (eqb (columnOf w i) (columnOf w r)) 0 (cond (eqb (rowOf w i) (rowOf w r)) 0 2)
-
--- the place of the distance between cells i and r; with fewer than three columns w - 1 may be 1, so there it is found by column and row
+-- the place of the distance between cells i and r of a grid of three columns or more
 unfoldable pub placeOf : ℕ → ℕ → ℕ → ℕ
-placeOf w i r = cond (ltb w 3) (narrowPlace w i r) (cond (ltb (gap i r) 2) (gap i r) (gap i r + 3 - w))
+placeOf w i r = cond (ltb (gap i r) 2) (gap i r) (gap i r + 3 - w)
 
 -- cell r is cell i or one of its 8 neighbours, on a grid of w columns
 pub record Near (w i r : ℕ) : Type 0 where

@@ -1,8 +1,8 @@
-// The step from a cell to its receiver by the difference of their numbers: the distance stands in a table of five, and finding its place takes no
-// division, where the grid has three columns or more.
+// The step from a cell to its receiver by the difference of their numbers, where the grid has three columns or more: the distance stands in a table of
+// five, and finding its place takes no division.
 ghost use mathlib.Core.Path.{_≡_};
-ghost use Prim.Native.Nat.{_+_, _-_, _<_};
-ghost use Rattle.steps.specs.Step.{distanceTable, gap, narrowPlace, placeOf, Near};
+ghost use Prim.Native.Nat.{_+_, _-_, _≤_};
+ghost use Rattle.steps.specs.Step.{distanceTable, gap, placeOf, Near};
 
 const SQRT_2: f32 = 1.41421356;
 
@@ -20,28 +20,12 @@ fn difference(a: usize, b: usize) -> usize
     if a < b { b - a } else { a - b }
 }
 
-// The place on a grid of one or two columns, where two cells whose numbers differ by 1 may stand in two rows.
-fn narrow_place(i: usize, r: usize, width: usize) -> usize
-    requires { ⌜ 0 < width ⌝ }
-    ensures { λ p. ⌜ p ≡ narrowPlace width i r ⌝ }
-{
-    if i % width == r % width {
-        return 0;
-    }
-    if i / width == r / width {
-        return 0;
-    }
-    2
-}
-
 // The place of the distance between a cell and its receiver, which is itself or one of its 8 neighbours.
 pub fn step_place(i: usize, r: usize, width: usize) -> usize
     requires { ⌜ Near width i r ⌝ }
+    requires { ⌜ 3 ≤ width ⌝ }
     ensures { λ p. ⌜ p ≡ placeOf width i r ⌝ }
 {
-    if width < 3 {
-        return narrow_place(i, r, width);
-    }
     let apart = difference(i, r);
     if apart < 2 {
         return apart;

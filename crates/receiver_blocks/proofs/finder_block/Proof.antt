@@ -8,7 +8,7 @@ use Rattle.grid.specs.Directions.{Adjacent}
 use Rattle.inner_cells.specs.Inner.{Inner}
 use Rattle.network.proofs.ReceiverLaws.{near-inside}
 use Rattle.receiver_blocks.specs.Runs.{finderAs}
-use Rattle.receiver_blocks.proofs.OffsetLaws.{inner-inside, inner-few, finder-near, finder-back, finder-ahead}
+use Rattle.receiver_blocks.proofs.OffsetLaws.{inner-inside, inner-wide, inner-few, finder-near, finder-back, finder-ahead}
 use Rattle.receiver_blocks.proofs.BlockLaws.{filled-end}
 use Rattle.receiver_blocks.proofs.finder_block.Statement.{statement}
 use Rattle.receiver_blocks.proofs.finder_block.Tie as tie
@@ -45,7 +45,7 @@ add-finder-slope : tie.Need-add-finder-slope Inv-loop μ-loop
 add-finder-slope c = omega (arith, inner-inside (cell (c .before)), inner-few (cell (c .before)))
 
 finder-slope-requires : tie.Need-finder-slope-requires Inv-loop μ-loop
-finder-slope-requires c κs = (finder-near (cell (c .before)) (finder (c .before)), (c .before .before .before .before .before .pre .1 .1 .0, (omega (arith, inner-inside (cell (c .before)), c .before .before .before .before .before .pre .1 .1 .1 .0), omega (arith, near-inside _ _ _ _ (inner-inside (cell (c .before))) (finder (c .before)), c .before .before .before .before .before .pre .1 .1 .1 .0))))
+finder-slope-requires c κs = (finder-near (cell (c .before)) (finder (c .before)), (inner-wide (cell (c .before)), (c .before .before .before .before .before .pre .1 .1 .0, (omega (arith, inner-inside (cell (c .before)), c .before .before .before .before .before .pre .1 .1 .1 .0), omega (arith, near-inside _ _ _ _ (inner-inside (cell (c .before))) (finder (c .before)), c .before .before .before .before .before .pre .1 .1 .1 .0)))))
 
 mul-slopes : tie.Need-mul-slopes Inv-loop μ-loop
 mul-slopes c = omega (arith, c .before .before .loop-test .taken, c .before .before .before .before .before .before .pre .1 .1 .1 .1 .1 .0)
