@@ -1,6 +1,6 @@
 -- The four samples around a cell lie within the grid, and are small enough to be worked out.
 use Prim.Native.Nat.{ℕ, _+_, _-_, _*_, _^_, _≤_, _<_}
-use mathlib.Core.Path.{_≡_, refl, ap, ap₂, _∙_}
+use mathlib.Core.Path.{_≡_, refl, ap₂, _∙_}
 use mathlib.Core.Bool.{Bool, true, false, not, cond, _&&_}
 use mathlib.Core.List.{List}
 use native.Mathlib.Nat.{mul-comm, mul-le-mul-right}
@@ -14,7 +14,7 @@ use Rattle.grid.specs.Sides.{badSides}
 use Rattle.grid.specs.Directions.{Place}
 use Rattle.grid.proofs.SidesLaws.{cells-bound, good-sides}
 use Rattle.bilinear.specs.Places.{Grid}
-use Rattle.bilinear.specs.Samples.{asSource, northEast, southWest, southEast, between, northOf, southOf, bilinearAt, bilinearOf}
+use Rattle.bilinear.specs.Samples.{asSource, cornerOf, between, acrossOf, bilinearAt, bilinearOf}
 
 -- row y ends within the grid
 pub row-end : (w h y : ℕ) → y < h → y * w + w ≤ w * h
@@ -23,42 +23,21 @@ row-end w h y l = let m : (y + 1) * w ≤ h * w = mul-le-mul-right w (omega arit
 pub place-fits : {w h x y : ℕ} → Place w h x y → (y * w + w ≤ w * h) × (w * h ≤ 2 ^ 24)
 place-fits {w} {h} {x} {y} p = (row-end w h y (p .row), cells-bound w h (p .wide) (p .high))
 
-module _ {w h x y : ℕ} (p : Place w h x y) where
-  pub nw-in : x + y * w < w * h
-  nw-in = omega (arith, p .column, place-fits p)
-
-  pub ne-in : northEast asSource w h x y < w * h
-  ne-in = go (ltb x (w - 1)) (ltb-true x (w - 1))
-    where
-      go : (b : Bool) → (b ≡ true → x < w - 1) → cond b (x + 1 + y * w) (x + y * w) < w * h
-      go true l = omega (arith, l refl, place-fits p)
-      go false l = nw-in
-
-  pub sw-in : southWest asSource w h x y < w * h
-  sw-in = go (ltb y (h - 1)) (ltb-true y (h - 1))
-    where
-      go : (b : Bool) → (b ≡ true → y < h - 1) → cond b (x + (y + 1) * w) (x + y * w) < w * h
-      go true l = let m : y < h - 1 = l refl in omega (arith, p .column, row-end w h (y + 1) (omega arith))
-      go false l = nw-in
-
-  pub se-in : southEast asSource w h x y < w * h
-  se-in = go (ltb x (w - 1)) (ltb y (h - 1)) (ltb-true x (w - 1)) (ltb-true y (h - 1))
-    where
-      go : (a b : Bool) → (a ≡ true → x < w - 1) → (b ≡ true → y < h - 1) → cond (a && b) (x + 1 + (y + 1) * w) (x + y * w) < w * h
-      go true true l m = let n : y < h - 1 = m refl in omega (arith, l refl, row-end w h (y + 1) (omega arith))
-      go true false l m = nw-in
-      go false b l m = nw-in
+pub corner-in : {w h x y : ℕ} → Place w h x y → (east south : ℕ) → cornerOf asSource w h x y east south < w * h
+corner-in {w} {h} {x} {y} p east south = go (ltb (x + east) w) (ltb (y + south) h) (ltb-true (x + east) w) (ltb-true (y + south) h)
+  where
+    go : (a b : Bool) → (a ≡ true → x + east < w) → (b ≡ true → y + south < h) → cond (a && b) (x + east + (y + south) * w) (x + y * w) < w * h
+    go true true l m = omega (arith, l refl, row-end w h (y + south) (m refl))
+    go true false l m = omega (arith, p .column, place-fits p)
+    go false b l m = omega (arith, p .column, place-fits p)
 
 -- the sample from its corners
 module _ (v : List Float) (w h x y : ℕ) (dx : Float) where
-  pub north-is : {ne : ℕ} {r : Float} → ne ≡ northEast asSource w h x y → r ≡ between dx (getD v (x + y * w) nan) (getD v ne nan) → r ≡ northOf asSource v w h x dx y
-  north-is a e = e ∙ ap (λ (k : ℕ). between dx (getD v (x + y * w) nan) (getD v k nan)) a
+  pub across-is : (south : ℕ) {a b : ℕ} {r : Float} → a ≡ cornerOf asSource w h x y 0 south → b ≡ cornerOf asSource w h x y 1 south
+      → r ≡ between dx (getD v a nan) (getD v b nan) → r ≡ acrossOf asSource v w h x dx y south
+  across-is south p q e = e ∙ ap₂ (λ (k l : ℕ). between dx (getD v k nan) (getD v l nan)) p q
 
-  pub south-is : {sw se : ℕ} {r : Float} → sw ≡ southWest asSource w h x y → se ≡ southEast asSource w h x y → r ≡ between dx (getD v sw nan) (getD v se nan)
-      → r ≡ southOf asSource v w h x dx y
-  south-is a b e = e ∙ ap₂ (λ (k l : ℕ). between dx (getD v k nan) (getD v l nan)) a b
-
-  pub sample-is : (dy : Float) {n s r : Float} → n ≡ northOf asSource v w h x dx y → s ≡ southOf asSource v w h x dx y → r ≡ between dy n s
+  pub sample-is : (dy : Float) {n s r : Float} → n ≡ acrossOf asSource v w h x dx y 0 → s ≡ acrossOf asSource v w h x dx y 1 → r ≡ between dy n s
       → r ≡ bilinearAt asSource v w h x dx y dy
   sample-is dy a b e = e ∙ ap₂ (between dy) a b
 

@@ -12,35 +12,26 @@ use Rattle.grid.specs.Sides.{badSides}
 use Rattle.grid.specs.Heights.{firstNotFinite, allFinite}
 use Rattle.resample.specs.WorkSize.{float}
 
--- How a sample past the far edge is taken. `asSource`: the south-east sample is the north-west one as soon as either far edge is reached; the
--- north-east one is it at the east edge, the south-west one at the south edge.
+-- How a sample past a far edge is taken. `asSource`: it is the north-west one, so the south-east sample is that as soon as either far edge is reached, the
+-- north-east one at the east edge and the south-west one at the south edge.
 pub data FarEdge : Type 0 where
   asSource : FarEdge
 
--- the cell of each of the four samples around column x, row y
-abbrev pub northEast : FarEdge → ℕ → ℕ → ℕ → ℕ → ℕ
-northEast asSource w h x y = cond (ltb x (w - 1)) (x + 1 + y * w) (x + y * w)
-
-abbrev pub southWest : FarEdge → ℕ → ℕ → ℕ → ℕ → ℕ
-southWest asSource w h x y = cond (ltb y (h - 1)) (x + (y + 1) * w) (x + y * w)
-
-abbrev pub southEast : FarEdge → ℕ → ℕ → ℕ → ℕ → ℕ
-southEast asSource w h x y = cond (ltb x (w - 1) && ltb y (h - 1)) (x + 1 + (y + 1) * w) (x + y * w)
+-- the cell of the sample that lies `east` columns east and `south` rows south (0 or 1) of column x, row y
+abbrev pub cornerOf : FarEdge → ℕ → ℕ → ℕ → ℕ → ℕ → ℕ → ℕ
+cornerOf asSource w h x y east south = cond (ltb (x + east) w && ltb (y + south) h) (x + east + (y + south) * w) (x + y * w)
 
 -- (1 - d) × a + d × b
 abbrev pub between : Float → Float → Float → Float
 between d a b = add binary32 (mul binary32 (sub binary32 (ofBits binary32 0x3f80_0000) d) a) (mul binary32 d b)
 
--- between the two cells to the north, and between the two to the south, dx of the way from column ix to the next
-abbrev pub northOf : FarEdge → List Float → ℕ → ℕ → ℕ → Float → ℕ → Float
-northOf kind v w h ix dx iy = between dx (getD v (ix + iy * w) nan) (getD v (northEast kind w h ix iy) nan)
-
-abbrev pub southOf : FarEdge → List Float → ℕ → ℕ → ℕ → Float → ℕ → Float
-southOf kind v w h ix dx iy = between dx (getD v (southWest kind w h ix iy) nan) (getD v (southEast kind w h ix iy) nan)
+-- between the two samples `south` rows to the south, dx of the way from column ix to the next
+abbrev pub acrossOf : FarEdge → List Float → ℕ → ℕ → ℕ → Float → ℕ → ℕ → Float
+acrossOf kind v w h ix dx iy south = between dx (getD v (cornerOf kind w h ix iy 0 south) nan) (getD v (cornerOf kind w h ix iy 1 south) nan)
 
 -- the sample at column ix, row iy, with dx and dy of the way to the next ones
 abbrev pub bilinearAt : FarEdge → List Float → ℕ → ℕ → ℕ → Float → ℕ → Float → Float
-bilinearAt kind v w h ix dx iy dy = between dy (northOf kind v w h ix dx iy) (southOf kind v w h ix dx iy)
+bilinearAt kind v w h ix dx iy dy = between dy (acrossOf kind v w h ix dx iy 0) (acrossOf kind v w h ix dx iy 1)
 
 -- the sample at column x, row y, both in cells
 unfoldable pub bilinearOf : FarEdge → List Float → ℕ → ℕ → Float → Float → Float

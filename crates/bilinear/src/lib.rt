@@ -14,43 +14,23 @@ ghost use Prim.Native.Nat.{_*_, _≤_};
 ghost use lib.ListN.{length};
 ghost use Rattle.answers.specs.Outcome.{valueOf};
 ghost use Rattle.grid.specs.Directions.{Place};
-ghost use Rattle.bilinear.specs.Samples.{asSource, northEast, southWest, southEast, between, northOf, southOf, bilinearAt, bilinearOf, badCoordinate, bilinearAnswer};
+ghost use Rattle.bilinear.specs.Samples.{asSource, cornerOf, between, acrossOf, bilinearAt, bilinearOf, badCoordinate, bilinearAnswer};
 ghost use Rattle.bilinear.specs.Places.{Grid};
 
-// The cell of the north-east sample: the north-west one at the east edge.
-fn north_east(size: Sides, x: usize, y: usize) -> usize
+// The cell of the sample that lies `east` columns east and `south` rows south: the north-west one as soon as a far edge before it is reached.
+fn corner(size: Sides, x: usize, y: usize, east: usize, south: usize) -> usize
     requires { ⌜ Place (size .w) (size .h) x y ⌝ }
-    ensures { λ r. ⌜ r ≡ northEast asSource (size .w) (size .h) x y ⌝ }
+    requires { ⌜ east ≤ 1 ⌝ }
+    requires { ⌜ south ≤ 1 ⌝ }
+    ensures { λ r. ⌜ r ≡ cornerOf asSource (size .w) (size .h) x y east south ⌝ }
 {
-    if x < size.w - 1 {
-        return x + 1 + y * size.w;
-    }
-    x + y * size.w
-}
-
-// The cell of the south-west sample: the north-west one at the south edge.
-fn south_west(size: Sides, x: usize, y: usize) -> usize
-    requires { ⌜ Place (size .w) (size .h) x y ⌝ }
-    ensures { λ r. ⌜ r ≡ southWest asSource (size .w) (size .h) x y ⌝ }
-{
-    if y < size.h - 1 {
-        return x + (y + 1) * size.w;
-    }
-    x + y * size.w
-}
-
-// The cell of the south-east sample: the north-west one as soon as either far edge is reached.
-fn south_east(size: Sides, x: usize, y: usize) -> usize
-    requires { ⌜ Place (size .w) (size .h) x y ⌝ }
-    ensures { λ r. ⌜ r ≡ southEast asSource (size .w) (size .h) x y ⌝ }
-{
-    if size.w - 1 <= x {
+    if size.w <= x + east {
         return x + y * size.w;
     }
-    if size.h - 1 <= y {
+    if size.h <= y + south {
         return x + y * size.w;
     }
-    x + 1 + (y + 1) * size.w
+    x + east + (y + south) * size.w
 }
 
 // (1 - d) × a + d × b.
@@ -60,26 +40,16 @@ pub fn mixed(d: f32, a: f32, b: f32) -> f32
     (1.0 - d) * a + d * b
 }
 
-// Between the two cells to the north, dx of the way from column x to the next.
-pub fn north_at(v: &[f32], size: Sides, x: usize, dx: f32, y: usize) -> f32
+// Between the two samples `south` rows to the south, dx of the way from column x to the next.
+pub fn across(v: &[f32], size: Sides, x: usize, dx: f32, y: usize, south: usize) -> f32
     requires { ⌜ Place (size .w) (size .h) x y ⌝ }
+    requires { ⌜ south ≤ 1 ⌝ }
     requires { ⌜ length (now v) ≡ size .w * size .h ⌝ }
-    ensures { λ r. ⌜ r ≡ northOf asSource (now (v .entry)) (size .w) (size .h) x dx y ⌝ }
+    ensures { λ r. ⌜ r ≡ acrossOf asSource (now (v .entry)) (size .w) (size .h) x dx y south ⌝ }
 {
-    let nw = v[x + y * size.w];
-    let ne = v[north_east(size, x, y)];
-    mixed(dx, nw, ne)
-}
-
-// Between the two cells to the south.
-pub fn south_at(v: &[f32], size: Sides, x: usize, dx: f32, y: usize) -> f32
-    requires { ⌜ Place (size .w) (size .h) x y ⌝ }
-    requires { ⌜ length (now v) ≡ size .w * size .h ⌝ }
-    ensures { λ r. ⌜ r ≡ southOf asSource (now (v .entry)) (size .w) (size .h) x dx y ⌝ }
-{
-    let sw = v[south_west(size, x, y)];
-    let se = v[south_east(size, x, y)];
-    mixed(dx, sw, se)
+    let west = v[corner(size, x, y, 0, south)];
+    let east = v[corner(size, x, y, 1, south)];
+    mixed(dx, west, east)
 }
 
 // The sample at column x, row y, with dx and dy of the way to the next ones.
@@ -88,8 +58,8 @@ fn sample_at(v: &[f32], size: Sides, x: usize, dx: f32, y: usize, dy: f32) -> f3
     requires { ⌜ length (now v) ≡ size .w * size .h ⌝ }
     ensures { λ r. ⌜ r ≡ bilinearAt asSource (now (v .entry)) (size .w) (size .h) x dx y dy ⌝ }
 {
-    let n = north_at(v, size, x, dx, y);
-    let s = south_at(v, size, x, dx, y);
+    let n = across(v, size, x, dx, y, 0);
+    let s = across(v, size, x, dx, y, 1);
     mixed(dy, n, s)
 }
 
