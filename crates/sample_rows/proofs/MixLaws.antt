@@ -10,9 +10,9 @@ use Rattle.lists.proofs.FillLaws.{Filling, filling-length}
 use Rattle.grid.specs.Directions.{Place}
 use Rattle.resample.proofs.RowFillLaws.{filled-at, filling-at, stored}
 use Rattle.bilinear.specs.Places.{Grid}
-use Rattle.bilinear.specs.Samples.{asSource, northOf, southOf}
+use Rattle.bilinear.specs.Samples.{asSource, acrossOf}
 use Rattle.bilinear.proofs.CornerLaws.{place-in}
-use Rattle.sample_rows.specs.Rows.{Sampled, centreOf, columnOf, wayOf, columnsOf, waysOf, Mixes}
+use Rattle.sample_rows.specs.Rows.{Sampled, centreOf, columnOf, wayOf, columnsOf, waysOf, Mix, Mixes}
 
 -- the columns of a grid and its rows, on a reduced grid
 pub all-columns : {w h len dw dh dlen : ℕ} → Grid w h len → Grid dw dh dlen → Sampled w dw w
@@ -51,26 +51,17 @@ module _ (w dw : ℕ) where
     pub place-read : {dh len y : ℕ} → Grid dw dh len → y < dh → Place dw dh (getD cs x 0) y
     place-read g m = place-in g (omega (arith, column-read, g .w-low)) m
 
-    module _ (delta : List Float) (dh y : ℕ) {r : Float} where
-      pub north-read : r ≡ northOf asSource delta dw dh (getD cs x 0) (getD ds x nan) y → r ≡ northOf asSource delta dw dh (columnOf w dw x) (wayOf w dw x) y
-      north-read q = q ∙ ap₂ (λ (k : ℕ) (d : Float). northOf asSource delta dw dh k d y) column-read way-read
+    pub across-read : (delta : List Float) (dh y south : ℕ) {r : Float} → r ≡ acrossOf asSource delta dw dh (getD cs x 0) (getD ds x nan) y south
+        → r ≡ acrossOf asSource delta dw dh (columnOf w dw x) (wayOf w dw x) y south
+    across-read delta dh y south q = q ∙ ap₂ (λ (k : ℕ) (d : Float). acrossOf asSource delta dw dh k d y south) column-read way-read
 
-      pub south-read : r ≡ southOf asSource delta dw dh (getD cs x 0) (getD ds x nan) y → r ≡ southOf asSource delta dw dh (columnOf w dw x) (wayOf w dw x) y
-      south-read q = q ∙ ap₂ (λ (k : ℕ) (d : Float). southOf asSource delta dw dh k d y) column-read way-read
+-- the array while it is made: n columns are done
+abbrev pub Mixing : List Float → ℕ → ℕ → ℕ → ℕ → ℕ → ℕ → List Float → List Float → Type 0
+Mixing delta dw dh w y south n row₀ row = Filling (λ x. acrossOf asSource delta dw dh (columnOf w dw x) (wayOf w dw x) y south) n row₀ row
 
--- the two arrays while they are made: n columns are done
-pub record Mixing (delta : List Float) (dw dh w y n : ℕ) (north₀ south₀ north south : List Float) : Type 0 where
-  pub norths : Filling (λ x. northOf asSource delta dw dh (columnOf w dw x) (wayOf w dw x) y) n north₀ north
-  pub souths : Filling (λ x. southOf asSource delta dw dh (columnOf w dw x) (wayOf w dw x) y) n south₀ south
-
-pub mixing-done : {delta : List Float} {dw dh w y n : ℕ} {north₀ south₀ north south : List Float} → Mixing delta dw dh w y n north₀ south₀ north south
-    → length north₀ ≡ 4096 → length south₀ ≡ 4096 → w ≤ n → Mixes delta dw dh w y north south
-mixing-done m a b l = record {
-  northern = λ x h. filling-at (m .norths) x nan (omega arith);
-  southern = λ x h. filling-at (m .souths) x nan (omega arith);
-  north-long = filling-length (m .norths) ∙ a;
-  south-long = filling-length (m .souths) ∙ b;
-}
+pub mixing-done : (delta : List Float) (dw dh w y south : ℕ) {n : ℕ} {row₀ row : List Float} → Mixing delta dw dh w y south n row₀ row
+    → length row₀ ≡ 4096 → w ≤ n → Mix delta dw dh w y south row
+mixing-done delta dw dh w y south m a l = record { at = λ x h. filling-at m x nan (omega arith); long = filling-length m ∙ a }
 
 -- the arrays of one row are those of the same row
 pub mixes-same : {delta : List Float} {dw dh w held y : ℕ} {north south : List Float} → y ≡ held → Mixes delta dw dh w held north south → Mixes delta dw dh w y north south

@@ -7,7 +7,7 @@ use lib.Ieee.{Float, nan, binary32, ofBits, add, sub, mul, div}
 use Rattle.floats.specs.Stand.{maxOf, fractOf, indexOf}
 use Rattle.lists.specs.Loops.{tabulate}
 use Rattle.resample.specs.WorkSize.{float}
-use Rattle.bilinear.specs.Samples.{asSource, northOf, southOf}
+use Rattle.bilinear.specs.Samples.{asSource, acrossOf}
 
 -- column (or row) x of a side, or the end past the last one, and a reduced side, each at most 4,096
 pub record Sampled (side reduced x : ℕ) : Type 0 where
@@ -37,9 +37,12 @@ unfoldable pub waysOf : ℕ → ℕ → List Float
 unfolding tabulate
 waysOf side reduced = tabulate side (wayOf side reduced) ++ drop side (replicate 4096 (ofBits binary32 0))
 
--- arrays of 4,096 places that hold, for each of w columns, what lies there in row y of the reduced grid and in the next
+-- an array of 4,096 places that holds, for each of w columns, what lies there `south` rows south of row y of the reduced grid
+pub record Mix (delta : List Float) (dw dh w y south : ℕ) (row : List Float) : Type 0 where
+  pub at : (x : ℕ) → x < w → getD row x nan ≡ acrossOf asSource delta dw dh (columnOf w dw x) (wayOf w dw x) y south
+  pub long : length row ≡ 4096
+
+-- those of row y and of the next
 pub record Mixes (delta : List Float) (dw dh w y : ℕ) (north south : List Float) : Type 0 where
-  pub northern : (x : ℕ) → x < w → getD north x nan ≡ northOf asSource delta dw dh (columnOf w dw x) (wayOf w dw x) y
-  pub southern : (x : ℕ) → x < w → getD south x nan ≡ southOf asSource delta dw dh (columnOf w dw x) (wayOf w dw x) y
-  pub north-long : length north ≡ 4096
-  pub south-long : length south ≡ 4096
+  pub northern : Mix delta dw dh w y 0 north
+  pub southern : Mix delta dw dh w y 1 south

@@ -1,7 +1,6 @@
 // Samples row by row. All samples of a row of the map lie between the same two rows of the reduced grid, and several rows of the map share them: where
 // each column of the map lies between the reduced columns is worked out once, what lies there in the two reduced rows once for each pair of them.
-use bilinear::north_at;
-use bilinear::south_at;
+use bilinear::across;
 use floats::fract;
 use floats::index;
 use floats::max;
@@ -10,7 +9,7 @@ ghost use mathlib.Core.Path.{_≡_};
 ghost use Prim.Native.Nat.{_<_, _≤_};
 ghost use lib.ListN.{length};
 ghost use Rattle.bilinear.specs.Places.{Grid};
-ghost use Rattle.sample_rows.specs.Rows.{Sampled, centreOf, columnOf, wayOf, columnsOf, waysOf, Mixes};
+ghost use Rattle.sample_rows.specs.Rows.{Sampled, centreOf, columnOf, wayOf, columnsOf, waysOf, Mix, Mixes};
 
 // Where the centre of column (or row) x of a side lies on the reduced one.
 fn centre(side: usize, reduced: usize, x: usize) -> f32
@@ -65,7 +64,34 @@ pub fn ways(w: usize, dw: usize) -> [f32; 4096]
     ds
 }
 
-// What lies at each of w columns in row y of the reduced grid and in the next.
+// What lies at each of w columns `south` rows south of row y of the reduced grid.
+fn mix_row(
+    delta: &[f32],
+    dsize: Sides,
+    cs: &[usize; 4096],
+    ds: &[f32; 4096],
+    w: usize,
+    y: usize,
+    south: usize,
+    row: &mut [f32; 4096],
+)
+    requires { ⌜ Grid (dsize .w) (dsize .h) (length (now delta)) ⌝ }
+    requires { ⌜ now cs ≡ columnsOf w (dsize .w) ⌝ }
+    requires { ⌜ now ds ≡ waysOf w (dsize .w) ⌝ }
+    requires { ⌜ w ≤ 4096 ⌝ }
+    requires { ⌜ y < dsize .h ⌝ }
+    requires { ⌜ south ≤ 1 ⌝ }
+    requires { ⌜ length (now row) ≡ 4096 ⌝ }
+    ensures { λ _. ⌜ Mix (now (delta .entry)) (dsize .w) (dsize .h) w y south (now (row .exit)) ⌝ }
+{
+    let mut x: usize = 0;
+    while x < w {
+        row[x] = across(delta, dsize, cs[x], ds[x], y, south);
+        x += 1;
+    }
+}
+
+// The same in row y and in the next.
 pub fn mix_rows(
     delta: &[f32],
     dsize: Sides,
@@ -85,12 +111,8 @@ pub fn mix_rows(
     requires { ⌜ length (now south) ≡ 4096 ⌝ }
     ensures { λ _. ⌜ Mixes (now (delta .entry)) (dsize .w) (dsize .h) w y (now (north .exit)) (now (south .exit)) ⌝ }
 {
-    let mut x: usize = 0;
-    while x < w {
-        north[x] = north_at(delta, dsize, cs[x], ds[x], y);
-        south[x] = south_at(delta, dsize, cs[x], ds[x], y);
-        x += 1;
-    }
+    mix_row(delta, dsize, cs, ds, w, y, 0, north);
+    mix_row(delta, dsize, cs, ds, w, y, 1, south);
 }
 
 // The same around row y of the map, where the arrays hold what lies in row `held` and the next: several rows of the map share a reduced row, which is then not

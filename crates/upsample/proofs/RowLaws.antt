@@ -46,7 +46,7 @@ module _ (map : List Float) (w h : ℕ) (delta : List Float) (dw dh y : ℕ) (in
     sample-at : (x : ℕ) → x < w → between dy (getD north x nan) (getD south x nan) ≡ bilinearOf asSource delta dw dh (centreOf w dw x) (centreOf h dh y)
     unfolding bilinearOf
     sample-at x l =
-        ap₂ (between dy) (m .northern x l) (m .southern x l)
+        ap₂ (between dy) (m .northern .at x l) (m .southern .at x l)
         ∙ ap₂ (λ (k : ℕ) (d : Float). bilinearAt asSource delta dw dh (columnOf w dw x) (wayOf w dw x) k d) p q
 
     -- the row's sums are those of the whole map
