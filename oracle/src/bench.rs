@@ -11,10 +11,9 @@ mod source;
 mod standins;
 
 use random::Random;
-use source::erosion::{gen_fluvial_erosion, gen_thermal_erosion, Incision, Settings, Talus};
+use source::erosion::{gen_fluvial_erosion, gen_thermal_erosion, Incision, Pass, Settings, Talus};
 use source::flow::{accumulate, spill, FlowNet};
 use source::fluvial_erosion::{self as fluvial, incision_params};
-use source::Record;
 
 type Sides = (usize, usize);
 
@@ -165,12 +164,12 @@ fn slide(side: usize, kind: &str, h: &[f32]) {
 fn slide_by(talus: f32, side: usize, kind: &str, h: &[f32]) {
     let size = (side, side);
     let threshold = 0.03 * (1.0 - talus) * (1.0 - talus) / (side as f32 / 512.0);
-    let s = Talus { threshold, strength: 0.5, water_level: WATER };
+    let p = Pass::whole(Talus { threshold, strength: 0.5, water_level: WATER });
     let (mut ours, mut theirs) = (vec![0.0; h.len()], vec![0.0; h.len()]);
-    let mut lib = || assert!(calls::slide_pass(size, h, &mut ours, &s, (0.0, 1.0), Record::FRESH, 0).0 == 0);
+    let mut lib = || assert!(calls::slide_pass(size, h, &mut ours, &p).0 == 0);
     row("slide_pass", side, kind, &mut lib, &mut || {
         theirs.copy_from_slice(h);
-        assert!(source::erosion::slide_pass(size, h, &mut theirs, &s, (0.0, 1.0), Record::FRESH, 0).0);
+        assert!(source::erosion::slide_pass(size, h, &mut theirs, &p).0);
     });
     same_floats("heights", &ours, &theirs);
 }

@@ -1,5 +1,5 @@
 //! The first part of the list of replay_passes: incision along lent receivers and lists.
-use crate::list::List;
+use crate::list::{call::INCISE, List};
 use crate::random::Random;
 use crate::rules::passes::incise as ask_incise;
 use crate::rules::Sides;
@@ -9,8 +9,6 @@ use crate::terrain::{
     bad_length, bad_sides, faults, grid, not_finite, outside, relief, spoilt, water, words, EXTREME, FILL, KINDS,
     RELIEFS, TINY,
 };
-
-const INCISE: u32 = 1;
 
 /// A task: sides, heights, settings, network and the lengths of the other slices.
 struct Task {

@@ -11,6 +11,27 @@ use crate::rules::Answer;
 
 const NAN_BITS: u32 = 0x7fc0_0000;
 
+/// The word that a task of each call begins with.
+pub mod call {
+    // of replay_maps
+    pub const GET_MIN_MAX: u32 = 1;
+    pub const NORMALIZE: u32 = 2;
+    pub const DOWNSAMPLE: u32 = 3;
+    pub const ADD_UPSAMPLED: u32 = 4;
+    pub const BILINEAR: u32 = 5;
+    pub const ROOT: u32 = 6;
+    pub const WORK_SIZE: u32 = 7;
+    pub const REPORT: u32 = 8;
+    // of replay_passes
+    pub const INCISE: u32 = 1;
+    pub const SLIDE_PASS: u32 = 2;
+    pub const ROUTE: u32 = 3;
+    // of replay_runs
+    pub const FLUVIAL: u32 = 1;
+    pub const THERMAL: u32 = 2;
+    pub const RELIEF: u32 = 3;
+}
+
 pub struct List {
     program: &'static str,
     asked: Vec<u8>,

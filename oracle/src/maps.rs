@@ -1,15 +1,9 @@
 //! The first part of the list of replay_maps: extent and normalisation of a map, block average, bilinear sample and sum.
-use crate::list::List;
+use crate::list::{call, List};
 use crate::random::Random;
 use crate::rules::{self, Sides};
 use crate::terrain::fault::{COORDINATE, HEIGHT, LENGTH, OTHER_LENGTH, REDUCED, SIDE};
 use crate::terrain::{bad_sides, faults, grid, map, some_spoilt, spoilt, words, FILL, KINDS, TINY};
-
-const GET_MIN_MAX: u32 = 1;
-const NORMALIZE: u32 = 2;
-const DOWNSAMPLE: u32 = 3;
-const ADD_UPSAMPLED: u32 = 4;
-const BILINEAR: u32 = 5;
 
 pub fn list(l: &mut List, r: &mut Random) {
     extents(l, r);
@@ -19,7 +13,7 @@ pub fn list(l: &mut List, r: &mut Random) {
 }
 
 fn get_min_max(l: &mut List, v: &[f32]) {
-    l.ask(&[GET_MIN_MAX, v.len() as u32]);
+    l.ask(&[call::GET_MIN_MAX, v.len() as u32]);
     l.ask_floats(v);
     let a = rules::get_min_max(v);
     l.answer("get_min_max", &a);
@@ -28,7 +22,7 @@ fn get_min_max(l: &mut List, v: &[f32]) {
 }
 
 fn normalize(l: &mut List, v: &[f32], lo: f32, hi: f32) {
-    l.ask(&[NORMALIZE, lo.to_bits(), hi.to_bits(), v.len() as u32]);
+    l.ask(&[call::NORMALIZE, lo.to_bits(), hi.to_bits(), v.len() as u32]);
     l.ask_floats(v);
     let mut out = v.to_vec();
     let a = rules::normalize(&mut out, lo, hi);
@@ -83,7 +77,7 @@ fn reduced(r: &mut Random, size: Sides) -> Sides {
 }
 
 fn downsample(l: &mut List, src: &[f32], size: Sides, len: usize, small: Sides) {
-    l.ask(&[DOWNSAMPLE]);
+    l.ask(&[call::DOWNSAMPLE]);
     l.ask(&words(size));
     l.ask(&words(small));
     l.ask(&[FILL.to_bits(), len as u32, src.len() as u32]);
@@ -95,7 +89,7 @@ fn downsample(l: &mut List, src: &[f32], size: Sides, len: usize, small: Sides) 
 }
 
 fn add_upsampled(l: &mut List, map: &[f32], size: Sides, delta: &[f32], small: Sides) {
-    l.ask(&[ADD_UPSAMPLED]);
+    l.ask(&[call::ADD_UPSAMPLED]);
     l.ask(&words(size));
     l.ask(&words(small));
     l.ask(&[map.len() as u32, delta.len() as u32]);
@@ -108,7 +102,7 @@ fn add_upsampled(l: &mut List, map: &[f32], size: Sides, delta: &[f32], small: S
 }
 
 fn bilinear(l: &mut List, v: &[f32], x: f32, y: f32, size: Sides) {
-    l.ask(&[BILINEAR]);
+    l.ask(&[call::BILINEAR]);
     l.ask(&words(size));
     l.ask(&[x.to_bits(), y.to_bits(), v.len() as u32]);
     l.ask_floats(v);

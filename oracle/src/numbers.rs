@@ -1,12 +1,8 @@
 //! The second part of the list of replay_maps: the square root, the working sides, the stop marks.
-use crate::list::List;
+use crate::list::{call, List};
 use crate::random::Random;
 use crate::rules;
 use crate::source::Record;
-
-const ROOT: u32 = 6;
-const WORK_SIZE: u32 = 7;
-const REPORT: u32 = 8;
 
 pub fn list(l: &mut List, r: &mut Random) {
     roots(l, r);
@@ -15,7 +11,7 @@ pub fn list(l: &mut List, r: &mut Random) {
 }
 
 fn root(l: &mut List, bits: u32) {
-    l.ask(&[ROOT, bits]);
+    l.ask(&[call::ROOT, bits]);
     let a = rules::root(f32::from_bits(bits));
     l.answer("root", &a);
     l.give_floats(&[a.unwrap_or(0.0)]);
@@ -61,7 +57,7 @@ fn roots(l: &mut List, r: &mut Random) {
 }
 
 fn work_size(l: &mut List, w: u32, h: u32, res: u32) {
-    l.ask(&[WORK_SIZE, w, h, res]);
+    l.ask(&[call::WORK_SIZE, w, h, res]);
     let a = rules::work_size((w as usize, h as usize), res);
     l.answer("work_size", &a);
     let (ww, wh) = a.unwrap_or((0, 0));
@@ -119,7 +115,7 @@ fn work_sizes(l: &mut List, r: &mut Random) {
 }
 
 fn report(l: &mut List, m: Record, p: f32, stop: u32) -> Record {
-    l.ask(&[REPORT, m.last.to_bits(), m.asked, m.stopped as u32, p.to_bits(), stop]);
+    l.ask(&[call::REPORT, m.last.to_bits(), m.asked, m.stopped as u32, p.to_bits(), stop]);
     let (a, next) = rules::report(m, p, stop);
     l.answer("report", &a);
     l.give(&[a.unwrap_or(false) as u32]);

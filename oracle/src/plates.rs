@@ -3,7 +3,6 @@ use crate::random::Random;
 use crate::rules;
 use crate::rules::streams::{relief, Asked, Kind};
 use crate::source::erosion::*;
-use crate::source::Record;
 use crate::streams::{stream, EXAMPLE};
 
 #[test]
@@ -32,7 +31,7 @@ fn talus() {
         let h = [1.0, 0.0];
         let mut out = h;
         let s = Talus { threshold, strength: 0.5, water_level };
-        let (on, _) = slide_pass((2, 1), &h, &mut out, &s, (0.0, 1.0), Record::FRESH, 0);
+        let (on, _) = slide_pass((2, 1), &h, &mut out, &Pass::whole(s));
         assert!(on);
         assert_eq!(out, after);
     }

@@ -1,5 +1,5 @@
 //! The last part of the list of replay_passes: the network of a map, answered by the source's `FlowNet::route` itself.
-use crate::list::List;
+use crate::list::{call::ROUTE, List};
 use crate::random::Random;
 use crate::rules::passes::{route as ask_route, RouteRoom};
 use crate::rules::Sides;
@@ -8,8 +8,6 @@ use crate::terrain::{
     bad_length, bad_sides, faults, grid, map, not_finite, relief, some_spoilt, spoilt, water, words, FILL, KINDS,
     RELIEFS, TINY,
 };
-
-const ROUTE: u32 = 3;
 
 pub fn list(l: &mut List, r: &mut Random) {
     plates(l, r);

@@ -1,5 +1,8 @@
 //! The first part of the list of replay_runs: whole fluvial and thermal runs.
-use crate::list::List;
+use crate::list::{
+    call::{FLUVIAL, THERMAL},
+    List,
+};
 use crate::random::Random;
 use crate::rules::runs::{gen_fluvial_erosion, gen_thermal_erosion, Run};
 use crate::rules::Sides;
@@ -9,9 +12,6 @@ use crate::terrain::{
     bad_length, bad_sides, faults, grid, not_finite, outside, relief, spoilt, water, words, EXTREME, FILL, KINDS,
     RELIEFS, TINY,
 };
-
-pub const FLUVIAL: u32 = 1;
-pub const THERMAL: u32 = 2;
 
 /// how many scratch slices a run is lent: four of floats and four of whole numbers, or three of floats
 const FLUVIAL_ROOM: usize = 8;

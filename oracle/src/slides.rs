@@ -1,9 +1,9 @@
 //! The second part of the list of replay_passes: single talus passes with their stop marks.
-use crate::list::List;
+use crate::list::{call::SLIDE_PASS, List};
 use crate::random::Random;
 use crate::rules::passes::slide_pass as ask_slide_pass;
 use crate::rules::Sides;
-use crate::source::erosion::Talus;
+use crate::source::erosion::{Pass, Talus};
 use crate::source::Record;
 use crate::terrain::fault::{HEIGHT, LENGTH, MARKS, SETTING, SIDE};
 use crate::terrain::{
@@ -11,29 +11,25 @@ use crate::terrain::{
     RELIEFS, TINY,
 };
 
-const SLIDE_PASS: u32 = 2;
-
 struct Task {
     size: Sides,
     h: Vec<f32>,
     out: usize,
-    s: Talus,
-    ends: (f32, f32),
-    r: Record,
-    stop: u32,
+    p: Pass,
 }
 
 /// The record after the call.
 fn slide_pass(l: &mut List, t: &Task) -> Record {
     l.ask(&[SLIDE_PASS]);
     l.ask(&words(t.size));
-    l.ask_floats(&[t.s.threshold, t.s.strength, t.s.water_level, t.ends.0, t.ends.1, t.r.last]);
-    l.ask(&[t.r.asked, t.r.stopped as u32, t.stop]);
+    let Pass { s, ends, r, stop } = t.p;
+    l.ask_floats(&[s.threshold, s.strength, s.water_level, ends.0, ends.1, r.last]);
+    l.ask(&[r.asked, r.stopped as u32, stop]);
     l.ask_floats(&[FILL]);
     l.ask(&[t.out as u32, t.h.len() as u32]);
     l.ask_floats(&t.h);
     let mut out = vec![FILL; t.out];
-    let (a, after) = ask_slide_pass(t.size, &t.h, &mut out, &t.s, t.ends, t.r, t.stop);
+    let (a, after) = ask_slide_pass(t.size, &t.h, &mut out, &t.p);
     l.answer("slide_pass", &a);
     l.give_floats(&[after.last]);
     l.give(&[after.asked, after.stopped as u32]);
@@ -66,29 +62,30 @@ fn task(r: &mut Random, size: Sides, kind: usize) -> Task {
     let s = settings(r, 0.0);
     let water_level = water(r, &h);
     let out = h.len();
-    Task { size, h, out, s: Talus { water_level, ..s }, ends: ends(r), r: Record::FRESH, stop: 0 }
+    let p = Pass { ends: ends(r), ..Pass::whole(Talus { water_level, ..s }) };
+    Task { size, h, out, p }
 }
 
 pub fn slides(l: &mut List, r: &mut Random) {
     for (threshold, water_level) in [(0.5, 1.0), (1.0, 1.0), (0.5, 2.0)] {
         let s = Talus { threshold, strength: 0.5, water_level };
         let h = vec![1.0, 0.0];
-        slide_pass(l, &Task { size: (2, 1), h, out: 2, s, ends: (0.0, 1.0), r: Record::FRESH, stop: 0 });
+        slide_pass(l, &Task { size: (2, 1), h, out: 2, p: Pass::whole(s) });
     }
     for i in 0..390 {
         let size = grid(r, i / RELIEFS, if i % 20 == 0 { 34 } else { 10 });
         let mut t = task(r, size, i % RELIEFS);
         if i % 3 > 0 {
-            t.r = record(r);
-            let later = t.r.asked + r.within(2, 9) as u32;
-            t.stop = r.pick(&[0, t.r.asked, t.r.asked + 1, later]);
+            t.p.r = record(r);
+            let later = t.p.r.asked + r.within(2, 9) as u32;
+            t.p.stop = r.pick(&[0, t.p.r.asked, t.p.r.asked + 1, later]);
         }
         slide_pass(l, &t);
     }
     for (size, kind) in [((64, 64), 0), ((4096, 1), 3), ((1, 4096), 0)] {
         let mut t = task(r, size, kind);
-        t.s = Talus { threshold: 0.01, strength: 0.5, water_level: -0.5 };
-        t.ends = (0.0, 1.0);
+        t.p.s = Talus { threshold: 0.01, strength: 0.5, water_level: -0.5 };
+        t.p.ends = (0.0, 1.0);
         slide_pass(l, &t);
     }
     stops(l, r);
@@ -100,17 +97,20 @@ fn stops(l: &mut List, r: &mut Random) {
     for i in 0..14 {
         let size = (r.within(1, 4), r.within(1, 9));
         let mut t = task(r, size, if i % 2 == 0 { EXTREME } else { 0 });
-        t.s.strength = r.pick(&[0.0, 0.5, 1.0]);
-        t.s.water_level = f32::MIN;
-        t.ends = r.pick(&[(0.0, 1.0), (0.25, 0.5), (0.0, 0.04), (1.0, 0.0)]);
+        t.p.s.strength = r.pick(&[0.0, 0.5, 1.0]);
+        t.p.s.water_level = f32::MIN;
+        t.p.ends = r.pick(&[(0.0, 1.0), (0.25, 0.5), (0.0, 0.04), (1.0, 0.0)]);
         if i % 4 == 3 {
-            t.r = Record { last: 0.0, asked: 5, stopped: false };
+            t.p.r = Record { last: 0.0, asked: 5, stopped: false };
         }
         let asked = slide_pass(l, &t).asked;
-        for stop in t.r.asked..=asked + 1 {
-            slide_pass(l, &Task { stop, h: t.h.clone(), ..t });
+        for stop in t.p.r.asked..=asked + 1 {
+            t.p.stop = stop;
+            slide_pass(l, &t);
         }
-        slide_pass(l, &Task { r: Record { stopped: true, ..t.r }, h: t.h.clone(), ..t });
+        t.p.stop = 0;
+        t.p.r.stopped = true;
+        slide_pass(l, &t);
     }
 }
 
@@ -118,23 +118,23 @@ fn refusals(l: &mut List, r: &mut Random) {
     for f in faults(&[SIDE, LENGTH, SETTING, MARKS, HEIGHT]).repeat(10) {
         let size = (r.within(1, 4), r.within(2, 4));
         let mut t = task(r, size, 0);
-        t.r = record(r);
+        t.p.r = record(r);
         if f & HEIGHT != 0 {
             t.h = spoilt(r, &t.h);
         }
         if f & SETTING != 0 {
             match r.below(3) {
-                0 => t.s.threshold = outside(r, 0.0, 16.0),
-                1 => t.s.strength = outside(r, 0.0, 1.0),
-                _ => t.s.water_level = not_finite(r),
+                0 => t.p.s.threshold = outside(r, 0.0, 16.0),
+                1 => t.p.s.strength = outside(r, 0.0, 1.0),
+                _ => t.p.s.water_level = not_finite(r),
             }
         }
         if f & MARKS != 0 {
             match r.below(4) {
-                0 => t.ends.0 = outside(r, 0.0, 1.0),
-                1 => t.ends.1 = outside(r, 0.0, 1.0),
-                2 => t.r.last = outside(r, -1.0, 1.0),
-                _ => t.r.asked = r.pick(&[(1 << 31) + 1, u32::MAX]),
+                0 => t.p.ends.0 = outside(r, 0.0, 1.0),
+                1 => t.p.ends.1 = outside(r, 0.0, 1.0),
+                2 => t.p.r.last = outside(r, -1.0, 1.0),
+                _ => t.p.r.asked = r.pick(&[(1 << 31) + 1, u32::MAX]),
             }
         }
         if f & LENGTH != 0 {

@@ -1,15 +1,13 @@
 //! The second part of the list of replay_runs: streams, whole and damaged, with what `relief` prints.
 mod damage;
 
-use crate::list::List;
+use crate::list::{call, List};
 use crate::random::Random;
 use crate::rules::streams::{grid_record, relief, row_records, Asked, Kind, Printed, FLUVIAL, THERMAL};
 use crate::rules::Sides;
 use crate::runs::{self, Maker, Task};
 use crate::source::erosion::Settings;
 use crate::terrain::{self, grid, EXTREME, KINDS, RELIEFS, TINY};
-
-const RELIEF: u32 = 3;
 
 const BOTH: [Kind; 2] = [Kind::Fluvial, Kind::Thermal];
 
@@ -47,21 +45,21 @@ fn asked(kind: Kind, size: Sides, s: Settings, map: Vec<f32>) -> Asked {
 
 /// A task of replay_runs as a stream.
 fn task(t: Task) -> Asked {
-    let kind = if t.call == runs::FLUVIAL { Kind::Fluvial } else { Kind::Thermal };
+    let kind = if t.call == call::FLUVIAL { Kind::Fluvial } else { Kind::Thermal };
     Asked { kind, size: t.size, s: t.s, stop: t.stop, map: t.map }
 }
 
 fn call(kind: Kind) -> u32 {
     match kind {
-        Kind::Fluvial => runs::FLUVIAL,
-        Kind::Thermal => runs::THERMAL,
+        Kind::Fluvial => call::FLUVIAL,
+        Kind::Thermal => call::THERMAL,
     }
 }
 
 /// A stream of the list, counted by what it comes to.
 fn put(l: &mut List, bytes: &[u8]) -> Printed {
     let p = relief(bytes);
-    l.ask(&[RELIEF]);
+    l.ask(&[call::RELIEF]);
     l.ask_bytes(bytes);
     l.give_bytes(&p.bytes);
     let name = match &p.ran {

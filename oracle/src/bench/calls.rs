@@ -1,6 +1,6 @@
 //! The library's calls as crates/harness exports them: a slice passes as pointer and length, and each gives an answer in one
 //! word, document 01's number × 2^32 plus the place that it carries, 0 if none refuses.
-use crate::source::erosion::{Incision, Talus};
+use crate::source::erosion::{Incision, Pass};
 use crate::source::Record;
 
 type Sides = (usize, usize);
@@ -153,16 +153,8 @@ pub fn root(x: f32) -> u64 {
 }
 
 /// A pass of `hmap` into `out`, reported between the ends, and the record after it.
-pub fn slide_pass(
-    size: Sides,
-    hmap: &[f32],
-    out: &mut [f32],
-    s: &Talus,
-    ends: (f32, f32),
-    r: Record,
-    stop: u32,
-) -> (u64, Record) {
-    let mut r = r;
+pub fn slide_pass(size: Sides, hmap: &[f32], out: &mut [f32], p: &Pass) -> (u64, Record) {
+    let Pass { s, ends, mut r, stop } = *p;
     let word = lend!(exported::harness_slide_pass; value [size.0, size.1] read [hmap] write [out]
         value [s.threshold, s.strength, s.water_level, ends.0, ends.1, &mut r.last, &mut r.asked, &mut r.stopped, stop]);
     (word, r)

@@ -4,7 +4,7 @@ use crate::calls::{self, Network};
 use crate::random::Random;
 use crate::rules::passes::{self as rules, RouteRoom};
 use crate::rules::Sides;
-use crate::source::erosion::{Incision, Talus};
+use crate::source::erosion::{Incision, Pass, Talus};
 use crate::source::Record;
 use crate::terrain::{bad_length, bad_sides, grid, not_finite, outside, relief, spoilt, water, FILL, RELIEFS};
 
@@ -185,19 +185,11 @@ pub fn incise(t: &mut Tally, r: &mut Random, i: usize) {
     incised(t, "incise, any receivers and list", &l, &s, &Lent { recv: &net.recv, list: &net.order, out, area });
 }
 
-/// A pass and what it is asked.
-struct Pass {
-    s: Talus,
-    ends: (f32, f32),
-    r: Record,
-    stop: u32,
-    out: usize,
-}
-
-fn slid(t: &mut Tally, l: &Land, p: &Pass) -> Record {
-    let (mut ours, mut theirs) = (vec![FILL; p.out], vec![FILL; p.out]);
-    let (a, after) = rules::slide_pass(l.size, &l.h, &mut theirs, &p.s, p.ends, p.r, p.stop);
-    let (w, left) = calls::slide_pass(l.size, &l.h, &mut ours, &p.s, p.ends, p.r, p.stop);
+/// A pass into a result of some length.
+fn slid(t: &mut Tally, l: &Land, p: &Pass, out: usize) -> Record {
+    let (mut ours, mut theirs) = (vec![FILL; out], vec![FILL; out]);
+    let (a, after) = rules::slide_pass(l.size, &l.h, &mut theirs, p);
+    let (w, left) = calls::slide_pass(l.size, &l.h, &mut ours, p);
     let record = |m: Record| (m.last.to_bits(), m.asked, m.stopped);
     // the result slice counts as scratch on 21 and 22
     let alike = w == word(&a, |_| 0) && record(left) == record(after) && (number(&a) > 20 || same(&ours, &theirs));
@@ -230,7 +222,7 @@ pub fn slide(t: &mut Tally, r: &mut Random, i: usize) {
     let later = m.asked.wrapping_add(r.within(1, 12) as u32);
     let stop = r.pick(&[0, m.asked, later]);
     let out = if r.below(40) == 0 { bad_length(r, n) } else { l.h.len() };
-    slid(t, &l, &Pass { s, ends, r: m, stop, out });
+    slid(t, &l, &Pass { s, ends, r: m, stop }, out);
 }
 
 /// A large grid: its network, an incision along both lists, a pass to the end and one that stops at a random question.
@@ -242,9 +234,8 @@ pub fn large(t: &mut Tally, r: &mut Random, size: Sides, h: Vec<f32>, water_leve
     let s = Incision { k: 4.8 * scale, uplift: 0.001, water_level };
     both_lists(t, r, &l, &s, &net);
     drop(net);
-    let s = Talus { threshold: 0.0075 / scale, strength: 0.5, water_level };
-    let mut p = Pass { s, ends: (0.0, 1.0), r: Record::FRESH, stop: 0, out: n };
-    let asked = slid(t, &l, &p).asked;
+    let mut p = Pass::whole(Talus { threshold: 0.0075 / scale, strength: 0.5, water_level });
+    let asked = slid(t, &l, &p, n).asked;
     p.stop = r.within(1, asked.max(1) as usize) as u32;
-    slid(t, &l, &p);
+    slid(t, &l, &p, n);
 }

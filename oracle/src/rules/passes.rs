@@ -1,6 +1,6 @@
 //! Routing and single passes behind their refusals. A result slice is given as it is before the call.
 use super::{heights, length, record_ok, refuse, run_off, scratch, setting, sides, within, Answer, Refusal, Sides};
-use crate::source::erosion::{self, Incision, Routed, Talus};
+use crate::source::erosion::{self, Incision, Pass, Routed};
 use crate::source::Record;
 
 /// The lengths of the slices that `route` is lent beside the heights.
@@ -83,25 +83,18 @@ pub fn incise(
 }
 
 /// One pass into `out`, whose content is free on 21 and 22, and the record; on 1 to 5 the record as given.
-pub fn slide_pass(
-    size: Sides,
-    h: &[f32],
-    out: &mut [f32],
-    s: &Talus,
-    ends: (f32, f32),
-    r: Record,
-    stop: u32,
-) -> (Answer<()>, Record) {
-    if let Err(e) = slide_refusal(size, h, out, s, ends, r) {
-        return (Err(e), r);
+pub fn slide_pass(size: Sides, h: &[f32], out: &mut [f32], p: &Pass) -> (Answer<()>, Record) {
+    if let Err(e) = slide_refusal(size, h, out, p) {
+        return (Err(e), p.r);
     }
     out.copy_from_slice(h);
-    let (on, after) = erosion::slide_pass(size, h, out, s, ends, r, stop);
+    let (on, after) = erosion::slide_pass(size, h, out, p);
     // a stop inside a pass that would run off comes first
     (if on { run_off(out) } else { refuse(21) }, after)
 }
 
-fn slide_refusal(size: Sides, h: &[f32], out: &[f32], s: &Talus, ends: (f32, f32), r: Record) -> Answer<()> {
+fn slide_refusal(size: Sides, h: &[f32], out: &[f32], p: &Pass) -> Answer<()> {
+    let Pass { s, ends, r, .. } = *p;
     sides(size)?;
     length(size, h.len())?;
     length(size, out.len())?;

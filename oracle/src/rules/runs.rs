@@ -162,27 +162,36 @@ fn agrees(ours: &[f32], r: Record, run: &Run, source: &[f32], theirs: Record) {
     }
 }
 
-pub fn gen_fluvial_erosion(size: Sides, map: &mut [f32], s: &Settings, stop: u32, room: &[usize]) -> Run {
-    if let Err(e) = accepted(size, map, s, room) {
+/// A whole run where the call accepts it: `steps` drives it step by step on the map, `source` runs the source's own on a copy.
+fn whole(
+    accepted: Answer<()>,
+    map: &mut [f32],
+    steps: impl FnOnce(&mut [f32]) -> (Run, Record),
+    source: impl FnOnce(&mut [f32]) -> Record,
+) -> Run {
+    if let Err(e) = accepted {
         return refused(Err(e));
     }
-    let (work, params) = fluvial::fluvial_plan(size, &fluvial_conf(s), s.water_level);
-    let mut whole = map.to_vec();
-    let (ended, r) = run(size, work, map, stop, |c| c.fluvial(&params));
-    let theirs = erosion::gen_fluvial_erosion(size, &mut whole, s, stop);
-    agrees(map, r, &ended, &whole, theirs);
+    let mut copy = map.to_vec();
+    let (ended, r) = steps(map);
+    let theirs = source(&mut copy);
+    agrees(map, r, &ended, &copy, theirs);
     ended
+}
+
+pub fn gen_fluvial_erosion(size: Sides, map: &mut [f32], s: &Settings, stop: u32, room: &[usize]) -> Run {
+    let steps = |map: &mut [f32]| {
+        let (work, params) = fluvial::fluvial_plan(size, &fluvial_conf(s), s.water_level);
+        run(size, work, map, stop, |c| c.fluvial(&params))
+    };
+    whole(accepted(size, map, s, room), map, steps, |m| erosion::gen_fluvial_erosion(size, m, s, stop))
 }
 
 /// The uplift of the settings is no part of a thermal run.
 pub fn gen_thermal_erosion(size: Sides, map: &mut [f32], s: &Settings, stop: u32, room: &[usize]) -> Run {
-    if let Err(e) = accepted(size, map, s, room) {
-        return refused(Err(e));
-    }
-    let (work, params) = thermal::thermal_plan(size, &thermal_conf(s), s.water_level);
-    let mut whole = map.to_vec();
-    let (ended, r) = run(size, work, map, stop, |c| c.thermal(&params));
-    let theirs = erosion::gen_thermal_erosion(size, &mut whole, s, stop);
-    agrees(map, r, &ended, &whole, theirs);
-    ended
+    let steps = |map: &mut [f32]| {
+        let (work, params) = thermal::thermal_plan(size, &thermal_conf(s), s.water_level);
+        run(size, work, map, stop, |c| c.thermal(&params))
+    };
+    whole(accepted(size, map, s, room), map, steps, |m| erosion::gen_thermal_erosion(size, m, s, stop))
 }

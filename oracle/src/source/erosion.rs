@@ -41,19 +41,28 @@ pub struct Talus {
     pub water_level: f32,
 }
 
+/// A talus pass: its settings, the ends that it reports between, the record before it, and S.
+#[derive(Clone, Copy)]
+pub struct Pass {
+    pub s: Talus,
+    pub ends: (f32, f32),
+    pub r: Record,
+    pub stop: u32,
+}
+
+impl Pass {
+    /// One that reports from 0 to 1, from the fresh record, and is never stopped.
+    #[allow(dead_code)]
+    pub fn whole(s: Talus) -> Pass {
+        Pass { s, ends: (0.0, 1.0), r: Record::FRESH, stop: 0 }
+    }
+}
+
 /// One pass into `out`, a copy of `h` at entry: whether it came to its end, and the record.
-pub fn slide_pass(
-    size: Sides,
-    h: &[f32],
-    out: &mut [f32],
-    s: &Talus,
-    ends: (f32, f32),
-    r: Record,
-    stop: u32,
-) -> (bool, Record) {
-    let params = thermal::pass_params(s.threshold, s.strength, s.water_level);
-    let mut marks = Marks::new(r, stop);
-    let on = thermal::pass(size, h, out, &params, ends, &mut marks.progress);
+pub fn slide_pass(size: Sides, h: &[f32], out: &mut [f32], p: &Pass) -> (bool, Record) {
+    let params = thermal::pass_params(p.s.threshold, p.s.strength, p.s.water_level);
+    let mut marks = Marks::new(p.r, p.stop);
+    let on = thermal::pass(size, h, out, &params, p.ends, &mut marks.progress);
     (on, marks.record())
 }
 
