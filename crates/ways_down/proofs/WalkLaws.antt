@@ -1,5 +1,5 @@
 -- A walk down from a cell and back up: how it starts, goes on, turns and ends.
-use Prim.Native.Nat.{ℕ, zero, suc, _+_, _-_, _*_, _≤_, _<_}
+use Prim.Native.Nat.{ℕ, _+_, _-_, _*_, _≤_, _<_}
 use native.Mathlib.Omega.{arith}
 use native.Mathlib.Decide.{decLt, ℕ-discrete}
 use mathlib.Core.Path.{_≡_, refl, sym, ap, _∙_, subst}
@@ -7,12 +7,12 @@ use mathlib.Core.Bool.{Bool, true, false, not, cond, true≢false}
 use mathlib.Core.List.{List, [], _∷_}
 use lib.ListN.{length, getD, set, replicate, length-set, length-replicate, getD-replicate, List·getD-eq-default}
 use lib.Seq.{getD-set-same, getD-set-other}
-use lib.Dec.{T, eqb}
+use lib.Dec.{T}
 use lib.Ieee.{Float, nan, binary32, ofBits, toBits, isNan, lt, le}
 use lib.Ieee.Bits.{toBits-ofBits, nanBits-is}
 use borrow.Author.Tests.{eq-eqb, ne-eqb}
 use Rattle.floats.proofs.BitsLaws.{no-nan-pattern}
-use Rattle.drainage.specs.Ways.{one, times}
+use Rattle.drainage.specs.Ways.{times}
 use Rattle.drainage.proofs.TallyLaws.{one-same, one-other}
 use Rattle.drainage.proofs.WorkListLaws.{receiver-lt}
 use Rattle.ways_down.specs.Walk.{isMade, endsAt, Ordered, Held, Upto, Trail, starts, onward, Descent, Descended, Ascent}

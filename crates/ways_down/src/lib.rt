@@ -95,7 +95,7 @@ fn walk_down(recv: &[u32], out: &mut [f32], i: usize) -> Stop
     }
 }
 
-// Walks back up to cell i, and incises each cell on the way.
+// Walks back up to cell i, and incises each cell on the way: at one place of the loop, so that it is compiled into it.
 fn walk_up(
     by: Incision,
     ds: &[f32; 5],
