@@ -3,6 +3,7 @@
 use answers::Answer;
 use answers::Value;
 use floats::from_bits;
+use floats::to_bits;
 use generators::Extent;
 use generators::Go;
 use generators::Progress;
@@ -10,10 +11,10 @@ use grid::Sides;
 use resample::Work;
 use words::answer_words;
 use words::bytes_held;
-use words::flag_word;
 use words::float_room;
 use words::floats_held;
 use words::low_word;
+use words::progress_words;
 
 // The next word of the input, 0 once it has ended.
 fn word() -> u32 {
@@ -52,29 +53,43 @@ fn put_answer(a: Answer) {
     put(&answer_words(a));
 }
 
-fn put_value(v: Value) {
+// An answer with one number, or with two.
+fn with_one(a: Answer, x: u32) -> [u32; 3] {
+    let w = answer_words(a);
+    [w[0], w[1], x]
+}
+
+fn with_two(a: Answer, x: u32, y: u32) -> [u32; 4] {
+    let w = answer_words(a);
+    [w[0], w[1], x, y]
+}
+
+fn value_words(v: Value) -> [u32; 3] {
     match v {
-        Value::Given(x) => {
-            put_answer(Answer::Done);
-            put_floats(&[x]);
-        }
-        Value::Refused(r) => {
-            put_answer(Answer::Refused(r));
-            put(&[0]);
-        }
+        Value::Given(x) => with_one(Answer::Done, to_bits(x)),
+        Value::Refused(r) => with_one(Answer::Refused(r), 0),
     }
 }
 
-fn put_extent(e: Extent) {
+fn extent_words(e: Extent) -> [u32; 4] {
     match e {
-        Extent::Of(m) => {
-            put_answer(Answer::Done);
-            put_floats(&[m.min, m.max]);
-        }
-        Extent::Refused(r) => {
-            put_answer(Answer::Refused(r));
-            put(&[0, 0]);
-        }
+        Extent::Of(m) => with_two(Answer::Done, to_bits(m.min), to_bits(m.max)),
+        Extent::Refused(r) => with_two(Answer::Refused(r), 0, 0),
+    }
+}
+
+fn work_words(w: Work) -> [u32; 4] {
+    match w {
+        Work::Of(size) => with_two(Answer::Done, low_word(size.w), low_word(size.h)),
+        Work::Refused(r) => with_two(Answer::Refused(r), 0, 0),
+    }
+}
+
+fn go_words(go: Go) -> [u32; 3] {
+    match go {
+        Go::On => with_one(Answer::Done, 1),
+        Go::Stop => with_one(Answer::Done, 0),
+        Go::Refused(r) => with_one(Answer::Refused(r), 0),
     }
 }
 
@@ -83,7 +98,7 @@ fn replay_get_min_max() {
     let n = floats_held(word(), &space);
     let v = &mut space[..n];
     read_floats(v);
-    put_extent(generators::get_min_max(v));
+    put(&extent_words(generators::get_min_max(v)));
 }
 
 fn replay_normalize() {
@@ -135,36 +150,16 @@ fn replay_bilinear() {
     let n = floats_held(word(), &space);
     let v = &mut space[..n];
     read_floats(v);
-    put_value(bilinear::bilinear(v, x, y, size));
+    put(&value_words(bilinear::bilinear(v, x, y, size)));
 }
 
 fn replay_root() {
-    put_value(square_root::root(from_bits(word())));
+    put(&value_words(square_root::root(from_bits(word()))));
 }
 
 fn replay_work_size() {
     let size = next_sides();
-    match resample::work_size(size, word()) {
-        Work::Of(size) => {
-            put_answer(Answer::Done);
-            put(&[low_word(size.w), low_word(size.h)]);
-        }
-        Work::Refused(r) => {
-            put_answer(Answer::Refused(r));
-            put(&[0, 0]);
-        }
-    }
-}
-
-fn put_go(go: Go) {
-    match go {
-        Go::On => put(&[0, 0, 1]),
-        Go::Stop => put(&[0, 0, 0]),
-        Go::Refused(r) => {
-            put_answer(Answer::Refused(r));
-            put(&[0]);
-        }
-    }
+    put(&work_words(resample::work_size(size, word())));
 }
 
 fn replay_report() {
@@ -178,10 +173,9 @@ fn replay_report() {
         stopped,
     }.report(p, word());
     let go = reported.go;
-    put_go(go);
+    put(&go_words(go));
     let progress = reported.progress;
-    put_floats(&[progress.last]);
-    put(&[progress.asked, flag_word(progress.stopped)]);
+    put(&progress_words(progress));
 }
 
 // Replays one task. Answers false at the end of the list.

@@ -10,9 +10,9 @@ use words::answer_words;
 use words::bytes_held;
 use words::cell_room;
 use words::cells_held;
-use words::flag_word;
 use words::float_room;
 use words::floats_held;
+use words::progress_words;
 use words::state_room;
 
 // The next word of the input, 0 once it has ended.
@@ -132,11 +132,6 @@ fn next_progress() -> Progress {
     }
 }
 
-fn put_progress(m: Progress) {
-    put_floats(&[m.last]);
-    put(&[m.asked, flag_word(m.stopped)]);
-}
-
 fn replay_slide_pass() {
     let size = next_sides();
     let params = next_talus();
@@ -154,7 +149,8 @@ fn replay_slide_pass() {
     let slid = thermal_erosion::slide_pass(size, h, out, params, from, to, m, stop);
     let answer = slid.answer;
     put_answer(answer);
-    put_progress(slid.progress);
+    let progress = slid.progress;
+    put(&progress_words(progress));
     put_result(answer, out);
 }
 

@@ -8,6 +8,7 @@ use lib.ListN.{length, getD, take}
 use lib.Ieee.{Float, nan, binary32, ofBits, toBits}
 use Rattle.answers.specs.Outcome.{numberIn, placeIn, answerOf}
 use Rattle.answers.specs.declared.Answer.{Answer}
+use Rattle.generators.specs.declared.Progress.{Progress}
 use Rattle.stream_bytes.specs.Bytes.{number4, bytes4}
 
 -- n counts values at the front of a list; the second part follows from the first, and both are what a part of a slice asks
@@ -41,3 +42,7 @@ fitting v b = min (length v) (length b / 4)
 -- the number of an answer and the place that it carries
 abbrev pub answerWords : Answer → List ℕ
 answerWords a = numberIn (answerOf a) ∷ placeIn (answerOf a) % 0x1_0000_0000 ∷ []
+
+-- the bits of the last p, the questions asked, and 1 for a stopped record
+abbrev pub progressWords : Progress → List ℕ
+progressWords m = toBits binary32 (m .last) ∷ m .asked ∷ cond (m .stopped) 1 0 ∷ []

@@ -4,6 +4,7 @@ use answers::number;
 use answers::place;
 use floats::from_bits;
 use floats::to_bits;
+use generators::Progress;
 use stream_bytes::put_u32;
 use stream_bytes::read_u32;
 ghost use mathlib.Core.Path.{_≡_};
@@ -12,7 +13,7 @@ ghost use mathlib.Core.Bool.{cond};
 ghost use lib.ListN.{length, replicate};
 ghost use lib.Seq.{sets};
 ghost use Rattle.lists.specs.Loops.{tabulate};
-ghost use Rattle.words.specs.Words.{wordAt, floatAt, bitsAt, cellAt, wordBytes, fitting, answerWords, Part};
+ghost use Rattle.words.specs.Words.{wordAt, floatAt, bitsAt, cellAt, wordBytes, fitting, answerWords, progressWords, Part};
 
 // 10,500 values, as many as the longest slice of the lists has, each x.
 pub fn float_room(x: f32) -> [f32; 10500]
@@ -160,15 +161,23 @@ pub fn answer_words(a: Answer) -> [u32; 2]
     }
 }
 
-// The low word of a length, and the word of a truth: 1 or 0.
+// The low word of a length.
 pub fn low_word(x: usize) -> u32
     ensures { λ r. ⌜ r ≡ x % 0x1_0000_0000 ⌝ }
 {
     (x % 0x1_0000_0000) as u32
 }
 
-pub fn flag_word(x: bool) -> u32
+// The word of a truth.
+fn flag_word(x: bool) -> u32
     ensures { λ r. ⌜ r ≡ cond x 1 0 ⌝ }
 {
     if x { 1 } else { 0 }
+}
+
+// The words of a record of stop marks.
+pub fn progress_words(m: Progress) -> [u32; 3]
+    ensures { λ r. ⌜ r ≡ progressWords m ⌝ }
+{
+    [to_bits(m.last), m.asked, flag_word(m.stopped)]
 }
