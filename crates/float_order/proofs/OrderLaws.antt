@@ -1,8 +1,8 @@
 -- Numbers compare as their ranks do.
-use mathlib.Core.Path.{_≡_, refl, sym, ap, ap₂, _∙_, subst₂}
+use mathlib.Core.Path.{_≡_, refl, sym, ap, ap₂, _∙_}
 use mathlib.Core.Bool.{Bool, true, false, not, _&&_, _||_, Bool·beq, and-true}
 use Prim.Native.Nat.{ℕ, _+_, _*_, _^_, _≤_, _<_}
-use native.Mathlib.Nat.{mul-right-comm, mul-assoc, mul-comm, zero-mul, add-mul, mul-pos, mul-lt-mul-of-pos-right, lt-of-mul-lt-mul-right, eq-of-mul-eq-mul-right}
+use native.Mathlib.Nat.{mul-right-comm, mul-assoc, mul-comm, mul-pos}
 use native.Mathlib.Omega.{arith}
 use borrow.Author.Tests.{lt-ltb, le-ltb, ne-eqb, le-leb, lt-leb, ltb-true, ltb-false, eqb-true, eqb-false}
 use lib.Dec.{T, ltb, leb, eqb, ltb→lt, lt→ltb, eqb→eq}
@@ -10,7 +10,7 @@ use lib.IntN.{ℤ}
 use lib.Pow.{pow-pos}
 use lib.Ieee.{Float, nan, inf, fin, binary32, up, down, below, level, lt, le, eq, fits, isNan}
 use lib.Ieee.Fits.{down-pos, eq→eqb, and-i, and-l, and-r}
-use Rattle.floats.proofs.ValueLaws.{same-test}
+use Rattle.floats.proofs.ValueLaws.{same-test, below-scaled, level-scaled}
 use Rattle.float_order.specs.Order.{Number, signOf, unitsOf, signed, rank}
 use Rattle.float_order.proofs.SizeLaws.{rank-is, units-exact, units-lt, units-le}
 
@@ -20,42 +20,17 @@ same-lt a b u v f g = same-test (ltb a b) (ltb u v) (λ t. lt→ltb u v (f (ltb�
 same-eq : (a b u v : ℕ) → (a ≡ b → u ≡ v) → (u ≡ v → a ≡ b) → eqb a b ≡ eqb u v
 same-eq a b u v f g = same-test (eqb a b) (eqb u v) (λ t. eq→eqb (f (eqb→eq a b t))) (λ t. eq→eqb (g (eqb→eq u v t)))
 
--- ---- A and B are a and b in another unit: they compare alike
-
-scaled-lt : (A B a b L D : ℕ) → 0 < L → A * L ≡ a * D → B * L ≡ b * D → A < B → a < b
-scaled-lt A B a b L D l p q h = lt-of-mul-lt-mul-right D (subst₂ (λ (x y : ℕ). x < y) p q (mul-lt-mul-of-pos-right h l))
-
-scaled-eq : (A B a b L D : ℕ) → 0 < D → A * L ≡ a * D → B * L ≡ b * D → A ≡ B → a ≡ b
-scaled-eq A B a b L D d p q h = eq-of-mul-eq-mul-right D d a b (sym p ∙ ap (λ (z : ℕ). z * L) h ∙ q)
-
-ltb-scaled : (A B a b L D : ℕ) → 0 < L → 0 < D → A * L ≡ a * D → B * L ≡ b * D → ltb A B ≡ ltb a b
-ltb-scaled A B a b L D l d p q = same-lt A B a b (scaled-lt A B a b L D l p q) (scaled-lt a b A B D L d (sym p) (sym q))
-
-eqb-scaled : (A B a b L D : ℕ) → 0 < L → 0 < D → A * L ≡ a * D → B * L ≡ b * D → eqb A B ≡ eqb a b
-eqb-scaled A B a b L D l d p q = same-eq A B a b (scaled-eq A B a b L D d p q) (scaled-eq a b A B D L l (sym p) (sym q))
-
-below-scaled : (s t : Bool) (A B a b L D : ℕ) → 0 < L → 0 < D → A * L ≡ a * D → B * L ≡ b * D → below s A t B ≡ below s a t b
-below-scaled false false A B a b L D l d p q = ltb-scaled A B a b L D l d p q
-below-scaled false true A B a b L D l d p q = refl
-below-scaled true false A B a b L D l d p q =
-    ltb-scaled 0 (A + B) 0 (a + b) L D l d (zero-mul L ∙ sym (zero-mul D)) (add-mul A B L ∙ ap₂ (λ (x y : ℕ). x + y) p q ∙ sym (add-mul a b D))
-below-scaled true true A B a b L D l d p q = ltb-scaled B A b a L D l d q p
-
-level-scaled : (s t : Bool) (A B a b L D : ℕ) → 0 < L → 0 < D → A * L ≡ a * D → B * L ≡ b * D → level s A t B ≡ level s a t b
-level-scaled s t A B a b L D l d p q =
-    ap₂ (λ (u v : Bool). u && (Bool·beq s t || v)) (eqb-scaled A B a b L D l d p q) (eqb-scaled A 0 a 0 L D l d p (zero-mul L ∙ sym (zero-mul D)))
-
 -- ---- numbers compare as their signs and sizes do
 
 -- a / e and b / d over one denominator: the two numbers that `lt` and `eq` compare, in units
-in-units : (P : ℕ → ℕ → ℕ → ℕ → Type 0) → ((A B a b L D : ℕ) → 0 < L → 0 < D → A * L ≡ a * D → B * L ≡ b * D → P A B a b) → (s t : Bool) (m n : ℕ) (e d : ℤ)
+in-units : (P : ℕ → ℕ → ℕ → ℕ → Type 0) → ((A B a b L D : ℕ) → A * L ≡ a * D → B * L ≡ b * D → 0 < L → 0 < D → P A B a b) → (s t : Bool) (m n : ℕ) (e d : ℤ)
     → T (fits binary32 (fin s m e)) → T (fits binary32 (fin t n d)) → P (m * up e * down d) (n * up d * down e) (unitsOf (fin s m e)) (unitsOf (fin t n d))
 in-units P f s t m n e d p q =
     let a = unitsOf (fin s m e) in
     let b = unitsOf (fin t n d) in
-    f (m * up e * down d) (n * up d * down e) a b (2 ^ 149) (down e * down d) (pow-pos 149) (mul-pos (down-pos e) (down-pos d))
+    f (m * up e * down d) (n * up d * down e) a b (2 ^ 149) (down e * down d)
     (over (m * up e) (2 ^ 149) a (down d) (down e) (units-exact s m e p))
-    (over (n * up d) (2 ^ 149) b (down e) (down d) (units-exact t n d q) ∙ ap (λ (z : ℕ). b * z) (mul-comm (down d) (down e)))
+    (over (n * up d) (2 ^ 149) b (down e) (down d) (units-exact t n d q) ∙ ap (λ (z : ℕ). b * z) (mul-comm (down d) (down e))) (pow-pos 149) (mul-pos (down-pos e) (down-pos d))
   where
     over : (u L a d e : ℕ) → a * e ≡ u * L → u * d * L ≡ a * (e * d)
     over u L a d e h = mul-right-comm u d L ∙ ap (λ (z : ℕ). z * d) (sym h) ∙ mul-assoc a e d
@@ -73,19 +48,44 @@ below-inf B u true false h = sym (lt-ltb 0 (u + B) (omega arith))
 below-inf B u false true h = refl
 below-inf B u false false h = sym (lt-ltb u B h)
 
+-- A comparison of numbers, case by case: it says what `test` says of their signs and sizes.
+record Compares (compare : Float → Float → Bool) (test : Bool → ℕ → Bool → ℕ → Bool) : Type 0 where
+  infinities : (s t : Bool) → compare (inf s) (inf t) ≡ test s (2 ^ 277) t (2 ^ 277)
+  left : (s t : Bool) (n : ℕ) (d : ℤ) → unitsOf (fin t n d) < 2 ^ 277 → compare (inf s) (fin t n d) ≡ test s (2 ^ 277) t (unitsOf (fin t n d))
+  right : (s t : Bool) (m : ℕ) (e : ℤ) → unitsOf (fin s m e) < 2 ^ 277 → compare (fin s m e) (inf t) ≡ test s (unitsOf (fin s m e)) t (2 ^ 277)
+  finites : (s t : Bool) (m n : ℕ) (e d : ℤ) → compare (fin s m e) (fin t n d) ≡ test s (m * up e * down d) t (n * up d * down e)
+  scaled : (s t : Bool) (A B a b L D : ℕ) → A * L ≡ a * D → B * L ≡ b * D → 0 < L → 0 < D → test s A t B ≡ test s a t b
+
+compares : {compare : Float → Float → Bool} {test : Bool → ℕ → Bool → ℕ → Bool} → Compares compare test
+    → (x y : Float) → Number x → Number y → compare x y ≡ test (signOf x) (unitsOf x) (signOf y) (unitsOf y)
+unfolding isNan
+compares k nan y p q = absurd (p .real)
+compares k (inf s) nan p q = absurd (q .real)
+compares k (inf s) (inf t) p q = k .infinities s t
+compares k (inf s) (fin t n d) p q = k .left s t n d (units-lt t n d (q .fit))
+compares k (fin s m e) nan p q = absurd (q .real)
+compares k (fin s m e) (inf t) p q = k .right s t m e (units-lt s m e (p .fit))
+compares {test = test} k (fin s m e) (fin t n d) p q =
+    k .finites s t m n e d ∙ in-units (λ (A B a b : ℕ). test s A t B ≡ test s a t b) (k .scaled s t) s t m n e d (p .fit) (q .fit)
+
+below-infinities : (s t : Bool) → lt (inf s) (inf t) ≡ below s (2 ^ 277) t (2 ^ 277)
+unfolding lt
+below-infinities true true = refl
+below-infinities true false = refl
+below-infinities false true = refl
+below-infinities false false = refl
+
 lt-below : (x y : Float) → Number x → Number y → lt x y ≡ below (signOf x) (unitsOf x) (signOf y) (unitsOf y)
-unfolding lt isNan
-lt-below nan y p q = absurd (p .real)
-lt-below (inf s) nan p q = absurd (q .real)
-lt-below (inf true) (inf true) p q = refl
-lt-below (inf true) (inf false) p q = refl
-lt-below (inf false) (inf true) p q = refl
-lt-below (inf false) (inf false) p q = refl
-lt-below (inf s) (fin t n d) p q = inf-below (2 ^ 277) (unitsOf (fin t n d)) s t (units-lt t n d (q .fit))
-lt-below (fin s m e) nan p q = absurd (q .real)
-lt-below (fin s m e) (inf t) p q = below-inf (2 ^ 277) (unitsOf (fin s m e)) s t (units-lt s m e (p .fit))
-lt-below (fin s m e) (fin t n d) p q =
-    in-units (λ (A B a b : ℕ). below s A t B ≡ below s a t b) (below-scaled s t) s t m n e d (p .fit) (q .fit)
+unfolding lt
+lt-below =
+    compares
+    (record {
+      infinities = below-infinities;
+      left = λ s t n d l. inf-below (2 ^ 277) (unitsOf (fin t n d)) s t l;
+      right = λ s t m e l. below-inf (2 ^ 277) (unitsOf (fin s m e)) s t l;
+      finites = λ s t m n e d. refl;
+      scaled = below-scaled;
+    })
 
 not-level : (s t : Bool) (a b : ℕ) → (a ≡ b → ⊥) → false ≡ level s a t b
 not-level s t a b h = sym (ap (λ (u : Bool). u && (Bool·beq s t || eqb a 0)) (ne-eqb a b h))
@@ -93,20 +93,24 @@ not-level s t a b h = sym (ap (λ (u : Bool). u && (Bool·beq s t || eqb a 0)) (
 apart : (B u : ℕ) → u < B → B ≡ u → ⊥
 apart B u h e = omega arith
 
+level-infinities : (s t : Bool) → eq (inf s) (inf t) ≡ level s (2 ^ 277) t (2 ^ 277)
+unfolding eq
+level-infinities true true = refl
+level-infinities true false = refl
+level-infinities false true = refl
+level-infinities false false = refl
+
 eq-level : (x y : Float) → Number x → Number y → eq x y ≡ level (signOf x) (unitsOf x) (signOf y) (unitsOf y)
-unfolding eq isNan
-eq-level nan y p q = absurd (p .real)
-eq-level (inf s) nan p q = absurd (q .real)
-eq-level (inf true) (inf true) p q = refl
-eq-level (inf true) (inf false) p q = refl
-eq-level (inf false) (inf true) p q = refl
-eq-level (inf false) (inf false) p q = refl
-eq-level (inf s) (fin t n d) p q = not-level s t (2 ^ 277) (unitsOf (fin t n d)) (apart (2 ^ 277) (unitsOf (fin t n d)) (units-lt t n d (q .fit)))
-eq-level (fin s m e) nan p q = absurd (q .real)
-eq-level (fin s m e) (inf t) p q =
-    not-level s t (unitsOf (fin s m e)) (2 ^ 277) (λ h. apart (2 ^ 277) (unitsOf (fin s m e)) (units-lt s m e (p .fit)) (sym h))
-eq-level (fin s m e) (fin t n d) p q =
-    in-units (λ (A B a b : ℕ). level s A t B ≡ level s a t b) (level-scaled s t) s t m n e d (p .fit) (q .fit)
+unfolding eq
+eq-level =
+    compares
+    (record {
+      infinities = level-infinities;
+      left = λ s t n d l. not-level s t (2 ^ 277) (unitsOf (fin t n d)) (apart (2 ^ 277) (unitsOf (fin t n d)) l);
+      right = λ s t m e l. not-level s t (unitsOf (fin s m e)) (2 ^ 277) (λ h. apart (2 ^ 277) (unitsOf (fin s m e)) l (sym h));
+      finites = λ s t m n e d. refl;
+      scaled = level-scaled;
+    })
 
 -- ---- and so do their ranks: B - a or B + a, for sizes up to B
 

@@ -138,13 +138,13 @@ module _ (p q A B K L : ℕ) (u : p * K ≡ A * L) (v : q * K ≡ B * L) (P : 0 
 scaled-zero : (p A K L : ℕ) → p * K ≡ A * L → 0 < K → 0 < L → eqb p 0 ≡ eqb A 0
 scaled-zero p A K L u P Q = scaled-eqb p 0 A 0 K L u (zero-mul K ∙ sym (zero-mul L)) P Q
 
-below-scaled : (s t : Bool) (p q A B K L : ℕ) → p * K ≡ A * L → q * K ≡ B * L → 0 < K → 0 < L → below s p t q ≡ below s A t B
+pub below-scaled : (s t : Bool) (p q A B K L : ℕ) → p * K ≡ A * L → q * K ≡ B * L → 0 < K → 0 < L → below s p t q ≡ below s A t B
 below-scaled false false p q A B K L u v P Q = scaled-ltb p q A B K L u v P Q
 below-scaled false true p q A B K L u v P Q = refl
 below-scaled true false p q A B K L u v P Q = scaled-ltb 0 (p + q) 0 (A + B) K L (zero-mul K ∙ sym (zero-mul L)) (add-mul p q K ∙ ap (λ (z : ℕ). z + q * K) u ∙ ap (λ (z : ℕ). A * L + z) v ∙ sym (add-mul A B L)) P Q
 below-scaled true true p q A B K L u v P Q = scaled-ltb q p B A K L v u P Q
 
-level-scaled : (s t : Bool) (p q A B K L : ℕ) → p * K ≡ A * L → q * K ≡ B * L → 0 < K → 0 < L → level s p t q ≡ level s A t B
+pub level-scaled : (s t : Bool) (p q A B K L : ℕ) → p * K ≡ A * L → q * K ≡ B * L → 0 < K → 0 < L → level s p t q ≡ level s A t B
 level-scaled s t p q A B K L u v P Q =
     ap (λ (z : Bool). z && (Bool·beq s t || eqb p 0)) (scaled-eqb p q A B K L u v P Q) ∙ ap (λ (z : Bool). eqb A B && (Bool·beq s t || z)) (scaled-zero p A K L u P Q)
 
@@ -155,21 +155,23 @@ cross x g h a c d v = simp (mul-assoc, mul-comm, mul-left-comm) (simp (mul-assoc
 cross-r : (y g h b c d : ℕ) → y * d ≡ b * h → y * g * (c * d) ≡ b * c * (g * h)
 cross-r y g h b c d v = simp (mul-assoc, mul-comm, mul-left-comm) (simp (mul-assoc, mul-comm, mul-left-comm) at (ap (λ (z : ℕ). z * (g * c)) v))
 
+-- a comparison that says the same of numbers scaled alike says of two finite floats what it says of any fractions that they equal
+by-values : (test : Bool → ℕ → Bool → ℕ → Bool) → ((s t : Bool) (p q A B K L : ℕ) → p * K ≡ A * L → q * K ≡ B * L → 0 < K → 0 < L → test s p t q ≡ test s A t B)
+    → (s' t' : Bool) (m n : ℕ) (e g : ℤ) (s t : Bool) (a c b d : ℕ) → 0 < c → 0 < d → HasValue (fin s' m e) s a c → HasValue (fin t' n g) t b d
+    → test s' (m * up e * down g) t' (n * up g * down e) ≡ test s (a * d) t (b * c)
+by-values test scaled s' t' m n e g s t a c b d C D v w =
+    ap (λ (z : Bool). test z (m * up e * down g) t' (n * up g * down e)) (v .0)
+    ∙ ap (λ (z : Bool). test s (m * up e * down g) z (n * up g * down e)) (w .0)
+    ∙ scaled s t (m * up e * down g) (n * up g * down e) (a * d) (b * c) (c * d) (down e * down g)
+    (cross (m * up e) (down e) (down g) a c d (v .1)) (cross-r (n * up g) (down e) (down g) b c d (w .1)) (mul-pos C D) (mul-pos (down-pos e) (down-pos g))
+
 pub lt-values : (x y : Float) (s t : Bool) (a c b d : ℕ) → 0 < c → 0 < d → HasValue x s a c → HasValue y t b d → lt x y ≡ below s (a * d) t (b * c)
 unfolding lt
-lt-values (fin s' m e) (fin t' n g) s t a c b d C D v w =
-    ap (λ (z : Bool). below z (m * up e * down g) t' (n * up g * down e)) (v .0)
-    ∙ ap (λ (z : Bool). below s (m * up e * down g) z (n * up g * down e)) (w .0)
-    ∙ below-scaled s t (m * up e * down g) (n * up g * down e) (a * d) (b * c) (c * d) (down e * down g)
-    (cross (m * up e) (down e) (down g) a c d (v .1)) (cross-r (n * up g) (down e) (down g) b c d (w .1)) (mul-pos C D) (mul-pos (down-pos e) (down-pos g))
+lt-values (fin s' m e) (fin t' n g) s t a c b d C D v w = by-values below below-scaled s' t' m n e g s t a c b d C D v w
 
 pub eq-values : (x y : Float) (s t : Bool) (a c b d : ℕ) → 0 < c → 0 < d → HasValue x s a c → HasValue y t b d → eq x y ≡ level s (a * d) t (b * c)
 unfolding eq
-eq-values (fin s' m e) (fin t' n g) s t a c b d C D v w =
-    ap (λ (z : Bool). level z (m * up e * down g) t' (n * up g * down e)) (v .0)
-    ∙ ap (λ (z : Bool). level s (m * up e * down g) z (n * up g * down e)) (w .0)
-    ∙ level-scaled s t (m * up e * down g) (n * up g * down e) (a * d) (b * c) (c * d) (down e * down g)
-    (cross (m * up e) (down e) (down g) a c d (v .1)) (cross-r (n * up g) (down e) (down g) b c d (w .1)) (mul-pos C D) (mul-pos (down-pos e) (down-pos g))
+eq-values (fin s' m e) (fin t' n g) s t a c b d C D v w = by-values level level-scaled s' t' m n e g s t a c b d C D v w
 
 pub le-values : (x y : Float) (s t : Bool) (a c b d : ℕ) → 0 < c → 0 < d → HasValue x s a c → HasValue y t b d
     → le x y ≡ (below s (a * d) t (b * c) || level s (a * d) t (b * c))

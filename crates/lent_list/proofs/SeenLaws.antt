@@ -11,7 +11,7 @@ use lib.Seq.{getD-set-same, getD-set-other}
 use lib.Pow.{pow-lt, pow-add, shl-exact, shl-shr}
 use lib.Bits.{bitOr, or-shr, or-mod, or-zero-r}
 use lib.Dec.{eqb, ltb, lit<}
-use borrow.Author.Tests.{lt-ltb, le-ltb, ltb-true, ltb-false, not-true, not-false}
+use borrow.Author.Tests.{lt-ltb, le-ltb, ltb-true, ltb-false, not-true}
 use Rattle.lists.proofs.TestLaws.{both}
 use Rattle.lent_list.specs.Seen.{span, isMarked, marking, isSet, inStretch, Taken, Clear, Blank, Scanned}
 use Rattle.lent_list.proofs.StretchLaws.{Put, Walk, walk-twice, walk-early, walk-more, walk-past}

@@ -2,7 +2,7 @@
 ghost use mathlib.Core.Path.{_≡_};
 ghost use mathlib.Core.Bool.{not};
 ghost use Prim.Native.Nat.{_+_, _*_, _≤_, _<_};
-ghost use lib.ListN.{length, getD};
+ghost use lib.ListN.{length};
 ghost use Rattle.lent_list.specs.Entries.{firstBadEntry};
 ghost use Rattle.lent_list.specs.Seen.{stretch, span, isMarked, marking, inStretch, missingIn, Taken, Clear, Blank, Scanned, Lengths, Near};
 
