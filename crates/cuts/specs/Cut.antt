@@ -1,5 +1,5 @@
 -- The coefficients of all cells and the incision of one, with the two formulas of document 01, 'Incision'.
-use Prim.Native.Nat.{ℕ, _+_, _*_, _≤_, _<_}
+use Prim.Native.Nat.{ℕ, _+_, _<_}
 use mathlib.Core.Path.{_≡_}
 use mathlib.Core.Bool.{Bool, _||_, cond}
 use mathlib.Core.List.{List}
@@ -10,7 +10,6 @@ use Rattle.lists.specs.Loops.{tabulate}
 use Rattle.floats.specs.Stand.{maxOf}
 use Rattle.ways.specs.Apart.{apart}
 use Rattle.rates.specs.Rate.{rateOf}
-use Rattle.steps.specs.Step.{Near}
 
 -- k × root(max(area, 1e-4 × n) / n) / d
 abbrev pub incisionCoef : Float → Float → Float → Float → Float
@@ -41,14 +40,6 @@ cutOf height uplift water c down = cond (le height water) height (solved height 
 -- the new height of cell c of the map hs, by its coefficient and the new height of its receiver
 abbrev pub cutAt : Float → Float → List Float → List ℕ → ℕ → Float → Float → Float
 cutAt uplift water hs recv c coef below = cutOf (getD hs c nan) uplift water coef (drainedTo c (getD recv c 0) below water)
-
--- the receivers of n cells on a grid of w columns, each its own cell or a neighbour
-pub record Steps (w n : ℕ) (recv : List ℕ) : Type 0 where
-  pub wide : w ≤ 4096
-  pub few : n ≤ 4096 * 4096
-  pub receivers : length recv ≡ n
-  pub inside : (c : ℕ) → c < n → getD recv c 0 < n
-  pub near : (c : ℕ) → c < n → Near w c (getD recv c 0)
 
 -- c is a cell of the slices, and so is its receiver
 pub record CellOf (hs : List Float) (recv : List ℕ) (out : List Float) (c : ℕ) : Type 0 where

@@ -8,8 +8,8 @@ ghost use Prim.Native.Nat.{_*_, _≤_, _<_};
 ghost use lib.ListN.{length, getD, set};
 ghost use lib.Ieee.{nan};
 ghost use Rattle.ways.specs.Apart.{apart};
-ghost use Rattle.steps.specs.Step.{distanceTable, Near};
-ghost use Rattle.cuts.specs.Cut.{aslantOf, overDistances, drainedTo, cutOf, cutAt, Steps, CellOf};
+ghost use Rattle.steps.specs.Step.{distanceTable, Near, Steps};
+ghost use Rattle.cuts.specs.Cut.{aslantOf, overDistances, drainedTo, cutOf, cutAt, CellOf};
 
 // Whether a step between two cells is diagonal, on three columns or more: their numbers differ by a row and one, or by a row less one.
 fn aslant(i: u32, r: u32, width: u32) -> bool

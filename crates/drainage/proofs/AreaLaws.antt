@@ -24,7 +24,7 @@ or-none a b = ap (λ (c : Bool). a || c) (and-false b) ∙ or-false a
 
 module _ (n : ℕ) (small : n ≤ 2 ^ 24) (recv : List ℕ) where
   -- how many units have been at x once the suffix s has passed its units on
-  abbrev been : List ℕ → ℕ → ℕ
+  abbrev pub been : List ℕ → ℕ → ℕ
   been s x = countBelow n (λ j. trail (λ c. getD recv c 0) s j x)
 
   pub length-areas : (s : List ℕ) → length (areasAlong n recv s) ≡ n
@@ -37,7 +37,7 @@ module _ (n : ℕ) (small : n ≤ 2 ^ 24) (recv : List ℕ) where
       go ih false = length-set (areasAlong n recv s) (getD recv c 0) _ ∙ ih
 
   -- a cell that passes its unit on adds what has been at it to its receiver
-  been-receiver : (c : ℕ) (s : List ℕ) → times c s ≡ 0 → times (getD recv c 0) s ≡ 0 → (getD recv c 0 ≡ c → ⊥) → been (c ∷ s) (getD recv c 0) ≡ been s (getD recv c 0) + been s c
+  pub been-receiver : (c : ℕ) (s : List ℕ) → times c s ≡ 0 → times (getD recv c 0) s ≡ 0 → (getD recv c 0 ≡ c → ⊥) → been (c ∷ s) (getD recv c 0) ≡ been s (getD recv c 0) + been s c
   unfolding trail
   been-receiver c s once behind other =
       count-same n (λ j. trail r s j (r c) || (eqb (home r s j) c && eqb (r c) (r c))) (λ j. trail r s j (r c) || trail r s j c) (λ j h. ap (λ (b : Bool). trail r s j (r c) || b) (same j))
@@ -57,7 +57,7 @@ module _ (n : ℕ) (small : n ≤ 2 ^ 24) (recv : List ℕ) where
           go false e = refl
 
   -- elsewhere nothing changes
-  been-other : (c x : ℕ) (s : List ℕ) → (getD recv c 0 ≡ x → ⊥) → been (c ∷ s) x ≡ been s x
+  pub been-other : (c x : ℕ) (s : List ℕ) → (getD recv c 0 ≡ x → ⊥) → been (c ∷ s) x ≡ been s x
   unfolding trail
   been-other c x s other = count-same n (λ j. trail r s j x || (eqb (home r s j) c && eqb (r c) x)) (λ j. trail r s j x) (λ j h. ap (λ (b : Bool). trail r s j x || (eqb (home r s j) c && b)) (ne-eqb (r c) x other) ∙ or-none (trail r s j x) (eqb (home r s j) c))
     where
@@ -65,7 +65,7 @@ module _ (n : ℕ) (small : n ≤ 2 ^ 24) (recv : List ℕ) where
       r c = getD recv c 0
 
   -- nor does it at a cell that is its own receiver
-  been-own : (c x : ℕ) (s : List ℕ) → times c s ≡ 0 → getD recv c 0 ≡ c → been (c ∷ s) x ≡ been s x
+  pub been-own : (c x : ℕ) (s : List ℕ) → times c s ≡ 0 → getD recv c 0 ≡ c → been (c ∷ s) x ≡ been s x
   unfolding trail
   been-own c x s once own = count-same n (λ j. trail r s j x || (eqb (home r s j) c && eqb (r c) x)) (λ j. trail r s j x) (λ j h. go j (eqb (r c) x) refl)
     where
@@ -80,7 +80,7 @@ module _ (n : ℕ) (small : n ≤ 2 ^ 24) (recv : List ℕ) where
       go j false e = ap (λ (b : Bool). trail r s j x || (eqb (home r s j) c && b)) e ∙ or-none (trail r s j x) (eqb (home r s j) c)
 
   -- the areas of the definition are these counts
-  areas-are : (s : List ℕ) → Downstream (λ c. getD recv c 0) s → ((before : List ℕ) (c : ℕ) (rest : List ℕ) → s ≡ before ++ (c ∷ rest) → (c < n) × (getD recv c 0 < n))
+  pub areas-are : (s : List ℕ) → Downstream (λ c. getD recv c 0) s → ((before : List ℕ) (c : ℕ) (rest : List ℕ) → s ≡ before ++ (c ∷ rest) → (c < n) × (getD recv c 0 < n))
       → (x : ℕ) → x < n → getD (areasAlong n recv s) x nan ≡ whole (been s x)
   unfolding areasAlong trail
   areas-are [] d below x h =

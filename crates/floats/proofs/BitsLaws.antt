@@ -6,7 +6,7 @@ use borrow.Author.Tests.{lt-ltb, le-ltb, le-leb, lt-leb}
 use native.Mathlib.Omega.{arith}
 use lib.Dec.{T, leb, nleb→lt}
 use lib.Ieee.{Float, nan, inf, fin, binary32, ne, isNan, nanBits, ofBits, toBits}
-use lib.Ieee.Bits.{nanBits-is, nanBits-above}
+use lib.Ieee.Bits.{nanBits-is, nanBits-above, toBits-ofBits}
 use lib.Ieee.Compare.{differs-from-itself}
 use Rattle.floats.specs.Key.{folded, keyOf}
 
@@ -21,6 +21,13 @@ nan-pattern b h = is-nan (ofBits binary32 b) (sym (nanBits-is binary32 b) ∙ na
 
 pub no-nan-pattern : (b : ℕ) → b % 2 ^ 31 ≤ 0x7f80_0000 → T (not (nanBits binary32 b))
 no-nan-pattern b h = subst (λ (z : Bool). T (not z)) (sym (nanBits-above binary32 b ∙ le-ltb 0x7f80_0000 (b % 2 ^ 31) h)) tt
+
+-- a number as the bits of a float, no greater than an infinity's: it is no NaN, and comes back
+pub plain-bits : {b : ℕ} → b ≤ 0x7f80_0000 → T (not (isNan (ofBits binary32 b)))
+plain-bits {b} h = subst (λ (t : Bool). T (not t)) (nanBits-is binary32 b) (no-nan-pattern b (omega arith))
+
+pub bits-back : {b : ℕ} → b ≤ 0x7f80_0000 → toBits binary32 (ofBits binary32 b) ≡ b
+bits-back {b} h = toBits-ofBits binary32 b (omega arith) (plain-bits h)
 
 pub nan-bits : (x : Float) → ne x x ≡ true → 0x7fc0_0000 ≡ toBits binary32 x
 nan-bits x h = subst (λ (z : Float). 0x7fc0_0000 ≡ toBits binary32 z) (sym (differs-from-itself x (subst T (sym h) tt))) (unfold toBits in refl)

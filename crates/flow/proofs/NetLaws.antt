@@ -2,11 +2,11 @@
 use Prim.Native.Nat.{ℕ, _*_, _<_}
 use mathlib.Core.Path.{_≡_, refl, sym, ap₂, _∙_, subst}
 use mathlib.Core.Bool.{Bool, true, false}
-use mathlib.Core.Logic.{inl, inr}
+use mathlib.Core.Logic.{_≢_, _⊎_, inl, inr}
 use mathlib.Core.List.{List}
 use native.Mathlib.Omega.{arith}
 use lib.ListN.{length, getD, take}
-use lib.Seq.{take-length, length-take-le}
+use lib.Seq.{length-take-le}
 use lib.Ieee.{Float}
 use Rattle.float_order.specs.Order.{rank}
 use Rattle.float_order.specs.Fit.{Fit}
@@ -15,27 +15,26 @@ use Rattle.grid.proofs.SidesLaws.{cells-bound}
 use Rattle.drainage.specs.Ground.{Ground, floats, gridGround}
 use Rattle.drainage.specs.Flood.{flooded}
 use Rattle.drainage.specs.Receivers.{receivers}
-use Rattle.drainage.specs.Ways.{times, areasAlong}
-use Rattle.drainage.specs.Chains.{Near}
+use Rattle.drainage.specs.Ways.{WorkList, areasAlong}
+use Rattle.drainage.specs.Chains as chains
 use Rattle.drainage.specs.Theorems.{Network}
 use Rattle.drainage.specs.Grids.{Height}
 use Rattle.drainage.proofs.TallyLaws.{same-or-not}
 use Rattle.drainage.proofs.InvariantLaws.{Flooding}
 use Rattle.drainage.proofs.StateLaws.{Stands, floodAfter-stands, flooded-left, heightOf, viewOf}
 use Rattle.drainage.proofs.GroundLaws.{gridGround-joined, finite-numbers, grid-heights, grid-networks}
-use Rattle.drainage.proofs.WorkListLaws.{in-lt}
-use Rattle.heap.proofs.RoomLaws.{times-at}
 use Rattle.flood_start.specs.Slices.{Sizes}
 use Rattle.flood.specs.Slices.{Accepted, Flooded}
 use Rattle.network.specs.Passes.{Finders}
-use Rattle.ways.specs.Apart.{Along}
+use Rattle.steps.specs.Step.{Near, Steps}
+use Rattle.steps.proofs.PlaceLaws.{near-of}
 use Rattle.flow.specs.Route.{floodOf, orderOf, receiversOf, lentOf, Enough, Holding}
 
 module _ (w h : ℕ) (hs : List Float) (water : Float) (a : Accepted w h hs) (fit : Fit hs) where
   abbrev ground : Ground
   ground = gridGround w h water hs
 
-  adjacent : {c r : ℕ} → Near ground c r → Adjacent w h c r
+  adjacent : {c r : ℕ} → chains.Near ground c r → Adjacent w h c r
   adjacent n = record { direction = n .direction; first = n .first; last = n .last; inside = n .inside; leads = n .leads }
 
   stands : Stands floats ground hs Height rank (w * h) (flooded floats ground hs)
@@ -64,23 +63,27 @@ module _ (w h : ℕ) (hs : List Float) (water : Float) (a : Accepted w h hs) (fi
   net : Network floats ground hs rank
   net = grid-networks w h water hs (a .sides) (a .cells) fit (a .finites)
 
+  -- receivers are the cells themselves or neighbours, and the order is a work list of them
   pub downward :
-      (n : ℕ) (recv order : List ℕ) → n ≡ w * h → length recv ≡ w * h → recv ≡ receiversOf w h hs water → order ≡ orderOf w h hs water → Along n recv order
-  downward n recv order m long e f = record {
-    receivers = omega arith;
-    inside = λ c l. subst (λ t. getD t c 0 < n) (sym e) (inside c (omega arith));
-    entries = λ i l. omega (arith, in-lt (net .work-list) (getD order i 0) (stands-in i l));
-  }
+      (n : ℕ) (recv order : List ℕ) → n ≡ w * h → length recv ≡ w * h → recv ≡ receiversOf w h hs water → order ≡ orderOf w h hs water → Steps w n recv × WorkList n recv order
+  downward n recv order m long e f = (
+    record {
+      wide = a .sides .wide;
+      few = omega (arith, cells-bound w h (a .sides .wide) (a .sides .high));
+      receivers = omega arith;
+      inside = λ c l. subst (λ (t : List ℕ). getD t c 0 < n) (sym e) (below c (omega arith) (same-or-not (getD (receiversOf w h hs water) c 0) c));
+      near = λ c l. subst (λ (t : List ℕ). Near w c (getD t c 0)) (sym e) (beside c (omega arith) (same-or-not (getD (receiversOf w h hs water) c 0) c));
+    },
+    rw (m, e, f) (net .work-list),
+  )
     where
-      inside : (c : ℕ) → c < w * h → getD (receiversOf w h hs water) c 0 < n
-      inside c l = elim (same-or-not (getD (receiversOf w h hs water) c 0) c) [
-        | inl z ↦ omega arith
-        | inr z ↦ omega (arith, net .adjacent c l z .inside)
-      ]
+      below : (c : ℕ) → c < w * h → (getD (receiversOf w h hs water) c 0 ≡ c) ⊎ (getD (receiversOf w h hs water) c 0 ≢ c) → getD (receiversOf w h hs water) c 0 < n
+      below c l (inl z) = omega arith
+      below c l (inr z) = omega (arith, net .adjacent c l z .inside)
 
-      stands-in : (i : ℕ) → i < length order → 0 < times (getD order i 0) (orderOf w h hs water)
-      stands-in i l =
-          subst (λ t. 0 < times (getD order i 0) t) (take-length order ∙ f) (times-at order (length order) i l (omega arith))
+      beside : (c : ℕ) → c < w * h → (getD (receiversOf w h hs water) c 0 ≡ c) ⊎ (getD (receiversOf w h hs water) c 0 ≢ c) → Near w c (getD (receiversOf w h hs water) c 0)
+      beside c l (inl z) = near-of {h = h} (a .sides .columns) (a .sides .wide) (inl z)
+      beside c l (inr z) = near-of (a .sides .columns) (a .sides .wide) (inr (adjacent (net .adjacent c l z)))
 
 -- the sizes that the flood asks for, with as many statuses as cells
 pub sizes-of :

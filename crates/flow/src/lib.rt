@@ -2,13 +2,13 @@
 // refuses.
 use answers::Answer;
 use answers::Refusal;
+use area_words::areas_along;
 use floats::is_finite;
 use flood::flood;
 use grid::Sides;
 use grid::bad_sides;
 use grid::first_not_finite;
 use receiver_rows::steepest_receivers;
-use ways::accumulate;
 ghost use Prim.Native.Nat.{_*_};
 ghost use mathlib.Core.Path.{_≡_};
 ghost use lib.ListN.{length};
@@ -102,7 +102,7 @@ pub fn route_grid(
         &mut status[..n],
     );
     steepest_receivers(size, spill, recv);
-    accumulate(recv, order, area);
+    areas_along(size.w, recv, order, area);
 }
 
 // Routes `h`: the map border and every cell at or below `water_level` are the base level. Order, receivers, spill heights and areas are the

@@ -20,9 +20,9 @@ use Rattle.ways.proofs.DistanceLaws.{distance-is}
 use Rattle.lent_receivers.proofs.ReceiverLaws.{good-is}
 use Rattle.rates.specs.Rate.{ratesOver, WholeAreas}
 use Rattle.rates.proofs.TableLaws.{rate-over, length-over}
-use Rattle.cuts.specs.Cut.{incisionCoef, overDistances, drainedTo, cutOf, cutAt, Steps, CellOf}
+use Rattle.cuts.specs.Cut.{incisionCoef, overDistances, drainedTo, cutOf, cutAt, CellOf}
 use Rattle.cuts.proofs.DistanceLaws.{coefficient, length-coefficients}
-use Rattle.steps.specs.Step.{Near}
+use Rattle.steps.specs.Step.{Near, Steps}
 use Rattle.steps.proofs.PlaceLaws.{near-of}
 use Rattle.ways_down.specs.Settled.{madeAlong}
 use Rattle.ways_down.proofs.SettleLaws.{along-alike}

@@ -3,6 +3,7 @@
 use answers::Answer;
 use answers::Refusal;
 use answers::outside;
+use area_words::areas_along;
 use cuts::divide_by_distances;
 use cuts::incise_cell;
 use floats::is_finite;
@@ -13,7 +14,6 @@ use grid::first_not_finite;
 use lent_list::first_bad_entry;
 use lent_receivers::first_bad_receiver;
 use rates::rates_of;
-use ways::accumulate;
 use ways_down::Incision;
 use ways_down::incise_ways;
 ghost use mathlib.Core.Path.{_≡_};
@@ -112,7 +112,7 @@ pub fn incise_into(
     requires { ⌜ Lengths (size .w * size .h) (length (now hmap)) (length (now out)) (length (now area)) ⌝ }
     ensures { λ _. ⌜ Carved (size .w) (size .h) (now (hmap .entry)) params (now (recv .entry)) (now (order .entry)) (now (out .exit)) (now (area .exit)) ⌝ }
 {
-    accumulate(recv, order, area);
+    areas_along(size.w, recv, order, area);
     incise_along(size, hmap, params, area, recv, order, out);
 }
 

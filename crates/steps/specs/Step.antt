@@ -1,7 +1,9 @@
 -- Where the distance of a step stands in a table of five.
-use Prim.Native.Nat.{ℕ, _+_, _-_, _≤_, _<_}
+use Prim.Native.Nat.{ℕ, _+_, _-_, _*_, _≤_, _<_}
+use mathlib.Core.Path.{_≡_}
 use mathlib.Core.Bool.{cond}
 use mathlib.Core.List.{List, [], _∷_}
+use lib.ListN.{length, getD}
 use lib.Dec.{ltb}
 use lib.Ieee.{Float, binary32, ofBits}
 use Rattle.grid.specs.Sides.{columnOf, rowOf}
@@ -29,3 +31,11 @@ pub record Near (w i r : ℕ) : Type 0 where
   pub east : columnOf w r ≤ columnOf w i + 1
   pub north : rowOf w i ≤ rowOf w r + 1
   pub south : rowOf w r ≤ rowOf w i + 1
+
+-- the receivers of n cells on a grid of w columns, each its own cell or a neighbour
+pub record Steps (w n : ℕ) (recv : List ℕ) : Type 0 where
+  pub wide : w ≤ 4096
+  pub few : n ≤ 4096 * 4096
+  pub receivers : length recv ≡ n
+  pub inside : (c : ℕ) → c < n → getD recv c 0 < n
+  pub near : (c : ℕ) → c < n → Near w c (getD recv c 0)

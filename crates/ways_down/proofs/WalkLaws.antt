@@ -9,23 +9,14 @@ use lib.ListN.{length, getD, set, replicate, length-set, length-replicate, getD-
 use lib.Seq.{getD-set-same, getD-set-other}
 use lib.Dec.{T}
 use lib.Ieee.{Float, nan, binary32, ofBits, toBits, isNan, lt, le}
-use lib.Ieee.Bits.{toBits-ofBits, nanBits-is}
 use borrow.Author.Tests.{eq-eqb, ne-eqb}
-use Rattle.floats.proofs.BitsLaws.{no-nan-pattern}
+use Rattle.floats.proofs.BitsLaws.{plain-bits, bits-back}
 use Rattle.drainage.specs.Ways.{times}
 use Rattle.drainage.proofs.TallyLaws.{one-same, one-other}
 use Rattle.drainage.proofs.WorkListLaws.{receiver-lt}
 use Rattle.ways_down.specs.Walk.{isMade, endsAt, Ordered, Held, Upto, Trail, starts, onward, Descent, Descended, Ascent}
 use Rattle.ways_down.proofs.PlaceLaws.{Falls, placeIn, falls}
 use Rattle.ways_down.proofs.HeightLaws.{Settles}
-
--- the number of a cell as the bits of a float: it comes back, and is no NaN
-module _ {b : ℕ} (few : b < 4096 * 4096) where
-  plain : T (not (isNan (ofBits binary32 b)))
-  plain = subst (λ (t : Bool). T (not t)) (nanBits-is binary32 b) (no-nan-pattern b (omega arith))
-
-  back : toBits binary32 (ofBits binary32 b) ≡ b
-  back = toBits-ofBits binary32 b (omega arith) plain
 
 -- ---- trails
 trail-inside : {n : ℕ} {recv : List ℕ} {out : List Float} {i j : ℕ} {up : List ℕ} → Trail n recv out i j up → j < n
@@ -101,10 +92,10 @@ module _ {recv : List ℕ} {made : ℕ → Float} {out : List Float} {i j steps 
     small = omega (arith, trail-inside (next-up .trail))
 
     pub ascent-plain : T (not (isNan (getD out j nan)))
-    ascent-plain = subst (λ (x : Float). T (not (isNan x))) (sym (next-up .mark)) (plain small)
+    ascent-plain = subst (λ (x : Float). T (not (isNan x))) (sym (next-up .mark)) (plain-bits (omega (arith, small)))
 
     told : toBits binary32 (getD out j nan) ≡ next-up .cell
-    told = ap (toBits binary32) (next-up .mark) ∙ back small
+    told = ap (toBits binary32) (next-up .mark) ∙ bits-back (omega (arith, small))
 
     pub ascent-small : toBits binary32 (getD out j nan) < 4096 * 4096
     ascent-small = omega (arith, told, small)

@@ -9,8 +9,7 @@ use lib.Dec.{eqb}
 use lib.Ieee.{Float, nan, binary32, ofBits, lt, le}
 use Rattle.drainage.specs.Ways.{times, WorkList}
 use Rattle.rates.specs.Rate.{ratesOf, WholeAreas}
-use Rattle.steps.specs.Step.{distanceTable}
-use Rattle.cuts.specs.Cut.{Steps}
+use Rattle.steps.specs.Step.{distanceTable, Steps}
 use Rattle.ways_down.specs.declared.Incision.{Incision}
 
 -- a height that is made is a number: below 1, or not below 1/2

@@ -21,8 +21,8 @@ steepest-receivers-requires c κs =
     let p = c .before .before .before .before .before .before .before .before .before .before .before .before .before .before .before .before .before .before .before .before .before .before .before .before .before .pre in
     (p .0 .sides, (k .1 .0 ∙ p .1 .spill, (k .0 ∙ p .1 .receivers, finders _ _ _ _ (p .0) (c .before .before .before .before .before .before .before .before .before .before .before .before .before .before .before .before .before .before .before .before .before .before .before .before .shared-slice-known .given) _ (c .before .before .before .before .before .before .before .before .before .before .before .before .flood .ensures .found))))
 
-accumulate-requires : tie.Need-accumulate-requires
-accumulate-requires c κs =
+areas-along-requires : tie.Need-areas-along-requires
+areas-along-requires c κs =
     let p = c .before .before .before .before .before .before .before .before .before .before .before .before .before .before .before .before .before .before .before .before .before .before .before .before .before .before .before .before .before .before .before .pre in
     let f = c .before .before .before .before .before .before .before .before .before .before .before .before .before .before .before .before .before .before .flood .ensures in
     downward _ _ _ _ (p .0) (c .before .before .before .before .before .before .before .before .before .before .before .before .before .before .before .before .before .before .before .before .before .before .before .before .before .before .before .before .before .before .shared-slice-known .given) _ _ _ (p .1 .areas) (c .before .before .before .before .before .steepest-receivers .kept .1 .1 .0 ∙ c .before .before .before .before .before .before .before .before .before .before .before .before .before .before .before .before .before .before .flood .kept .1 .1 .1 .1 .0 ∙ p .1 .receivers) (received-is _ _ _ _ _ _ _ f _ (c .before .before .before .before .before .steepest-receivers .ensures)) (f .left)
@@ -46,7 +46,7 @@ same-length-6 : tie.Need-same-length-6
 same-length-6 c = search needs
 
 returns : tie.Need-returns
-returns c = holding _ _ _ _ _ _ _ (c .before .before .before .before .before .before .before .before .before .before .before .before .before .before .before .before .before .before .before .before .before .flood .ensures) _ (c .before .before .before .before .before .before .before .before .steepest-receivers .ensures) _ _ (c .before .before .before .before .before .before .before .before .before .before .before .before .before .before .before .before .before .before .before .before .before .before .before .before .before .before .before .before .before .before .before .before .before .before .pre .1 .areas) (c .before .before .accumulate .ensures)
+returns c = holding _ _ _ _ _ _ _ (c .before .before .before .before .before .before .before .before .before .before .before .before .before .before .before .before .before .before .before .before .before .flood .ensures) _ (c .before .before .before .before .before .before .before .before .steepest-receivers .ensures) _ _ (c .before .before .before .before .before .before .before .before .before .before .before .before .before .before .before .before .before .before .before .before .before .before .before .before .before .before .before .before .before .before .before .before .before .before .pre .1 .areas) (c .before .before .areas-along .ensures)
 
 pub route-grid-spec : {M : Type 1} → statement M
 route-grid-spec =
@@ -56,7 +56,7 @@ route-grid-spec =
     slice-aggregate-flood
     flood-requires
     steepest-receivers-requires
-    accumulate-requires
+    areas-along-requires
     same-length
     same-length-2
     same-length-3
