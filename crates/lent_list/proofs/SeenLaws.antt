@@ -51,10 +51,6 @@ bit-other x k j h = bit-of x k j ∙ ap (bitOr (x / 2 ^ j % 2)) (power-other k j
 pub shifted-one : (k : ℕ) → k < 64 → (1 * 2 ^ k) % 2 ^ 64 ≡ 2 ^ k
 shifted-one k l = shl-exact 1 k 64 (lit< tt) (omega arith) ∙ one-mul (2 ^ k)
 
-pub length-marking : (seen : List ℕ) (i : ℕ) → length (marking seen i) ≡ length seen
-unfolding marking
-length-marking seen i = length-set seen (i / 64) _
-
 module _ (seen : List ℕ) (i : ℕ) (inside : i / 64 < length seen) where
   marked-same : isMarked (marking seen i) i ≡ true
   unfolding isMarked marking

@@ -1,10 +1,9 @@
 // Refusal 7: the check of a lent list. Nothing lent is written before it is decided.
 ghost use mathlib.Core.Path.{_≡_};
-ghost use mathlib.Core.Bool.{not};
 ghost use Prim.Native.Nat.{_+_, _*_, _≤_, _<_};
 ghost use lib.ListN.{length};
 ghost use Rattle.lent_list.specs.Entries.{firstBadEntry};
-ghost use Rattle.lent_list.specs.Seen.{stretch, span, isMarked, marking, inStretch, missingIn, Taken, Clear, Blank, Scanned, Lengths, Near};
+ghost use Rattle.lent_list.specs.Seen.{span, isMarked, marking, inStretch, missingIn, Taken, Blank, Scanned, Lengths, Near};
 
 // Whether place i of a stretch is marked.
 fn marked(seen: &[u64], i: usize) -> bool
@@ -12,14 +11,6 @@ fn marked(seen: &[u64], i: usize) -> bool
     ensures { λ r. ⌜ r ≡ isMarked (now (seen .entry)) i ⌝ }
 {
     (seen[i / 64] >> (i % 64)) % 2 == 1
-}
-
-// Whether place i of a stretch is not marked.
-fn unmarked(seen: &[u64], i: usize) -> bool
-    requires { ⌜ i < length (now seen) * 64 ⌝ }
-    ensures { λ r. ⌜ r ≡ not (isMarked (now (seen .entry)) i) ⌝ }
-{
-    !marked(seen, i)
 }
 
 // Marks place i of a stretch.
@@ -47,7 +38,7 @@ fn missing(seen: &[u64], lo: usize, r: usize) -> bool
     ensures { λ b. ⌜ b ≡ missingIn (now (seen .entry)) lo r ⌝ }
 {
     if in_stretch(lo, r) {
-        return unmarked(seen, r - lo);
+        return !marked(seen, r - lo);
     }
     false
 }
@@ -91,31 +82,7 @@ fn first_in_stretch(n: usize, recv: &[u32], list: &[u32], lo: usize, limit: usiz
     limit
 }
 
-// The same for cells that all have their marks in `seen`, none of them set yet.
-fn first_in_words(n: usize, recv: &[u32], list: &[u32], seen: &mut [u64]) -> usize
-    requires { ⌜ Lengths n (now recv) (now list) ⌝ }
-    requires { ⌜ Clear n (now seen) ⌝ }
-    ensures { λ r. ⌜ Scanned n (now (recv .entry)) (now (list .entry)) 0 (0 + n) n r ⌝ }
-{
-    let mut p: usize = 0;
-    while p < n {
-        let c = list[p] as usize;
-        if n <= c {
-            return p;
-        }
-        if marked(seen, c) {
-            return p;
-        }
-        mark(seen, c);
-        if unmarked(seen, recv[c] as usize) {
-            return p;
-        }
-        p += 1;
-    }
-    n
-}
-
-// The same for cells that each have a byte.
+// The same for cells that all have a byte in `seen`, none of them set yet.
 fn first_in_bytes(n: usize, recv: &[u32], list: &[u32], seen: &mut [u8]) -> usize
     requires { ⌜ Lengths n (now recv) (now list) ⌝ }
     requires { ⌜ Blank n (now seen) ⌝ }
@@ -149,27 +116,17 @@ fn first_of_few(n: usize, recv: &[u32], list: &[u32]) -> usize
     first_in_bytes(n, recv, list, &mut seen)
 }
 
-// The same with marks for 524,288 cells, which few words hold.
-fn first_of_some(n: usize, recv: &[u32], list: &[u32]) -> usize
-    requires { ⌜ Lengths n (now recv) (now list) ⌝ }
-    requires { ⌜ n ≤ 524288 ⌝ }
-    ensures { λ r. ⌜ Scanned n (now (recv .entry)) (now (list .entry)) 0 (0 + n) n r ⌝ }
-{
-    let mut seen: [u64; 8192] = [0; 8192];
-    first_in_words(n, recv, list, &mut seen)
-}
-
-// The same with marks for as many cells as lie from the start of one stretch to that of the next.
+// The same with bytes for 1,048,576 cells.
 fn first_of_many(n: usize, recv: &[u32], list: &[u32]) -> usize
     requires { ⌜ Lengths n (now recv) (now list) ⌝ }
-    requires { ⌜ n ≤ stretch ⌝ }
+    requires { ⌜ n ≤ 1048576 ⌝ }
     ensures { λ r. ⌜ Scanned n (now (recv .entry)) (now (list .entry)) 0 (0 + n) n r ⌝ }
 {
-    let mut seen: [u64; 131072] = [0; 131072];
-    first_in_words(n, recv, list, &mut seen)
+    let mut seen: [u8; 1048576] = [0; 1048576];
+    first_in_bytes(n, recv, list, &mut seen)
 }
 
-// The same for any number of cells: the list is read once for each stretch of them.
+// The same for any number of cells, a bit for each: the list is read once for each stretch of them.
 fn first_of_all(n: usize, recv: &[u32], list: &[u32]) -> usize
     requires { ⌜ Lengths n (now recv) (now list) ⌝ }
     requires { ⌜ Near n (now recv) ⌝ }
@@ -193,10 +150,7 @@ pub fn first_bad_entry(n: usize, recv: &[u32], list: &[u32]) -> usize
     if n <= 65536 {
         return first_of_few(n, recv, list);
     }
-    if n <= 524288 {
-        return first_of_some(n, recv, list);
-    }
-    if n <= 8388608 {
+    if n <= 1048576 {
         return first_of_many(n, recv, list);
     }
     first_of_all(n, recv, list)

@@ -1,20 +1,22 @@
-use Rattle.lent_list.proofs.SeenLaws.{clear-at}
-use borrow.Author.Needs.{needs}
+use mathlib.Core.Path.{sym}
+use Prim.Native.Nat.{ℕ}
+use lib.ListN.{length-replicate}
+use Rattle.lent_list.proofs.SeenLaws.{blank-at}
 use Rattle.lent_list.proofs.first_of_many.Statement.{statement}
 use Rattle.lent_list.proofs.first_of_many.Tie as tie
 
--- src/lib.rt:169:35
-slice-aggregate-first-in-words : tie.Need-slice-aggregate-first-in-words
-slice-aggregate-first-in-words c = search needs
+-- src/lib.rt:129:35
+slice-aggregate-first-in-bytes : tie.Need-slice-aggregate-first-in-bytes
+slice-aggregate-first-in-bytes c = sym (length-replicate {A = ℕ} 1048576 0)
 
--- src/lib.rt:169:5
-first-in-words-requires : tie.Need-first-in-words-requires
-first-in-words-requires c κs = (c .before .before .before .pre .0, clear-at 131072 (c .before .before .before .pre .1))
+-- src/lib.rt:129:5
+first-in-bytes-requires : tie.Need-first-in-bytes-requires
+first-in-bytes-requires c κs = (c .before .before .before .pre .0, blank-at 1048576 (c .before .before .before .pre .1))
 
--- src/lib.rt:163:1
+-- src/lib.rt:123:1
 returns : tie.Need-returns
-returns c = search needs
+returns c = c .before .first-in-bytes .ensures
 
 pub first-of-many-spec : {M : Type 1} → statement M
 first-of-many-spec =
-    tie.close (tie.spec slice-aggregate-first-in-words first-in-words-requires returns)
+    tie.close (tie.spec slice-aggregate-first-in-bytes first-in-bytes-requires returns)

@@ -1,4 +1,5 @@
-use mathlib.Core.Path.{sym, _∙_}
+use mathlib.Core.Path.{sym, ap, _∙_}
+use mathlib.Core.Bool.{not}
 use native.Mathlib.Omega.{arith}
 use Rattle.lent_list.specs.Seen.{span}
 use Rattle.lent_list.proofs.SeenLaws.{inside}
@@ -11,16 +12,16 @@ in-stretch-requires : tie.Need-in-stretch-requires
 in-stretch-requires c κs = search needs
 
 -- src/lib.rt:50:31
-sub-unmarked : tie.Need-sub-unmarked
-sub-unmarked c = inside span (c .before .before .before .args .lo) (c .before .before .before .args .r) (sym (c .before .in-stretch .ensures) ∙ c .if1 .taken) .0
+sub-marked : tie.Need-sub-marked
+sub-marked c = inside span (c .before .before .before .args .lo) (c .before .before .before .args .r) (sym (c .before .in-stretch .ensures) ∙ c .if1 .taken) .0
 
 -- src/lib.rt:50:9
-unmarked-requires : tie.Need-unmarked-requires
-unmarked-requires c κs = let p = inside span (c .before .before .before .args .lo) (c .before .before .before .args .r) (sym (c .before .in-stretch .ensures) ∙ c .if1 .taken) in omega (arith, p .0, p .1, c .before .before .before .pre)
+marked-requires : tie.Need-marked-requires
+marked-requires c κs = let p = inside span (c .before .before .before .args .lo) (c .before .before .before .args .r) (sym (c .before .in-stretch .ensures) ∙ c .if1 .taken) in omega (arith, p .0, p .1, c .before .before .before .pre)
 
 -- src/lib.rt:50:9
 returns : tie.Need-returns
-returns c = rw (sym (c .before .before .in-stretch .ensures) ∙ c .before .if1 .taken) (c .unmarked .ensures)
+returns c = rw (sym (c .before .before .in-stretch .ensures) ∙ c .before .if1 .taken) (ap not (c .marked .ensures))
 
 -- src/lib.rt:45:1
 returns-2 : tie.Need-returns-2
@@ -28,4 +29,4 @@ returns-2 c = rw (sym (c .before .in-stretch .ensures) ∙ c .if1 .left)
 
 pub missing-spec : {M : Type 1} → statement M
 missing-spec =
-    tie.close (tie.spec in-stretch-requires sub-unmarked unmarked-requires returns returns-2)
+    tie.close (tie.spec in-stretch-requires sub-marked marked-requires returns returns-2)
