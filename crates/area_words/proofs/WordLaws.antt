@@ -20,7 +20,6 @@ use Rattle.drainage.proofs.CountLaws.{count-le, count-one}
 use Rattle.drainage.proofs.TrailLaws.{trail}
 use Rattle.drainage.proofs.WorkListLaws.{entry-lt, receiver-lt, downstream}
 use Rattle.drainage.proofs.AreaLaws.{been-receiver, been-other, been-own, areas-are, length-areas}
-use Rattle.ways.specs.Apart.{Along}
 use Rattle.steps.specs.Step.{Steps}
 use Rattle.area_words.specs.Words.{stepOf, steppedTo, wordOf, areaIn, receiverIn, passedOn, Word, Words, Network, Passing}
 use Rattle.area_words.proofs.StepLaws.{Step, step-back}
@@ -180,10 +179,7 @@ module _ {w cells : ℕ} {recv list : List ℕ} (net : Network w recv cells) whe
             ∙ ap (λ (t : List ℕ). ofBits binary32 (wordOf (passed recv t y) (stepOf w y (getD recv y 0)))) (sym front);
       }
 
--- ---- what the two ways to the areas ask
-pub along-of : {w n : ℕ} {recv list : List ℕ} → Steps w n recv → WorkList n recv list → Along n recv list
-along-of {list = list} steps work = record { receivers = steps .receivers; inside = steps .inside; entries = λ i l. entry-lt work (take i list) (getD list i 0) (drop (suc i) list) (split-at list i 0 l) }
-
+-- what the words ask
 pub network-of : {w n : ℕ} {recv list : List ℕ} → 3 ≤ w → Steps w n recv → WorkList n recv list → Network w recv n × WorkList (length recv) recv list
 network-of {w} {n} {recv} {list} columns steps work =
     let long : n ≡ length recv = sym (steps .receivers) in

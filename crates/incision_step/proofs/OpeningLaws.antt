@@ -13,10 +13,11 @@ use Rattle.grid.specs.Heights.{allFinite}
 use Rattle.generators.specs.Marks.{reportOf}
 use Rattle.generators.specs.declared.Progress.{Progress}
 use Rattle.drainage.specs.Ground.{floats, gridGround}
-use Rattle.drainage.specs.Ways.{WorkList, areasAlong}
+use Rattle.drainage.specs.Ways.{areasAlong}
 use Rattle.drainage.specs.Theorems.{Network}
 use Rattle.drainage.proofs.TallyLaws.{same-or-not}
 use Rattle.drainage.proofs.GroundLaws.{grid-networks}
+use Rattle.steps.proofs.PlaceLaws.{along-of}
 use Rattle.lent_receivers.specs.Receivers.{goodReceiver}
 use Rattle.lent_receivers.proofs.ReceiverLaws.{good-own, good-near}
 use Rattle.flood.specs.Slices.{Accepted}
@@ -46,11 +47,12 @@ module _ (w h : ℕ) (hs : List Float) (water : Float) (a : Accepted w h hs) (fi
   -- receivers and order of a routing are a network that an incision may go along
   pub routing-drains : {order recv : List ℕ} {spill area : List Float} → Holding w h hs water order recv spill area → length recv ≡ w * h → Drains w h recv order
   routing-drains {order} {recv} r long =
+      let d = downward w h hs water a fit (w * h) recv order refl long (r .received) (r .left) in
       record {
         sides = a .sides;
-        along = downward w h hs water a fit (w * h) recv order refl long (r .received) (r .left);
+        along = along-of (d .0) (d .1);
         near = λ c l. subst (λ (t : List ℕ). goodReceiver w h c (getD t c 0) ≡ true) (sym (r .received)) (near c l);
-        work = subst (λ (t : List ℕ). WorkList (w * h) t order) (sym (r .received)) (subst (λ (t : List ℕ). WorkList (w * h) (receiversOf w h hs water) t) (sym (r .left)) (net .work-list));
+        work = d .1;
       }
 
 -- the areas of a routing are those along its order

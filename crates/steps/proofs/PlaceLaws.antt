@@ -6,7 +6,9 @@ use native.Mathlib.Decide.{ℕ-discrete}
 use mathlib.Core.Path.{_≡_, refl, sym, ap, _∙_, subst}
 use mathlib.Core.Logic.{_≢_, _⊎_, inl, inr}
 use mathlib.Core.Bool.{Bool, true, false, cond}
-use lib.ListN.{getD}
+use mathlib.Core.List.{List}
+use lib.ListN.{getD, take, drop}
+use lib.Seq.{split-at}
 use lib.Dec.{eqb, ltb}
 use lib.Ieee.{Float, nan, binary32, ofBits}
 use borrow.Author.Tests.{lt-ltb, le-ltb, eq-eqb, ne-eqb}
@@ -14,8 +16,10 @@ use Rattle.grid.specs.Sides.{cellOf, columnOf, rowOf}
 use Rattle.grid.specs.Directions.{Adjacent}
 use Rattle.grid.proofs.SidesLaws.{cell-back}
 use Rattle.grid.proofs.NeighbourLaws.{stepX, stepY, inside-beside, small-steps, close-step}
-use Rattle.ways.specs.Apart.{apart}
-use Rattle.steps.specs.Step.{distanceTable, gap, placeOf, Near}
+use Rattle.drainage.specs.Ways.{WorkList}
+use Rattle.drainage.proofs.WorkListLaws.{entry-lt}
+use Rattle.ways.specs.Apart.{apart, Along}
+use Rattle.steps.specs.Step.{distanceTable, gap, placeOf, Near, Steps}
 
 -- the numbers of two cells of neighbouring columns and rows, on three columns or more
 record Wide (w x y nx ny g : ℕ) : Type 0 where
@@ -131,3 +135,7 @@ near-of {w} {h} {c} {r} some wide (inr a) =
     let x = close-step (columnOf w c) (stepX (a .direction)) w (columnOf w r) (s .0) (b .column) (b .columns) in
     let y = close-step (rowOf w c) (stepY (a .direction)) h (rowOf w r) (s .1) (b .row) (b .rows) in
     record { some = some; wide = wide; west = x .0; east = x .1; north = y .0; south = y .1 }
+
+-- ---- near receivers with a work list are cells to add areas along
+pub along-of : {w n : ℕ} {recv list : List ℕ} → Steps w n recv → WorkList n recv list → Along n recv list
+along-of {list = list} steps work = record { receivers = steps .receivers; inside = steps .inside; entries = λ i l. entry-lt work (take i list) (getD list i 0) (drop (suc i) list) (split-at list i 0 l) }

@@ -1,4 +1,5 @@
-use Rattle.area_words.proofs.WordLaws.{along-of, network-of}
+use Rattle.steps.proofs.PlaceLaws.{along-of}
+use Rattle.area_words.proofs.WordLaws.{network-of}
 use borrow.Author.Needs.{needs}
 use Rattle.area_words.proofs.areas_along.Statement.{statement}
 use Rattle.area_words.proofs.areas_along.Tie as tie
