@@ -16,7 +16,7 @@ use Rattle.resample.specs.WorkSize.{workSize}
 use Rattle.resample.proofs.WorkLaws.{work-within}
 use Rattle.resample.specs.Blocks.{downsampled}
 use Rattle.upsample.specs.Samples.{FarEdge, asSource}
-use Rattle.runs.specs.Machine.{Course, State, start, endedBy, cut, openStep, step, after, steps, finished}
+use Rattle.runs.specs.Machine.{Course, State, passAt, start, endedBy, cut, openStep, step, after, steps, finished}
 use Rattle.runs.specs.Run.{Choice, Ran, runFrom, runOn, thermalCourse, runBy, thermalRun}
 use Rattle.runs.specs.Demand3.{courseOf}
 use Rattle.runs.specs.declared.FluvialSettings.{FluvialSettings}
@@ -27,19 +27,7 @@ use Rattle.runs.proofs.IterationLaws.{opening-ended, iteration-ended, o
 
 -- a state that goes on, or whose row is 0, is kept whole
 dropped-by : (s : State) → cond (eqb (s .number) 0) (s .row) 0 ≡ s .row → dropped s ≡ s
-dropped-by s e i =
-    record {
-      heights = s .heights;
-      copy = s .copy;
-      row = e i;
-      marks = s .marks;
-      incisions = s .incisions;
-      passes = s .passes;
-      iteration = s .iteration;
-      pass = s .pass;
-      opened = s .opened;
-      number = s .number;
-    }
+dropped-by s e i = passAt (s .copy) (e i) (s .marks) (s .number) s
 
 pub dropped-on : (s : State) → s .number ≡ 0 → dropped s ≡ s
 dropped-on s e = dropped-by s (rw (eq-eqb (s .number) 0 e))

@@ -15,7 +15,7 @@ use Rattle.generators.proofs.MarksLaws.{report-stopped, report-on}
 use Rattle.talus.specs.Talus.{slideRow}
 use Rattle.thermal_erosion.specs.SlidePass as SlidePass
 use Rattle.thermal_erosion.specs.SlidePass.{Pass, fractionOf, rowsOf}
-use Rattle.runs.specs.Machine.{Course, State, endedBy, closed, rowStep, step}
+use Rattle.runs.specs.Machine.{Course, State, passAt, endedBy, closed, rowStep, step}
 use Rattle.runs.specs.Nested.{rowsFrom, passDone, onePass, dropped}
 
 -- a run that has ended stays
@@ -31,19 +31,7 @@ module _ (c : Course) (s : State) (ended : eqb (s .number) 0 ≡ false) where
 -- a state about to begin a pass, as it stands after r rows of which p came
 module _ (s : State) where
   abbrev sliding : ℕ → Pass → State
-  sliding r p =
-      record {
-        heights = s .heights;
-        copy = p .out;
-        row = r;
-        marks = p .marks;
-        incisions = s .incisions;
-        passes = s .passes;
-        iteration = s .iteration;
-        pass = s .pass;
-        opened = s .opened;
-        number = 0;
-      }
+  sliding r p = passAt (p .out) r (p .marks) 0 s
 
   abbrev before-rows : State
   before-rows = sliding 0 (record { out = s .heights; marks = s .marks })
@@ -171,5 +159,5 @@ pub pass-steps : (c : Course) (s : State) → 0 < c .h → s .iteration < c .ite
 unfolding onePass
 pass-steps c s l due opened row copy number =
     subst (λ (x : State). dropped (turns (c .h) (λ i. step c) x) ≡ onePass c x)
-    (λ i. record { heights = s .heights; copy = sym copy i; row = sym row i; marks = s .marks; incisions = s .incisions; passes = s .passes; iteration = s .iteration; pass = s .pass; opened = s .opened; number = sym number i })
+    (λ i. passAt (sym copy i) (sym row i) (s .marks) (sym number i) s)
     (all-rows c s (lt-leb (c .iterations) (s .iteration) due) opened (c .h) refl l)

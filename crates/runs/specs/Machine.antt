@@ -51,6 +51,22 @@ pub record State : Type 0 where
   -- 0 while the run goes on; 21 or 22 once that ended it
   pub number : ℕ
 
+-- a state with another copy and row of its pass, another record and another number; the completed heights and the counts stay
+abbrev pub passAt : List Float → ℕ → Progress → ℕ → State → State
+passAt copy row m number s =
+    record {
+      heights = s .heights;
+      copy = copy;
+      row = row;
+      marks = m;
+      incisions = s .incisions;
+      passes = s .passes;
+      iteration = s .iteration;
+      pass = s .pass;
+      opened = s .opened;
+      number = number;
+    }
+
 module _ (c : Course) where
   abbrev pub start : List Float → State
   start hs =
@@ -69,19 +85,7 @@ module _ (c : Course) where
 
   -- 21 or 22: what the step made is dropped, the record stays as reached
   abbrev pub endedBy : ℕ → Progress → State → State
-  endedBy number m s =
-      record {
-        heights = s .heights;
-        copy = s .heights;
-        row = s .row;
-        marks = m;
-        incisions = s .incisions;
-        passes = s .passes;
-        iteration = s .iteration;
-        pass = s .pass;
-        opened = s .opened;
-        number = number;
-      }
+  endedBy number m s = passAt (s .heights) (s .row) m number s
 
   -- an incision is completed
   abbrev pub cut : List Float → Progress → State → State
@@ -108,19 +112,7 @@ module _ (c : Course) where
 
   -- a row is done and is not the last
   abbrev pub slid : List Float → Progress → State → State
-  slid copy m s =
-      record {
-        heights = s .heights;
-        copy = copy;
-        row = suc (s .row);
-        marks = m;
-        incisions = s .incisions;
-        passes = s .passes;
-        iteration = s .iteration;
-        pass = s .pass;
-        opened = s .opened;
-        number = 0;
-      }
+  slid copy m s = passAt copy (suc (s .row)) m 0 s
 
   -- a pass is completed; after the last one of an iteration the next iteration is due
   abbrev pub closed : List Float → Progress → State → State

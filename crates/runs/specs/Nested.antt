@@ -9,7 +9,7 @@ use lib.Ieee.{Float}
 use Rattle.lists.specs.Loops.{turns}
 use Rattle.grid.specs.Heights.{allFinite}
 use Rattle.thermal_erosion.specs.SlidePass.{Pass, rowsOf}
-use Rattle.runs.specs.Machine.{Course, State, start, endedBy, openStep, closed, steps}
+use Rattle.runs.specs.Machine.{Course, State, passAt, start, endedBy, openStep, closed, steps}
 
 module _ (c : Course) where
   -- the first n rows of the pass that a state is about to begin
@@ -85,16 +85,4 @@ pub record Bounded (c : Course) : Type 0 where
 
 -- an ended state without the row in which it ended, which no answer shows
 abbrev pub dropped : State → State
-dropped s =
-    record {
-      heights = s .heights;
-      copy = s .copy;
-      row = cond (eqb (s .number) 0) (s .row) 0;
-      marks = s .marks;
-      incisions = s .incisions;
-      passes = s .passes;
-      iteration = s .iteration;
-      pass = s .pass;
-      opened = s .opened;
-      number = s .number;
-    }
+dropped s = passAt (s .copy) (cond (eqb (s .number) 0) (s .row) 0) (s .marks) (s .number) s
