@@ -5,26 +5,22 @@ use mathlib.Core.List.{List, [], _∷_, _++_}
 use native.Mathlib.Numerals.{add-one}
 use native.Mathlib.Omega.{arith}
 use lib.ListN.{length, getD, take}
-use lib.Seq.{take-suc}
-use lib.Ieee.{Float, nan}
+use lib.Seq.{take-suc, take-all}
+use lib.Ieee.{Float}
 use Rattle.lists.specs.Loops.{tabulate}
+use Rattle.lists.proofs.TableLaws.{length-tabulate}
 use Rattle.grid.specs.Directions.{neighbourAt}
 use Rattle.drainage.specs.Ground.{Ground, floats, gridGround}
 use Rattle.drainage.specs.Flood.{push, pushAll}
 use Rattle.drainage.proofs.KeptLaws.{pushedTo}
 use Rattle.flood_start.specs.Slices.{stateOf}
 use Rattle.scan_queue.specs.Scans.{Queued}
-use Rattle.reaches.specs.Reaches.{Reached, ReachedAll, Found}
-use Rattle.reaches.proofs.FoundLaws.{pushedBy, pushedBy-more, pushedBy-near, unpushed-all}
+use Rattle.reaches.specs.Reaches.{pushedBy, Reached, ReachedBy, ReachedAll, Found}
+use Rattle.reaches.proofs.FoundLaws.{pushedBy-more, pushedBy-near, unpushed-all}
 
--- cell c has reached the cells of a list, on any ground
-pub record ReachedBy (hs : List Float) (limit c : ℕ) (cells status : List ℕ) (spill : List Float) (recv : List ℕ) (len : ℕ) (status′ : List ℕ)
-    (spill′ : List Float) (recv′ queue′ : List ℕ) : Type 0 where
-  pub left : getD status′ c 0 ≡ 2
-  pub level : getD spill′ c nan ≡ getD spill c nan
-  pub state :
-      (g : Ground) (order : List ℕ) → stateOf status′ spill′ recv′ order ≡ pushedBy floats g hs c cells (stateOf status spill recv order)
-  pub queued : Queued hs limit status′ spill′ len queue′
+-- the neighbour in the direction after the first d
+pub near-next : (w h c d m : ℕ) → m ≡ neighbourAt w h c (d + 1) → m ≡ neighbourAt w h c (suc d)
+near-next w h c d m e = e ∙ ap (neighbourAt w h c) (add-one d)
 
 module _ (hs : List Float) (limit c : ℕ) (status : List ℕ) (spill : List Float) (recv : List ℕ) where
   pub reached-start :
@@ -48,17 +44,6 @@ module _ (hs : List Float) (limit c : ℕ) (status : List ℕ) (spill : List Flo
       queued = s .queued;
     }
 
-    -- the next neighbour, after the first d
-    pub reached-near :
-        (w h d m len₂ : ℕ) (status₂ : List ℕ) (spill₂ : List Float) (recv₂ queue₂ : List ℕ) → cells ≡ tabulate d (λ i. neighbourAt w h c (suc i)) → m ≡ neighbourAt w h c (d + 1)
-        → Reached hs limit c m status₁ spill₁ recv₁ len₂ status₂ spill₂ recv₂ queue₂
-        → ReachedBy hs limit c (tabulate (d + 1) (λ i. neighbourAt w h c (suc i))) status spill recv len₂ status₂ spill₂ recv₂ queue₂
-    unfolding tabulate
-    reached-near w h d m len₂ status₂ spill₂ recv₂ queue₂ e f s =
-        subst (λ l. ReachedBy hs limit c l status spill recv len₂ status₂ spill₂ recv₂ queue₂)
-        (ap (λ l. l ++ (m ∷ [])) e ∙ ap (λ m. tabulate d (λ i. neighbourAt w h c (suc i)) ++ (m ∷ [])) (f ∙ ap (neighbourAt w h c) (add-one d)) ∙ ap (λ d. tabulate d (λ i. neighbourAt w h c (suc i))) (sym (add-one d)))
-        (reached-cell m len₂ status₂ spill₂ recv₂ queue₂ s)
-
     -- the next of a list
     pub reached-next :
         (found : List ℕ) (i len₂ : ℕ) (status₂ : List ℕ) (spill₂ : List Float) (recv₂ queue₂ : List ℕ) → cells ≡ take i found → i < length found
@@ -69,6 +54,14 @@ module _ (hs : List Float) (limit c : ℕ) (status : List ℕ) (spill : List Flo
         (ap (λ l. l ++ (getD found i 0 ∷ [])) e ∙ sym (take-suc found i 0 l) ∙ ap (λ i. take i found) (sym (add-one i)))
         (reached-cell (getD found i 0) len₂ status₂ spill₂ recv₂ queue₂ s)
 
+    -- the first `some` of it are reached
+    pub reached-end :
+        (found : List ℕ) (some i : ℕ) → i ≤ some → some ≤ i → cells ≡ take i found
+        → ReachedBy hs limit c (take some found) status spill recv len₁ status₁ spill₁ recv₁ queue₁
+    reached-end found some i a b e =
+        let all : i ≡ some = omega arith in
+        subst (λ l. ReachedBy hs limit c l status spill recv len₁ status₁ spill₁ recv₁ queue₁) (e ∙ ap (λ i. take i found) all) r
+
     all-reached :
         (w h : ℕ) → ((water : Float) (order : List ℕ) → pushedBy floats (gridGround w h water hs) hs c cells (stateOf status spill recv order) ≡ pushedTo floats (gridGround w h water hs) hs c 8 (stateOf status spill recv order))
         → ReachedAll w h hs limit c status spill recv len₁ status₁ spill₁ recv₁ queue₁
@@ -76,20 +69,16 @@ module _ (hs : List Float) (limit c : ℕ) (status : List ℕ) (spill : List Flo
     all-reached w h e = record { state = λ water order. r .state (gridGround w h water hs) order ∙ e water order; queued = r .queued }
 
     -- all the neighbours are reached
-    pub reached-done :
-        (w h d : ℕ) → d ≤ 8 → 8 ≤ d → cells ≡ tabulate d (λ i. neighbourAt w h c (suc i)) → ReachedAll w h hs limit c status spill recv len₁ status₁ spill₁ recv₁ queue₁
-    reached-done w h d a b e =
-        let all : d ≡ 8 = omega arith in
+    pub all-near : (w h : ℕ) (found : List ℕ) → found ≡ tabulate 8 (λ i. neighbourAt w h c (suc i)) → cells ≡ take 8 found → ReachedAll w h hs limit c status spill recv len₁ status₁ spill₁ recv₁ queue₁
+    all-near w h found f e =
         all-reached w h (λ water order.
-        ap (λ l. pushedBy floats (gridGround w h water hs) hs c l (stateOf status spill recv order)) (e ∙ ap (λ d. tabulate d (λ i. neighbourAt w h c (suc i))) all)
+        ap (λ l. pushedBy floats (gridGround w h water hs) hs c l (stateOf status spill recv order))
+        (e ∙ take-all 8 found (omega (arith, ap length f, length-tabulate (λ i. neighbourAt w h c (suc i)) 8)) ∙ f)
         ∙ pushedBy-near floats (gridGround w h water hs) hs c 8 (stateOf status spill recv order))
 
     -- so they are once those not pushed yet are
-    pub found-reached :
-        (w h : ℕ) (found : List ℕ) (some i : ℕ) → Found (neighbourAt w h c) status 8 some found → i ≤ some → some ≤ i → cells ≡ take i found
-        → ReachedAll w h hs limit c status spill recv len₁ status₁ spill₁ recv₁ queue₁
-    found-reached w h found some i f a b e =
-        let all : i ≡ some = omega arith in
+    pub found-reached : (w h : ℕ) (found : List ℕ) (some : ℕ) → Found (neighbourAt w h c) status 8 some found → cells ≡ take some found → ReachedAll w h hs limit c status spill recv len₁ status₁ spill₁ recv₁ queue₁
+    found-reached w h found some f e =
         all-reached w h (λ water order.
-        ap (λ l. pushedBy floats (gridGround w h water hs) hs c l (stateOf status spill recv order)) (e ∙ ap (λ i. take i found) all ∙ f .cells)
+        ap (λ l. pushedBy floats (gridGround w h water hs) hs c l (stateOf status spill recv order)) (e ∙ f .cells)
         ∙ unpushed-all floats (gridGround w h water hs) hs c 8 (stateOf status spill recv order))

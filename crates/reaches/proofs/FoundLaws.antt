@@ -16,7 +16,7 @@ use Rattle.drainage.specs.Ground.{Ground, Kind}
 use Rattle.drainage.specs.Flood.{Flood, push, pushed}
 use Rattle.drainage.proofs.TallyLaws.{same-or-not}
 use Rattle.drainage.proofs.KeptLaws.{getD-inside, pushedTo}
-use Rattle.reaches.specs.Reaches.{unpushedTo, Found}
+use Rattle.reaches.specs.Reaches.{pushedBy, unpushedTo, Found}
 
 -- none yet, and one neighbour more: m, whose status is v
 pub found-none : (near : ℕ → ℕ) (status found : List ℕ) → length found ≡ 8 → Found near status 0 0 found
@@ -70,18 +70,13 @@ found-fits status m k = go (eqb (getD status m 0) 0)
     go false e = omega arith
 
 module _ {H : Type 0} (k : Kind H) (g : Ground) (hs : List H) (c : ℕ) where
-  -- cell c reaches the cells of a list
-  unfoldable pub pushedBy : List ℕ → Flood H → Flood H
-  pushedBy [] s = s
-  pushedBy (m ∷ l) s = pushedBy l (push k g hs c m s)
-
-  pub pushedBy-more : (l : List ℕ) (m : ℕ) (s : Flood H) → pushedBy (l ++ (m ∷ [])) s ≡ push k g hs c m (pushedBy l s)
+  pub pushedBy-more : (l : List ℕ) (m : ℕ) (s : Flood H) → pushedBy k g hs c (l ++ (m ∷ [])) s ≡ push k g hs c m (pushedBy k g hs c l s)
   unfolding pushedBy
   pushedBy-more [] m s = refl
   pushedBy-more (x ∷ l) m s = pushedBy-more l m (push k g hs c x s)
 
   -- all the neighbours
-  pub pushedBy-near : (d : ℕ) (s : Flood H) → pushedBy (tabulate d (λ i. g .near c (suc i))) s ≡ pushedTo k g hs c d s
+  pub pushedBy-near : (d : ℕ) (s : Flood H) → pushedBy k g hs c (tabulate d (λ i. g .near c (suc i))) s ≡ pushedTo k g hs c d s
   unfolding turns tabulate pushedBy
   pushedBy-near zero s = refl
   pushedBy-near (suc d) s = pushedBy-more (tabulate d (λ i. g .near c (suc i))) (g .near c (suc d)) s ∙ ap (push k g hs c (g .near c (suc d))) (pushedBy-near d s)
@@ -109,7 +104,7 @@ module _ {H : Type 0} (k : Kind H) (g : Ground) (hs : List H) (c : ℕ) where
   stays-to m (suc d) s n = stays-pushed m (g .near c (suc d)) (pushedTo k g hs c d s) (stays-to m d s n)
 
   -- so reaching it again does nothing
-  pub unpushed-all : (d : ℕ) (s : Flood H) → pushedBy (unpushedTo (g .near c) (s .status) d) s ≡ pushedTo k g hs c d s
+  pub unpushed-all : (d : ℕ) (s : Flood H) → pushedBy k g hs c (unpushedTo (g .near c) (s .status) d) s ≡ pushedTo k g hs c d s
   unfolding turns unpushedTo pushedBy
   unpushed-all zero s = refl
   unpushed-all (suc d) s = go (eqb (getD (s .status) (g .near c (suc d)) 1) 0) refl (unpushed-all d s)
@@ -120,9 +115,9 @@ module _ {H : Type 0} (k : Kind H) (g : Ground) (hs : List H) (c : ℕ) where
       t : Flood H
       t = pushedTo k g hs c d s
 
-      go : (b : Bool) → eqb (getD (s .status) m 1) 0 ≡ b → pushedBy (unpushedTo (g .near c) (s .status) d) s ≡ t
-          → pushedBy (unpushedTo (g .near c) (s .status) d ++ cond b (m ∷ []) []) s ≡ push k g hs c m t
+      go : (b : Bool) → eqb (getD (s .status) m 1) 0 ≡ b → pushedBy k g hs c (unpushedTo (g .near c) (s .status) d) s ≡ t
+          → pushedBy k g hs c (unpushedTo (g .near c) (s .status) d ++ cond b (m ∷ []) []) s ≡ push k g hs c m t
       go true e h = pushedBy-more (unpushedTo (g .near c) (s .status) d) m s ∙ ap (push k g hs c m) h
       go false e h =
-          ap (λ l. pushedBy l s) (append-nil (unpushedTo (g .near c) (s .status) d)) ∙ h
+          ap (λ l. pushedBy k g hs c l s) (append-nil (unpushedTo (g .near c) (s .status) d)) ∙ h
           ∙ sym (ap (λ b. cond b (pushed k g hs c m t) t) (ne-eqb (getD (t .status) m 1) 0 (stays-to m d s (eqb-false (getD (s .status) m 1) 0 e))))

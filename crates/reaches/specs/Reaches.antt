@@ -6,8 +6,8 @@ use mathlib.Core.List.{List, [], _∷_, _++_}
 use lib.Dec.{eqb}
 use lib.ListN.{length, getD, take}
 use lib.Ieee.{Float, nan}
-use Rattle.drainage.specs.Ground.{Ground, floats, gridGround}
-use Rattle.drainage.specs.Flood.{push, pushAll}
+use Rattle.drainage.specs.Ground.{Kind, Ground, floats, gridGround}
+use Rattle.drainage.specs.Flood.{Flood, push, pushAll}
 use Rattle.scan_queue.specs.Scans.{Queued}
 use Rattle.flood_start.specs.Slices.{stateOf}
 
@@ -17,6 +17,21 @@ pub record Reached (hs : List Float) (limit c m : ℕ) (status : List ℕ) (spil
   pub left : getD status′ c 0 ≡ 2
   pub level : getD spill′ c nan ≡ getD spill c nan
   pub state : (g : Ground) (order : List ℕ) → stateOf status′ spill′ recv′ order ≡ push floats g hs c m (stateOf status spill recv order)
+  pub queued : Queued hs limit status′ spill′ len queue′
+
+-- cell c reaches the cells of a list
+module _ {H : Type 0} (k : Kind H) (g : Ground) (hs : List H) (c : ℕ) where
+  unfoldable pub pushedBy : List ℕ → Flood H → Flood H
+  pushedBy [] s = s
+  pushedBy (m ∷ l) s = pushedBy l (push k g hs c m s)
+
+-- Cell c has reached the cells of a list.
+pub record ReachedBy (hs : List Float) (limit c : ℕ) (cells status : List ℕ) (spill : List Float) (recv : List ℕ) (len : ℕ) (status′ : List ℕ)
+    (spill′ : List Float) (recv′ queue′ : List ℕ) : Type 0 where
+  pub left : getD status′ c 0 ≡ 2
+  pub level : getD spill′ c nan ≡ getD spill c nan
+  pub state :
+      (g : Ground) (order : List ℕ) → stateOf status′ spill′ recv′ order ≡ pushedBy floats g hs c cells (stateOf status spill recv order)
   pub queued : Queued hs limit status′ spill′ len queue′
 
 -- Cell c has reached all its neighbours.

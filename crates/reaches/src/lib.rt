@@ -6,18 +6,19 @@ use heap::place;
 use heap::push;
 use inner_cells::beside;
 use inner_cells::is_inner;
-ghost use Prim.Native.Nat.{_*_, _<_};
+ghost use Prim.Native.Nat.{suc, _*_, _≤_, _<_};
 ghost use mathlib.Core.Path.{_≡_};
 ghost use mathlib.Core.Bool.{cond};
 ghost use lib.Dec.{eqb};
-ghost use lib.ListN.{length, getD};
+ghost use lib.ListN.{length, getD, take};
 ghost use lib.Ieee.{nan};
+ghost use Rattle.lists.specs.Loops.{tabulate};
 ghost use Rattle.grid.specs.Sides.{InRange};
 ghost use Rattle.grid.specs.Directions.{neighbourAt};
 ghost use Rattle.inner_cells.specs.Inner.{Inner, offsetsOf};
 ghost use Rattle.scan_queue.specs.Scans.{Queued, Level};
 ghost use Rattle.flood_start.specs.Slices.{Sizes};
-ghost use Rattle.reaches.specs.Reaches.{Reached, ReachedAll, Found};
+ghost use Rattle.reaches.specs.Reaches.{Reached, ReachedBy, ReachedAll, Found};
 
 // Cell c reaches cell m: a cell not pushed yet, whose spill height so far is its own height, gets its spill height and its finder and waits from now on,
 // in the heap if the scan has passed it, else where it stands in the list. Outside the grid m is no cell.
@@ -56,36 +57,20 @@ fn reach(
     len + 1
 }
 
-// Cell c reaches its neighbours in scan order, each tested for being a cell of the grid.
-fn reach_tested(
-    g: Sides,
-    h: &[f32],
-    limit: u64,
-    c: usize,
-    len: usize,
-    status: &mut [u8],
-    spill: &mut [f32],
-    recv: &mut [u32],
-    queue: &mut [u32],
-) -> usize
+// The neighbours of any cell in scan order. Outside the grid there is none, and its entry is no cell.
+fn find_all(g: Sides, c: usize, found: &mut [usize; 8])
     requires { ⌜ InRange (g .w) (g .h) ⌝ }
-    requires { ⌜ Sizes (g .w * g .h) (now h) (now status) (now spill) (now recv) (now queue) ⌝ }
-    requires { ⌜ Queued (now h) limit (now status) (now spill) len (now queue) ⌝ }
     requires { ⌜ c < g .w * g .h ⌝ }
-    requires { ⌜ getD (now status) c 0 ≡ 2 ⌝ }
-    requires { ⌜ Level (now h) limit (getD (now spill) c nan) ⌝ }
-    ensures { λ r. ⌜ ReachedAll (g .w) (g .h) (now (h .entry)) limit c (now (status .entry)) (now (spill .entry)) (now (recv .entry)) r (now (status .exit)) (now (spill .exit)) (now (recv .exit)) (now (queue .exit)) ⌝ }
+    requires { ⌜ length (now found) ≡ 8 ⌝ }
+    ensures { λ _. ⌜ now (found .exit) ≡ tabulate 8 (λ i. neighbourAt (g .w) (g .h) c (suc i)) ⌝ }
 {
     let x = c % g.w;
     let y = c / g.w;
-    let mut waiting = len;
     let mut d: usize = 0;
     while d < 8 {
-        let m = neighbour(g, x, y, d + 1);
-        waiting = reach(h, limit, c, m, waiting, status, spill, recv, queue);
+        found[d] = neighbour(g, x, y, d + 1);
         d += 1;
     }
-    waiting
 }
 
 // 1 if a cell with this status has not been pushed, else 0.
@@ -121,30 +106,28 @@ fn find_unpushed(
     some
 }
 
-// The same of an inner cell, all of whose neighbours are cells: it reaches those that have not been pushed.
-fn reach_inner(
-    g: Sides,
-    os: &[usize; 9],
+// Cell c reaches the first `some` of the cells found, in their order.
+fn reach_found(
     h: &[f32],
     limit: u64,
     c: usize,
+    found: &[usize; 8],
+    some: usize,
     len: usize,
     status: &mut [u8],
     spill: &mut [f32],
     recv: &mut [u32],
     queue: &mut [u32],
 ) -> usize
-    requires { ⌜ Inner (g .w) (g .h) c ⌝ }
-    requires { ⌜ now os ≡ offsetsOf (g .w) ⌝ }
-    requires { ⌜ Sizes (g .w * g .h) (now h) (now status) (now spill) (now recv) (now queue) ⌝ }
+    requires { ⌜ length (now found) ≡ 8 ⌝ }
+    requires { ⌜ some ≤ 8 ⌝ }
+    requires { ⌜ Sizes (length (now h)) (now h) (now status) (now spill) (now recv) (now queue) ⌝ }
     requires { ⌜ Queued (now h) limit (now status) (now spill) len (now queue) ⌝ }
-    requires { ⌜ c < g .w * g .h ⌝ }
+    requires { ⌜ c < length (now h) ⌝ }
     requires { ⌜ getD (now status) c 0 ≡ 2 ⌝ }
     requires { ⌜ Level (now h) limit (getD (now spill) c nan) ⌝ }
-    ensures { λ r. ⌜ ReachedAll (g .w) (g .h) (now (h .entry)) limit c (now (status .entry)) (now (spill .entry)) (now (recv .entry)) r (now (status .exit)) (now (spill .exit)) (now (recv .exit)) (now (queue .exit)) ⌝ }
+    ensures { λ r. ⌜ ReachedBy (now (h .entry)) limit c (take some (now (found .entry))) (now (status .entry)) (now (spill .entry)) (now (recv .entry)) r (now (status .exit)) (now (spill .exit)) (now (recv .exit)) (now (queue .exit)) ⌝ }
 {
-    let mut found: [usize; 8] = [0; 8];
-    let some = find_unpushed(g, os, c, status, &mut found);
     let mut waiting = len;
     let mut i: usize = 0;
     while i < some {
@@ -154,7 +137,7 @@ fn reach_inner(
     waiting
 }
 
-// Cell c reaches its neighbours. `os` has the offsets of an inner cell's.
+// Cell c reaches its neighbours: of an inner cell, whose neighbours are all cells, those that have not been pushed. `os` has their offsets.
 pub fn reach_all(
     g: Sides,
     os: &[usize; 9],
@@ -176,8 +159,11 @@ pub fn reach_all(
     requires { ⌜ Level (now h) limit (getD (now spill) c nan) ⌝ }
     ensures { λ r. ⌜ ReachedAll (g .w) (g .h) (now (h .entry)) limit c (now (status .entry)) (now (spill .entry)) (now (recv .entry)) r (now (status .exit)) (now (spill .exit)) (now (recv .exit)) (now (queue .exit)) ⌝ }
 {
+    let mut found: [usize; 8] = [0; 8];
     if is_inner(g, c) {
-        return reach_inner(g, os, h, limit, c, len, status, spill, recv, queue);
+        let some = find_unpushed(g, os, c, status, &mut found);
+        return reach_found(h, limit, c, &found, some, len, status, spill, recv, queue);
     }
-    reach_tested(g, h, limit, c, len, status, spill, recv, queue)
+    find_all(g, c, &mut found);
+    reach_found(h, limit, c, &found, 8, len, status, spill, recv, queue)
 }

@@ -1,16 +1,29 @@
-use mathlib.Core.Path.{sym, _∙_}
+use Prim.Native.Nat.{suc}
+use mathlib.Core.Path.{refl, sym, ap, _∙_}
+use native.Mathlib.Omega.{arith}
+use lib.ListN.{length}
+use Rattle.lists.proofs.TableLaws.{length-tabulate}
+use Rattle.grid.specs.Directions.{neighbourAt}
 use Rattle.inner_cells.proofs.InnerLaws.{is-inner}
+use Rattle.reaches.proofs.ReachLaws.{sizes-whole}
+use Rattle.reaches.proofs.ByLaws.{found-reached, all-near}
 use borrow.Author.Needs.{needs}
 use Rattle.reaches.proofs.reach_all.Statement.{statement}
 use Rattle.reaches.proofs.reach_all.Tie as tie
 
 is-inner-requires : tie.Need-is-inner-requires
-is-inner-requires c κs = c .before .before .before .before .before .pre .0 .columns
+is-inner-requires c κs = search needs
 
-reach-inner-requires : tie.Need-reach-inner-requires
-reach-inner-requires c κs =
-    let p = c .before .before .before .before .before .before .before .before .before .before .before .pre in
-    (is-inner _ _ _ (p .1 .1 .1 .1 .0) (p .0 .wide) (p .0 .high) (sym (c .before .before .before .before .before .is-inner .ensures) ∙ c .before .before .before .before .if1 .taken), p .1)
+find-unpushed-requires : tie.Need-find-unpushed-requires
+find-unpushed-requires c κs =
+    let p = c .before .before .before .before .before .before .before .before .before .pre in
+    (is-inner _ _ _ (p .1 .1 .1 .1 .0) (p .0 .wide) (p .0 .high) (sym (c .before .before .before .is-inner .ensures) ∙ c .before .before .if1 .taken), (p .1 .0, (p .1 .1 .0 .statuses, refl)))
+
+reach-found-requires : tie.Need-reach-found-requires
+reach-found-requires c κs =
+    let f = c .before .before .before .before .before .find-unpushed .ensures in
+    let p = c .before .before .before .before .before .before .before .before .before .before .before .before .before .before .before .pre .1 .1 in
+    (f .long, (f .few, (sizes-whole (p .0), (p .1 .0, (omega (arith, p .1 .1 .0, p .0 .heights), p .1 .1 .1)))))
 
 same-length : tie.Need-same-length
 same-length c = search needs
@@ -25,10 +38,16 @@ same-length-4 : tie.Need-same-length-4
 same-length-4 c = search needs
 
 returns : tie.Need-returns
-returns c = c .before .before .before .before .before .before .before .before .reach-inner .ensures
+returns c = found-reached _ _ _ _ _ _ _ _ _ _ _ _ (c .before .before .before .before .before .before .before .before .reach-found .ensures) _ _ _ _ (c .before .before .before .before .before .before .before .before .before .before .before .before .before .before .find-unpushed .ensures) refl
 
-reach-tested-requires : tie.Need-reach-tested-requires
-reach-tested-requires c κs = let p = c .before .before .before .before .before .before .before .before .before .before .before .pre in (p .0, p .1 .1)
+find-all-requires : tie.Need-find-all-requires
+find-all-requires c κs = search needs
+
+reach-found-requires-2 : tie.Need-reach-found-requires-2
+reach-found-requires-2 c κs =
+    let a = c .before .before .before .before .before .before .before .before .before .before .before .before .before .before .args in
+    let p = c .before .before .before .before .before .before .before .before .before .before .before .before .before .before .pre .1 .1 in
+    (ap length (c .before .before .before .before .before .find-all .ensures) ∙ length-tabulate (λ i. neighbourAt (a .g .w) (a .g .h) (a .c) (suc i)) 8, (omega arith, (sizes-whole (p .0), (p .1 .0, (omega (arith, p .1 .1 .0, p .0 .heights), p .1 .1 .1)))))
 
 same-length-5 : tie.Need-same-length-5
 same-length-5 c = search needs
@@ -43,20 +62,22 @@ same-length-8 : tie.Need-same-length-8
 same-length-8 c = search needs
 
 returns-2 : tie.Need-returns-2
-returns-2 c = c .before .before .before .before .before .before .before .before .reach-tested .ensures
+returns-2 c = all-near _ _ _ _ _ _ _ _ _ _ _ _ (c .before .before .before .before .before .before .before .before .reach-found2 .ensures) _ _ _ (c .before .before .before .before .before .before .before .before .before .before .before .before .before .before .find-all .ensures) refl
 
 pub reach-all-spec : {M : Type 1} → statement M
 reach-all-spec =
     tie.close
     (tie.spec
     is-inner-requires
-    reach-inner-requires
+    find-unpushed-requires
+    reach-found-requires
     same-length
     same-length-2
     same-length-3
     same-length-4
     returns
-    reach-tested-requires
+    find-all-requires
+    reach-found-requires-2
     same-length-5
     same-length-6
     same-length-7
