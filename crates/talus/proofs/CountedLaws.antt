@@ -19,16 +19,18 @@ set-part true out m v = refl
 set-part false out m v = set-getD out m nan
 
 module _ (ts hs : List Float) (c m d : ℕ) where
-  pub shed-counted : (s : Shed) {total most greatest : Float}
-      → total ≡ cond (lt (ofBits binary32 0) (excessTo ts hs c m d)) (add binary32 (s .total) (excessTo ts hs c m d)) (s .total)
-      → most ≡ maxOf (s .greatest) (excessTo ts hs c m d)
-      → greatest ≡ cond (lt (ofBits binary32 0) (excessTo ts hs c m d)) most (s .greatest)
+  pub shed-counted : (s : Shed) {e total most greatest : Float}
+      → e ≡ excessTo ts hs c m d
+      → total ≡ cond (lt (ofBits binary32 0) e) (add binary32 (s .total) e) (s .total)
+      → most ≡ maxOf (s .greatest) e
+      → greatest ≡ cond (lt (ofBits binary32 0) e) most (s .greatest)
       → _≡_ {A = Shed} (record { total = total; greatest = greatest }) (shedTo ts hs c m d s)
   unfolding shedTo
-  shed-counted s e f g = rw (g, f, e) (shed-parts (lt (ofBits binary32 0) (excessTo ts hs c m d)) _ _ _ _)
+  shed-counted s x e f g = rw (g, f, e, x) (shed-parts (lt (ofBits binary32 0) (excessTo ts hs c m d)) _ _ _ _)
 
-  pub gain-counted : (moved total : Float) (out : List Float) {v : Float}
-      → v ≡ cond (lt (ofBits binary32 0) (excessTo ts hs c m d)) (add binary32 (getD out m nan) (div binary32 (mul binary32 moved (excessTo ts hs c m d)) total)) (getD out m nan)
+  pub gain-counted : (moved total : Float) (out : List Float) {e v : Float}
+      → e ≡ excessTo ts hs c m d
+      → v ≡ cond (lt (ofBits binary32 0) e) (add binary32 (getD out m nan) (div binary32 (mul binary32 moved e) total)) (getD out m nan)
       → set out m v ≡ gainTo ts hs c m moved total d out
   unfolding gainTo
-  gain-counted moved total out e = ap (set out m) e ∙ set-part (lt (ofBits binary32 0) (excessTo ts hs c m d)) out m _
+  gain-counted moved total out x e = ap (set out m) e ∙ rw x (set-part (lt (ofBits binary32 0) (excessTo ts hs c m d)) out m _)

@@ -17,10 +17,14 @@ thresholdsOf t =
     let diagonal = mul binary32 t (ofBits binary32 0x3fb5_04f3) in
     t ∷ diagonal ∷ t ∷ diagonal ∷ t ∷ t ∷ diagonal ∷ t ∷ diagonal ∷ []
 
+-- the excess of cell c toward cell m over a threshold: (height - neighbour) - threshold
+abbrev pub excessOver : List Float → ℕ → ℕ → Float → Float
+excessOver hs c m t = sub binary32 (sub binary32 (getD hs c nan) (getD hs m nan)) t
+
 module _ (ts : List Float) (hs : List Float) where
-  -- the excess of cell c toward cell m in direction d: (height - neighbour) - threshold
+  -- over that of direction d
   abbrev pub excessTo : ℕ → ℕ → ℕ → Float
-  excessTo c m d = sub binary32 (sub binary32 (getD hs c nan) (getD hs m nan)) (getD ts d nan)
+  excessTo c m d = excessOver hs c m (getD ts d nan)
 
   -- with that excess, if it is counted: the total of the excesses, and the greatest of them
   unfoldable pub shedTo : ℕ → ℕ → ℕ → Shed → Shed

@@ -8,7 +8,7 @@ ghost use mathlib.Core.Bool.{cond};
 ghost use Prim.Native.Nat.{_+_, _*_, _<_};
 ghost use lib.ListN.{length};
 ghost use lib.Ieee.{binary32, ofBits, lt};
-ghost use Rattle.talus.specs.Talus.{thresholdsOf, shedTo, shedStep, shedOf, gainTo, gainStep, gainsOf, slideCell, slideCells};
+ghost use Rattle.talus.specs.Talus.{thresholdsOf, excessOver, shedTo, shedStep, shedOf, gainTo, gainStep, gainsOf, slideCell, slideCells};
 ghost use Rattle.talus.specs.Places.{CellAt, InRow};
 
 // The total of the excesses counted so far, and the greatest of them.
@@ -34,6 +34,15 @@ fn where_counted(e: f32, counted: f32, not: f32) -> f32
     if e > 0.0 { counted } else { not }
 }
 
+// The excess of cell c toward cell m over a threshold.
+pub fn excess(hmap: &[f32], c: usize, m: usize, threshold: f32) -> f32
+    requires { ⌜ c < length (now hmap) ⌝ }
+    requires { ⌜ m < length (now hmap) ⌝ }
+    ensures { λ r. ⌜ r ≡ excessOver (now (hmap .entry)) c m threshold ⌝ }
+{
+    (hmap[c] - hmap[m]) - threshold
+}
+
 // The excess of cell c toward cell m in direction d is counted if it is above 0.
 pub fn shed_at(ts: &[f32; 9], hmap: &[f32], c: usize, m: usize, d: usize, s: Shed) -> Shed
     requires { ⌜ c < length (now hmap) ⌝ }
@@ -41,7 +50,7 @@ pub fn shed_at(ts: &[f32; 9], hmap: &[f32], c: usize, m: usize, d: usize, s: She
     requires { ⌜ d < 9 ⌝ }
     ensures { λ r. ⌜ r ≡ shedTo (now (ts .entry)) (now (hmap .entry)) c m d s ⌝ }
 {
-    let e = (hmap[c] - hmap[m]) - ts[d];
+    let e = excess(hmap, c, m, ts[d]);
     Shed {
         total: where_counted(e, s.total + e, s.total),
         greatest: where_counted(e, max(s.greatest, e), s.greatest),
@@ -65,7 +74,7 @@ pub fn gain_at(
     requires { ⌜ d < 9 ⌝ }
     ensures { λ _. ⌜ now (out .exit) ≡ gainTo (now (ts .entry)) (now (hmap .entry)) c m moved total d (now (out .entry)) ⌝ }
 {
-    let e = (hmap[c] - hmap[m]) - ts[d];
+    let e = excess(hmap, c, m, ts[d]);
     let old = out[m];
     out[m] = where_counted(e, old + moved * e / total, old);
 }

@@ -32,7 +32,7 @@ module _ (w h : ℕ) (ts hs : List Float) (y x : ℕ) (totals moved : List Float
     sheds : (d : ℕ) (t : List Float) → 1 ≤ d → d ≤ 8 → le (getD totals i nan) (ofBits binary32 0) ≡ false
         → gainOf w h ts hs y x totals moved d i t ≡ gainStep w h ts hs (x + i + y * w) (getD moved i nan) (getD totals i nan) d t
     sheds d t lo hi e =
-        gain-counted ts hs (x + i + y * w) (neighbourAt w h (x + i + y * w) d) d (getD moved i nan) (getD totals i nan) t (rw e refl)
+        gain-counted ts hs (x + i + y * w) (neighbourAt w h (x + i + y * w) d) d (getD moved i nan) (getD totals i nan) t refl (rw e refl)
         ∙ sym (gain-inside w h (w * h) ts hs (x + i + y * w) d (neighbourAt w h (x + i + y * w) d) refl refl (getD moved i nan) (getD totals i nan) t
         (inner-cell w h (x + i + y * w) d lo hi (r .inner i l)))
 

@@ -28,9 +28,10 @@ module _ {f : ℕ → List Float → List Float} {n : ℕ} {out : List Float} wh
   passing-done {i} p l = let same : i ≡ n = omega (arith, p .place) in p .state ∙ ap (λ (k : ℕ). turns k f out) same
 
 -- one gain, as the code works it out
-pub gain-more : (w h : ℕ) (ts hs : List Float) (y x : ℕ) (totals moved : List Float) (d i : ℕ) (s : List Float) {m : ℕ} {v : Float}
+pub gain-more : (w h : ℕ) (ts hs : List Float) (y x : ℕ) (totals moved : List Float) (d i : ℕ) (s : List Float) {m : ℕ} {e v : Float}
     → m ≡ neighbourAt w h (x + i + y * w) d
-    → v ≡ gainedBy (excessTo ts hs (x + i + y * w) m d) (getD totals i nan) (getD moved i nan) (getD s m nan)
+    → e ≡ excessTo ts hs (x + i + y * w) m d
+    → v ≡ gainedBy e (getD totals i nan) (getD moved i nan) (getD s m nan)
     → set s m v ≡ gainOf w h ts hs y x totals moved d i s
-gain-more w h ts hs y x totals moved d i s {m} {v} e f =
-    ap (set s m) f ∙ ap (λ (k : ℕ). changed (gainedBy (excessTo ts hs (x + i + y * w) k d) (getD totals i nan) (getD moved i nan)) k s) e
+gain-more w h ts hs y x totals moved d i s {m} e g f =
+    ap (set s m) f ∙ ap (λ (e : Float). changed (gainedBy e (getD totals i nan) (getD moved i nan)) m s) g ∙ ap (λ (k : ℕ). changed (gainedBy (excessTo ts hs (x + i + y * w) k d) (getD totals i nan) (getD moved i nan)) k s) e

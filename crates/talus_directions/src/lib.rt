@@ -2,6 +2,7 @@
 // A height still gets its losses and gains in the order of the cells.
 use grid::Sides;
 use inner_cells::beside;
+use talus::excess;
 ghost use mathlib.Core.Path.{_≡_};
 ghost use Prim.Native.Nat.{_<_, _≤_};
 ghost use lib.ListN.{length};
@@ -80,7 +81,7 @@ fn gain_block(
     while i < n {
         let c = x + i + y * w;
         let m = beside(size, os, c, d);
-        let e = (hmap[c] - hmap[m]) - t;
+        let e = excess(hmap, c, m, t);
         out[m] = gained(e, totals[i], moved[i], out[m]);
         i += 1;
     }

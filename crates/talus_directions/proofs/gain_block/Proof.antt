@@ -47,53 +47,44 @@ beside-requires c κs = (c .before .before .before .before .before .pre .0 .inne
 near : (c : tie.After-beside Inv-loop μ-loop) → c .beside .result < length (c .before .before .before .before .before .before .args .hmap .now)
 near c = inner-below _ _ _ (c .before .before .before .before .before .before .args .d) (c .before .before .before .before .before .before .pre .1 .1 .1 .1 .0) (omega (arith, c .before .before .before .before .before .before .pre .1 .1 .1 .1 .1)) (c .before .before .before .before .before .before .pre .0 .inner (c .before .before .loop .i) (c .before .loop-test .taken)) _ _ (c .before .before .before .before .before .before .pre .0 .row .size) (c .beside .ensures)
 
-mul-e : tie.Need-mul-e Inv-loop μ-loop
-mul-e c = omega (arith, below (c .before))
-
-shared-slice-read-e : tie.Need-shared-slice-read-e Inv-loop μ-loop
-shared-slice-read-e c = below (c .before .before)
-
-mul-e-2 : tie.Need-mul-e-2 Inv-loop μ-loop
-mul-e-2 c = omega (arith, near (c .before))
-
-shared-slice-read-e-2 : tie.Need-shared-slice-read-e-2 Inv-loop μ-loop
-shared-slice-read-e-2 c = near (c .before .before)
+excess-requires : tie.Need-excess-requires Inv-loop μ-loop
+excess-requires c κs = (below (c .before), near c)
 
 mul-gained : tie.Need-mul-gained Inv-loop μ-loop
-mul-gained c = omega (arith, few (c .before .before .before))
+mul-gained c = omega (arith, few (c .before .before))
 
 element-copy-out-gained : tie.Need-element-copy-out-gained Inv-loop μ-loop
-element-copy-out-gained c = few (c .before .before .before)
+element-copy-out-gained c = few (c .before .before)
 
 mul-gained-2 : tie.Need-mul-gained-2 Inv-loop μ-loop
-mul-gained-2 c = omega (arith, few (c .before .before .before .before))
+mul-gained-2 c = omega (arith, few (c .before .before .before))
 
 element-copy-out-gained-2 : tie.Need-element-copy-out-gained-2 Inv-loop μ-loop
-element-copy-out-gained-2 c = few (c .before .before .before .before)
+element-copy-out-gained-2 c = few (c .before .before .before)
 
 mul-gained-3 : tie.Need-mul-gained-3 Inv-loop μ-loop
-mul-gained-3 c = omega (arith, near (c .before .before .before .before))
+mul-gained-3 c = omega (arith, near (c .before .before .before))
 
 slice-read-gained : tie.Need-slice-read-gained Inv-loop μ-loop
-slice-read-gained c = omega (arith, near (c .before .before .before .before .before), c .before .before .before .before .before .before .before .loop .inv .long, c .before .before .before .before .before .before .before .before .before .before .before .pre .1 .1 .0)
+slice-read-gained c = omega (arith, near (c .before .before .before .before), c .before .before .before .before .before .before .loop .inv .long, c .before .before .before .before .before .before .before .before .before .before .pre .1 .1 .0)
 
 gained-requires : tie.Need-gained-requires Inv-loop μ-loop
 gained-requires c κs = search needs
 
 mul-out : tie.Need-mul-out Inv-loop μ-loop
-mul-out c = omega (arith, near (c .before .before .before .before .before .before))
+mul-out c = omega (arith, near (c .before .before .before .before .before))
 
 slice-write-out : tie.Need-slice-write-out Inv-loop μ-loop
-slice-write-out c = omega (arith, near (c .before .before .before .before .before .before), c .before .before .before .before .before .before .before .before .loop .inv .long, c .before .before .before .before .before .before .before .before .before .before .before .before .pre .1 .1 .0)
+slice-write-out c = omega (arith, near (c .before .before .before .before .before), c .before .before .before .before .before .before .before .loop .inv .long, c .before .before .before .before .before .before .before .before .before .before .before .pre .1 .1 .0)
 
 add-i : tie.Need-add-i Inv-loop μ-loop
-add-i c = omega (arith, few (c .before .before .before .before .before .before .before))
+add-i c = omega (arith, few (c .before .before .before .before .before .before))
 
 loop-less : tie.Need-loop-less Inv-loop μ-loop
-loop-less c = omega (arith, c .before .before .before .before .before .before .before .loop-test .taken)
+loop-less c = omega (arith, c .before .before .before .before .before .before .loop-test .taken)
 
 loop-again : tie.Need-loop-again Inv-loop μ-loop
-loop-again c = passing-more (c .before .before .before .before .before .before .before .before .loop .inv) (c .before .before .before .before .before .before .before .loop-test .taken) (length-set (c .before .before .before .before .before .before .before .before .loop .out) (c .before .before .before .before .before .before .beside .result) (c .gained .result)) (gain-more _ _ (c .before .before .before .before .before .before .before .before .before .before .before .before .args .ts .now) (c .before .before .before .before .before .before .before .before .before .before .before .before .args .hmap .now) _ _ (c .before .before .before .before .before .before .before .before .before .before .before .before .args .totals .now) (c .before .before .before .before .before .before .before .before .before .before .before .before .args .moved .now) (c .before .before .before .before .before .before .before .before .before .before .before .before .args .d) (c .before .before .before .before .before .before .before .before .loop .i) (c .before .before .before .before .before .before .before .before .loop .out) (c .before .before .before .before .before .before .beside .ensures) (c .gained .ensures))
+loop-again c = passing-more (c .before .before .before .before .before .before .before .loop .inv) (c .before .before .before .before .before .before .loop-test .taken) (length-set (c .before .before .before .before .before .before .before .loop .out) (c .before .before .before .before .before .beside .result) (c .gained .result)) (gain-more _ _ (c .before .before .before .before .before .before .before .before .before .before .before .args .ts .now) (c .before .before .before .before .before .before .before .before .before .before .before .args .hmap .now) _ _ (c .before .before .before .before .before .before .before .before .before .before .before .args .totals .now) (c .before .before .before .before .before .before .before .before .before .before .before .args .moved .now) (c .before .before .before .before .before .before .before .before .before .before .before .args .d) (c .before .before .before .before .before .before .before .loop .i) (c .before .before .before .before .before .before .before .loop .out) (c .before .before .before .before .before .beside .ensures) (c .before .before .before .before .excess .ensures) (c .gained .ensures))
 
 same-length : tie.Need-same-length Inv-loop μ-loop
 same-length c = c .before .loop .inv .long
@@ -115,10 +106,7 @@ gain-block-spec =
     mul-c
     add-c-2
     beside-requires
-    mul-e
-    shared-slice-read-e
-    mul-e-2
-    shared-slice-read-e-2
+    excess-requires
     mul-gained
     element-copy-out-gained
     mul-gained-2
