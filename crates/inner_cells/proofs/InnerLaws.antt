@@ -7,9 +7,9 @@ use native.Mathlib.Nat.{mul-le-mul}
 use native.Mathlib.Omega.{arith}
 use lib.Dec.{eqb, ltb, lit≤}
 use lib.IntN.{ℤ, pos, negsuc, natAbs}
-use lib.ListN.{length, getD, set}
+use lib.ListN.{getD}
 use borrow.Author.Tests.{lt-ltb, ltb-true, ltb-false, eqb-false}
-use Rattle.lists.proofs.TableLaws.{getD-tabulate, filled, filled-more, filled-done}
+use Rattle.lists.proofs.TableLaws.{getD-tabulate}
 use Rattle.grid.specs.Sides.{cellOf, columnOf, rowOf}
 use Rattle.grid.specs.Base.{borderAt}
 use Rattle.grid.specs.Directions.{shiftedOf, neighbourOf, neighbourAt}
@@ -44,15 +44,14 @@ offset-fits w d a b l e f =
     let n : b ≤ 3 = omega (arith, shift-most (stepY d)) in
     omega (arith, shift-most (stepX d), mul-le-mul n l)
 
--- one offset more
-pub offsets-more : (w d a b : ℕ) (old new : List ℕ)
-    → new ≡ filled (offsetOf w) d old
-    → d < length old
-    → shiftedOf 1 (stepX d) 3 ≡ a
-    → shiftedOf 1 (stepY d) 3 ≡ b
-    → set new d (a + b * w) ≡ filled (offsetOf w) (d + 1) old
-offsets-more w d a b old new h l e f =
-    ap₂ (λ (x y : ℕ). set new d (x + y * w)) (sym e) (sym f) ∙ ap (λ (k : List ℕ). set k d (offsetOf w d)) h ∙ filled-more (offsetOf w) d old l
+-- an offset by the two steps of its direction
+pub offset-by : (w d a b : ℕ) → shiftedOf 1 (stepX d) 3 ≡ a → shiftedOf 1 (stepY d) 3 ≡ b → a + b * w ≡ offsetOf w d
+offset-by w d a b e f = ap₂ (λ (x y : ℕ). x + y * w) (sym e) (sym f)
+
+-- the offsets, as the code reads them
+pub offset-read : (w : ℕ) (os : List ℕ) → os ≡ offsetsOf w → (d : ℕ) → d < 9 → getD os d 0 ≡ offsetOf w d
+unfolding offsetsOf
+offset-read w os e d l = ap (λ (t : List ℕ). getD t d 0) e ∙ getD-tabulate (offsetOf w) 9 d 0 l
 
 -- the steps of the eight directions
 record Small (d : ℕ) : Type 0 where
@@ -97,12 +96,8 @@ module _ (w h c d : ℕ) (lo : 1 ≤ d) (hi : d ≤ 8) (a : Inner w h c) where
 
   -- as the code works it out
   module _ (os : List ℕ) (e : os ≡ offsetsOf w) where
-    offset-is : getD os d 0 ≡ offsetOf w d
-    unfolding offsetsOf
-    offset-is = ap (λ (l : List ℕ). getD l d 0) e ∙ getD-tabulate (offsetOf w) 9 d 0 (omega arith)
-
     pub inner-sum : c + getD os d 0 ≡ neighbourAt w h c d + (w + 1)
-    inner-sum = ap (λ (k : ℕ). c + k) offset-is ∙ sym inner-offset
+    inner-sum = ap (λ (k : ℕ). c + k) (offset-read w os e d (omega arith)) ∙ sym inner-offset
 
     pub inner-sum-most : c + getD os d 0 ≤ 2 ^ 25
     inner-sum-most = omega (arith, inner-sum, inner-cell, cells-bound w h (a .wide) (a .high))
@@ -166,7 +161,3 @@ module _ (w h y n : ℕ) (e : n ≡ innerOf w h y) where
           let first : y ≡ 0 → ⊥ = eqb-false y 0 f in
           let last : y ≡ h - 1 → ⊥ = eqb-false y (h - 1) g in
           inner-at w h (1 + i) y (omega arith) (omega arith) (omega arith) (omega arith) wide high
-
-pub offsets-done : (w : ℕ) (old new : List ℕ) (d : ℕ) → new ≡ filled (offsetOf w) d old → length old ≡ 9 → d ≡ 9 → new ≡ offsetsOf w
-unfolding offsetsOf
-offsets-done w old new d h n e = h ∙ ap (λ (k : ℕ). filled (offsetOf w) k old) e ∙ filled-done (offsetOf w) 9 old n

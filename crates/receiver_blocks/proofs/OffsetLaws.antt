@@ -13,12 +13,12 @@ use borrow.Author.Tests.{eq-eqb, ne-eqb}
 use native.Mathlib.Decide.{ℕ-discrete}
 use Rattle.lists.specs.Loops.{turns}
 use Rattle.lists.proofs.TurnLaws.{turns-none, turns-more, turns-hold}
-use Rattle.lists.proofs.TableLaws.{length-tabulate, getD-tabulate}
+use Rattle.lists.proofs.TableLaws.{length-tabulate}
 use Rattle.grid.specs.Sides.{columnOf, rowOf}
 use Rattle.grid.specs.Directions.{neighbourAt, Adjacent}
 use Rattle.grid.proofs.SidesLaws.{cell-lt, cell-back, cells-bound}
 use Rattle.inner_cells.specs.Inner.{Inner, offsetOf, offsetsOf}
-use Rattle.inner_cells.proofs.InnerLaws.{inner-cell, inner-offset, offset-fits}
+use Rattle.inner_cells.proofs.InnerLaws.{inner-cell, inner-offset, offset-fits, offset-read}
 use Rattle.drainage.specs.Ground.{distances}
 use Rattle.ways.specs.Apart.{apart}
 use Rattle.steps.specs.Step.{Near, distanceTable, placeOf}
@@ -58,11 +58,7 @@ pub slope-read :
 slope-read w spill c f near wide ds place e p =
     ap (slopeDown spill c f) (ap (λ (t : List Float). getD t place nan) e ∙ ap (λ (k : ℕ). getD distanceTable k nan) p ∙ place-holds near wide .1)
 
--- the offsets, as the code reads them
-pub offset-read : (w : ℕ) (os : List ℕ) → os ≡ offsetsOf w → (d : ℕ) → d < 9 → getD os d 0 ≡ offsetOf w d
-unfolding offsetsOf
-offset-read w os e d l = ap (λ (t : List ℕ). getD t d 0) e ∙ getD-tabulate (offsetOf w) 9 d 0 l
-
+-- the offsets in fewer bits
 pub offsets-long : (w : ℕ) (os : List ℕ) → os ≡ offsetsOf w → 9 ≡ length os
 unfolding offsetsOf
 offsets-long w os e = sym (ap length e ∙ length-tabulate (offsetOf w) 9)

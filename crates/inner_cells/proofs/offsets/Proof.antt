@@ -1,26 +1,26 @@
-use Prim.Native.Nat.{_-_, _≤_}
+use Prim.Native.Nat.{_-_}
 use mathlib.Core.Path.{_≡_, refl}
 use native.Mathlib.Omega.{arith}
 use borrow.Author.Needs.{needs}
 use lib.Dec.{lit<, lit≤}
 use lib.ListN.{length}
-use Rattle.lists.proofs.TableLaws.{filled, filled-none}
+use Rattle.lists.proofs.FillLaws.{Filling, filling-none, filling-more, filling-done}
 use Rattle.grid.specs.Directions.{dirX, dirY, shiftedOf}
 use Rattle.grid.proofs.NeighbourLaws.{stepX, stepY}
 use Rattle.grid.proofs.ShiftedLaws.{entry-steps, entry-shifts}
-use Rattle.inner_cells.specs.Inner.{offsetOf}
-use Rattle.inner_cells.proofs.InnerLaws.{offset-fits, offsets-more, offsets-done}
+use Rattle.inner_cells.specs.Inner.{offsetOf, offsetsOf}
+use Rattle.inner_cells.proofs.InnerLaws.{offset-fits, offset-by}
 use Rattle.inner_cells.proofs.offsets.Statement.{statement}
 use Rattle.inner_cells.proofs.offsets.Tie as tie
 
 abbrev Inv-loop : tie.InvT-loop
-Inv-loop w os₀ d₀ os d = (os ≡ filled (offsetOf w) d os₀) × ((d ≤ 9) × (length os₀ ≡ 9))
+Inv-loop w os₀ d₀ os d = (length os₀ ≡ 9) × Filling (offsetOf w) d os₀ os
 
 abbrev μ-loop : tie.MeasureT-loop
 μ-loop w os₀ d₀ os d = 9 - d
 
 loop-holds : tie.Need-loop-holds Inv-loop μ-loop
-loop-holds c = (filled-none _ _, (omega arith, refl))
+loop-holds c = (refl, filling-none)
 
 mul-shifted : tie.Need-mul-shifted Inv-loop μ-loop
 mul-shifted c = search needs
@@ -66,10 +66,11 @@ loop-less : tie.Need-loop-less Inv-loop μ-loop
 loop-less c = search needs
 
 loop-again : tie.Need-loop-again Inv-loop μ-loop
-loop-again c = (offsets-more _ (c .before .before .before .before .before .loop .d) _ _ _ _ (c .before .before .before .before .before .loop .inv .0) (c .before .before .before .before .loop-test .taken) (column c) (row c), (omega arith, refl))
+loop-again c = (refl, filling-more (c .before .before .before .before .before .loop .inv .1) (offset-by _ (c .before .before .before .before .before .loop .d) _ _ (column c) (row c)) (c .before .before .before .before .loop-test .taken))
 
 returns : tie.Need-returns Inv-loop μ-loop
-returns c = offsets-done _ _ _ _ (c .before .loop .inv .0) refl (omega arith)
+unfolding offsetsOf
+returns c = filling-done (c .before .loop .inv .1) 9 refl (c .loop-test .left)
 
 pub offsets-spec : {M : Type 1} → statement M
 offsets-spec =

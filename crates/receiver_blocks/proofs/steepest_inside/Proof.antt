@@ -1,7 +1,7 @@
 use Prim.Native.Nat.{_+_, _-_}
 use native.Mathlib.Omega.{arith}
-use Rattle.inner_cells.proofs.InnerLaws.{inner-below}
-use Rattle.receiver_blocks.proofs.OffsetLaws.{inner-inside, offset-read, Steepening, steepening-none, steepening-more, steepening-done}
+use Rattle.inner_cells.proofs.InnerLaws.{inner-below, offset-read}
+use Rattle.receiver_blocks.proofs.OffsetLaws.{inner-inside, Steepening, steepening-none, steepening-more, steepening-done}
 use Rattle.receiver_blocks.proofs.steepest_inside.Statement.{statement}
 use Rattle.receiver_blocks.proofs.steepest_inside.Tie as tie
 
