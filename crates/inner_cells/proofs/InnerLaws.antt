@@ -1,6 +1,6 @@
 -- Inner cells: their neighbours are all in the grid, at the same eight offsets.
 use Prim.Native.Nat.{ℕ, zero, suc, _+_, _-_, _*_, _^_, _≤_, _<_}
-use mathlib.Core.Path.{_≡_, refl, sym, ap, ap₂, _∙_}
+use mathlib.Core.Path.{_≡_, refl, sym, ap, ap₂, _∙_, subst}
 use mathlib.Core.Bool.{Bool, true, false, cond, _||_, not, true≢false}
 use mathlib.Core.List.{List}
 use native.Mathlib.Nat.{mul-le-mul}
@@ -16,7 +16,7 @@ use Rattle.grid.specs.Directions.{shiftedOf, neighbourOf, neighbourAt}
 use Rattle.grid.proofs.SidesLaws.{cell-lt, cell-back, column-cell, row-cell, column-lt, row-lt, cells-bound}
 use Rattle.grid.proofs.BaseLaws.{border-ends}
 use Rattle.grid.proofs.NeighbourLaws.{stepX, stepY, within, shift-ahead, each-direction}
-use Rattle.inner_cells.specs.Inner.{Inner, innerOf, offsetOf, offsetsOf}
+use Rattle.inner_cells.specs.Inner.{Inner, InnerRun, innerOf, offsetOf, offsetsOf}
 
 -- a step of at most one from an inner place stays inside, and goes as far as from place 1
 near : (z : ℤ) (x side : ℕ) → natAbs z ≤ 1 → 1 ≤ x → x + 1 < side → (shiftedOf x z side + 1 ≡ shiftedOf 1 z 3 + x) × (shiftedOf x z side < side)
@@ -149,7 +149,7 @@ module _ (w h y n : ℕ) (e : n ≡ innerOf w h y) where
       go false e false = omega (arith, ltb-false w 3 e)
 
   -- they are inner cells
-  pub inner-each : y < h → w ≤ 4096 → h ≤ 4096 → (i : ℕ) → i < n → Inner w h (1 + i + y * w)
+  inner-each : y < h → w ≤ 4096 → h ≤ 4096 → (i : ℕ) → i < n → Inner w h (1 + i + y * w)
   unfolding innerOf
   inner-each below wide high i l = go (ltb w 3) refl (eqb y 0) refl (eqb y (h - 1)) refl (rw e at l)
     where
@@ -161,3 +161,12 @@ module _ (w h y n : ℕ) (e : n ≡ innerOf w h y) where
           let first : y ≡ 0 → ⊥ = eqb-false y 0 f in
           let last : y ≡ h - 1 → ⊥ = eqb-false y (h - 1) g in
           inner-at w h (1 + i) y (omega arith) (omega arith) (omega arith) (omega arith) wide high
+
+  pub row-inner : y < h → w ≤ 4096 → h ≤ 4096 → InnerRun w h (1 + y * w) n
+  row-inner below wide high = record {
+    inner = λ i l. let s : 1 + i + y * w ≡ 1 + y * w + i = omega arith in subst (Inner w h) s (inner-each below wide high i l);
+  }
+
+-- fewer cells of a run
+pub run-part : {w h c n : ℕ} (i b : ℕ) → InnerRun w h c n → i + b ≤ n → InnerRun w h (c + i) b
+run-part {w} {h} {c} i b a l = record { inner = λ j k. let e : c + (i + j) ≡ c + i + j = omega arith in subst (Inner w h) e (a .inner (i + j) (omega arith)) }

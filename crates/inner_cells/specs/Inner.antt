@@ -18,6 +18,10 @@ pub record Inner (w h c : ℕ) : Type 0 where
   pub wide : w ≤ 4096
   pub high : h ≤ 4096
 
+-- the n cells from cell c on are inner cells
+pub record InnerRun (w h c n : ℕ) : Type 0 where
+  pub inner : (i : ℕ) → i < n → Inner w h (c + i)
+
 -- the number of inner cells of row y: all but the first and the last, if the row is an inner one
 unfoldable pub innerOf : ℕ → ℕ → ℕ → ℕ
 innerOf w h y = cond (ltb w 3) 0 (cond (eqb y 0 || eqb y (h - 1)) 0 (w - 2))

@@ -12,8 +12,9 @@ use Rattle.lists.specs.Loops.{tabulate}
 use Rattle.lists.proofs.TableLaws.{length-tabulate, getD-tabulate, filled, filled-length}
 use Rattle.lists.proofs.FillLaws.{Filling, filling-next}
 use Rattle.grid.specs.Directions.{Adjacent}
+use Rattle.inner_cells.specs.Inner.{InnerRun}
 use Rattle.network.specs.Passes.{Received}
-use Rattle.receiver_blocks.specs.Runs.{finderAs, steepestFrom, steepestAt, InnerRun, NearFinders, Begun, RunReceived}
+use Rattle.receiver_blocks.specs.Runs.{finderAs, steepestFrom, steepestAt, NearFinders, Begun, RunReceived}
 use Rattle.receiver_blocks.proofs.OffsetLaws.{inner-inside, offset-enough, offset-below, offset-received}
 use Rattle.receiver_blocks.proofs.RunLaws.{run-one, run-join}
 

@@ -7,7 +7,7 @@ use lib.ListN.{length, getD, drop}
 use lib.Ieee.{Float, nan}
 use Rattle.lists.specs.Loops.{turns, tabulate}
 use Rattle.grid.specs.Directions.{neighbourAt, Adjacent}
-use Rattle.inner_cells.specs.Inner.{Inner, offsetOf}
+use Rattle.inner_cells.specs.Inner.{offsetOf}
 use Rattle.drainage.specs.Ground.{floats, gridGround}
 use Rattle.drainage.specs.Receivers.{receiverOf}
 use Rattle.ways.specs.Apart.{apart}
@@ -26,10 +26,6 @@ steepestFrom w h spill c = turns 8 (λ i. comparedAs spill c (i + 1) (neighbourA
 -- the offset of the steepest of cell c + i, the offsets and slopes of the receivers so far in two lists
 abbrev pub steepestAt : ℕ → ℕ → List Float → ℕ → List ℕ → List Float → ℕ → ℕ
 steepestAt w h spill c cells slopes i = steepestFrom w h spill (c + i) (record { cell = getD cells i 0; slope = getD slopes i nan }) .cell
-
--- the n cells from cell c on are inner cells
-pub record InnerRun (w h c n : ℕ) : Type 0 where
-  pub inner : (i : ℕ) → i < n → Inner w h (c + i)
 
 -- each cell from `from` to below `to` is its own finder, or a neighbour is
 pub record NearFinders (w h from to : ℕ) (recv : List ℕ) : Type 0 where

@@ -12,9 +12,9 @@ ghost use mathlib.Core.List.{_++_};
 ghost use lib.Dec.{eqb};
 ghost use lib.ListN.{length, drop};
 ghost use Rattle.lists.specs.Loops.{tabulate};
-ghost use Rattle.inner_cells.specs.Inner.{Inner, offsetsOf};
+ghost use Rattle.inner_cells.specs.Inner.{Inner, InnerRun, offsetsOf};
 ghost use Rattle.steps.specs.Step.{distanceTable, Near};
-ghost use Rattle.receiver_blocks.specs.Runs.{finderAs, steepestFrom, steepestAt, InnerRun, NearFinders, Begun, RunReceived};
+ghost use Rattle.receiver_blocks.specs.Runs.{finderAs, steepestFrom, steepestAt, NearFinders, Begun, RunReceived};
 
 // The offsets as u32: a receiver so far has its offset beside its slope in as many bits, so that as many are chosen at a time.
 pub fn narrow(os: &[usize; 9], width: usize) -> [u32; 9]

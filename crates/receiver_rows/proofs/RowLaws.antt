@@ -5,25 +5,15 @@ use mathlib.Core.List.{List}
 use native.Mathlib.Nat.{mul-le-mul-right, mul-comm}
 use native.Mathlib.Omega.{arith}
 use lib.Ieee.{Float}
-use Rattle.inner_cells.specs.Inner.{Inner, innerOf}
-use Rattle.inner_cells.proofs.InnerLaws.{inner-each}
-use Rattle.receiver_blocks.specs.Runs.{InnerRun, RunReceived}
+use Rattle.inner_cells.specs.Inner.{InnerRun}
+use Rattle.receiver_blocks.specs.Runs.{RunReceived}
 use Rattle.receiver_blocks.proofs.OffsetLaws.{inner-inside, inner-few}
 use Rattle.receiver_blocks.proofs.RunLaws.{run-join}
 
--- fewer cells
-pub run-part : {w h c n : ℕ} (i b : ℕ) → InnerRun w h c n → i + b ≤ n → InnerRun w h (c + i) b
-run-part {w} {h} {c} i b a l = record { inner = λ j k. let e : c + (i + j) ≡ c + i + j = omega arith in subst (Inner w h) e (a .inner (i + j) (omega arith)) }
-
--- the number of one of them, or of the next cell, is below m
+-- the number of a cell of a run, or of the next cell, is below m
 pub run-few : (w h c n i m : ℕ) → InnerRun w h c n → i ≤ n → c < m → 2 ^ 24 < m → c + i < m
 run-few w h c zero i m a l lo hi = omega arith
 run-few w h c (suc n) i m a l lo hi = omega (arith, inner-inside (a .inner n (omega arith)), inner-few (a .inner n (omega arith)))
-
-pub row-inner : (w h y n : ℕ) → n ≡ innerOf w h y → y < h → w ≤ 4096 → h ≤ 4096 → InnerRun w h (1 + y * w) n
-row-inner w h y n e below wide high = record {
-  inner = λ i l. let s : 1 + i + y * w ≡ 1 + y * w + i = omega arith in subst (Inner w h) s (inner-each w h y n e below wide high i l);
-}
 
 -- a row ends inside the grid
 pub row-end : (w h y : ℕ) → y < h → w + y * w ≤ w * h

@@ -6,19 +6,18 @@ use network::receiver;
 use receiver_blocks::narrow;
 use receiver_blocks::receive_block;
 use steps::distances;
-ghost use Prim.Native.Nat.{_+_, _*_, _<_};
+ghost use Prim.Native.Nat.{_+_, _*_, _≤_, _<_};
 ghost use mathlib.Core.Path.{_≡_};
 ghost use mathlib.Core.List.{List};
 ghost use lib.ListN.{length};
 ghost use lib.Ieee.{Float};
 ghost use Rattle.grid.specs.Sides.{InRange};
-ghost use Rattle.inner_cells.specs.Inner.{offsetsOf};
+ghost use Rattle.inner_cells.specs.Inner.{InnerRun, offsetsOf};
 ghost use Rattle.drainage.specs.Ground.{floats, gridGround};
 ghost use Rattle.drainage.specs.Receivers.{receivers};
 ghost use Rattle.steps.specs.Step.{distanceTable};
 ghost use Rattle.network.specs.Passes.{Finders};
-ghost use Rattle.receiver_blocks.specs.Runs.{InnerRun, NearFinders, RunReceived};
-ghost use Rattle.receiver_rows.specs.Rows.{InRow};
+ghost use Rattle.receiver_blocks.specs.Runs.{NearFinders, RunReceived};
 
 // The receivers of n inner cells from cell c on, block by block.
 fn receive_inner_cells(
@@ -50,7 +49,9 @@ fn receive_inner_cells(
 
 // The receivers of n cells of row y from column x on.
 fn receive_cells(size: Sides, spill: &[f32], recv: &mut [u32], y: usize, x: usize, n: usize)
-    requires { ⌜ InRow (size .w) (size .h) y x n ⌝ }
+    requires { ⌜ InRange (size .w) (size .h) ⌝ }
+    requires { ⌜ y < size .h ⌝ }
+    requires { ⌜ x + n ≤ size .w ⌝ }
     requires { ⌜ NearFinders (size .w) (size .h) (x + y * size .w) (x + n + y * size .w) (now recv) ⌝ }
     requires { ⌜ length (now spill) ≡ size .w * size .h ⌝ }
     requires { ⌜ length (now recv) ≡ size .w * size .h ⌝ }

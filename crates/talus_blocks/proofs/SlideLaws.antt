@@ -15,6 +15,7 @@ use Rattle.talus.specs.Talus.{gainStep, gainsOf, slideCell, slideCells}
 use Rattle.talus.proofs.CountedLaws.{gain-counted}
 use Rattle.talus.proofs.StepLaws.{gain-inside}
 use Rattle.talus_directions.specs.Parts.{InnerRow, lossOf, gainOf, slideBy, slideAll}
+use Rattle.talus_directions.proofs.PassLaws.{inner-column}
 use Rattle.talus_blocks.specs.Blocks.{Sheds}
 use Rattle.talus_blocks.proofs.BlockLaws.{cell-still, cell-moved}
 
@@ -34,7 +35,7 @@ module _ (w h : ℕ) (ts hs : List Float) (y x : ℕ) (totals moved : List Float
     sheds d t lo hi e =
         gain-counted ts hs (x + i + y * w) (neighbourAt w h (x + i + y * w) d) d (getD moved i nan) (getD totals i nan) t refl (rw e refl)
         ∙ sym (gain-inside w h (w * h) ts hs (x + i + y * w) d (neighbourAt w h (x + i + y * w) d) refl refl (getD moved i nan) (getD totals i nan) t
-        (inner-cell w h (x + i + y * w) d lo hi (r .inner i l)))
+        (inner-cell w h (x + i + y * w) d lo hi (inner-column r i l)))
 
     loses : (t : List Float) → le (getD totals i nan) (ofBits binary32 0) ≡ false
         → lossOf w y x totals moved i t ≡ set t (x + i + y * w) (sub binary32 (getD t (x + i + y * w) nan) (getD moved i nan))

@@ -19,6 +19,7 @@ use Rattle.inner_cells.specs.Inner.{Inner, offsetOf}
 use Rattle.inner_cells.proofs.InnerLaws.{inner-offset}
 use Rattle.talus.specs.Talus.{excessTo}
 use Rattle.talus_directions.specs.Parts.{InnerRow, lostFrom, gainedBy, changed, losses, gainsToward, slideBy, slideAll}
+use Rattle.talus_directions.proofs.PassLaws.{inner-column}
 use Rattle.talus_directions.proofs.ExchangeLaws.{turns-across, nine-steps}
 
 -- changes of two heights
@@ -118,8 +119,8 @@ module _ (w h : ℕ) (ts hs : List Float) (y x : ℕ) (totals moved : List Float
     near-columns : (i j : ℕ) → i ≤ j → j < n → j + 2 < i + w
     near-columns i j l m =
         let first : i < n = omega arith in
-        let west = r .inner i first .west in
-        let east = r .inner j m .east in
+        let west = inner-column r i first .west in
+        let east = inner-column r j m .east in
         let wide = r .row .columns in
         let a = column-cell w (x + i) y (omega (arith, wide)) in
         let b = column-cell w (x + j) y (omega (arith, wide)) in
@@ -131,8 +132,8 @@ module _ (w h : ℕ) (ts hs : List Float) (y x : ℕ) (totals moved : List Float
         (λ e.
         let p = spot w a (omega arith) in
         let q = spot w b m in
-        let u = place-offset w h (x + j + y * w) (order a) (r .inner j o) (order-most a (omega arith)) in
-        let v = place-offset w h (x + i + y * w) (order b) (r .inner i (omega arith)) (order-most b m) in
+        let u = place-offset w h (x + j + y * w) (order a) (inner-column r j o) (order-most a (omega arith)) in
+        let v = place-offset w h (x + i + y * w) (order b) (inner-column r i (omega arith)) (order-most b m) in
         spots-apart w a b i j (x + y * w) p q l k (near-columns i j k o) (omega (arith, e, u, v, p .offset, q .offset)))
 
     -- one cell

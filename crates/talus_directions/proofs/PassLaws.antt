@@ -1,6 +1,6 @@
 -- Loops over the cells of a block.
 use Prim.Native.Nat.{ℕ, _+_, _*_, _≤_, _<_}
-use mathlib.Core.Path.{_≡_, refl, sym, ap, _∙_}
+use mathlib.Core.Path.{_≡_, refl, sym, ap, _∙_, subst}
 use mathlib.Core.List.{List}
 use native.Mathlib.Omega.{arith}
 use lib.ListN.{length, getD, set}
@@ -8,8 +8,9 @@ use lib.Ieee.{Float, nan}
 use Rattle.lists.specs.Loops.{turns}
 use Rattle.lists.proofs.TurnLaws.{turns-none, turns-more}
 use Rattle.grid.specs.Directions.{neighbourAt}
+use Rattle.inner_cells.specs.Inner.{Inner}
 use Rattle.talus.specs.Talus.{excessTo}
-use Rattle.talus_directions.specs.Parts.{gainedBy, changed, gainOf}
+use Rattle.talus_directions.specs.Parts.{InnerRow, gainedBy, changed, gainOf}
 
 -- the state after i of n cells
 pub record Passing (f : ℕ → List Float → List Float) (n i : ℕ) (out s : List Float) : Type 0 where
@@ -26,6 +27,10 @@ module _ {f : ℕ → List Float → List Float} {n : ℕ} {out : List Float} wh
 
   pub passing-done : {i : ℕ} {s : List Float} → Passing f n i out s → n ≤ i → s ≡ turns n f out
   passing-done {i} p l = let same : i ≡ n = omega (arith, p .place) in p .state ∙ ap (λ (k : ℕ). turns k f out) same
+
+-- column x + i of a row of inner cells
+pub inner-column : {w h cells y x n : ℕ} → InnerRow w h cells y x n → (i : ℕ) → i < n → Inner w h (x + i + y * w)
+inner-column {w} {h} {cells} {y} {x} r i l = let e : x + y * w + i ≡ x + i + y * w = omega arith in subst (Inner w h) e (r .inner .inner i l)
 
 -- one gain, as the code works it out
 pub gain-more : (w h : ℕ) (ts hs : List Float) (y x : ℕ) (totals moved : List Float) (d i : ℕ) (s : List Float) {m : ℕ} {e v : Float}

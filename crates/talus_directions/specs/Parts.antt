@@ -1,18 +1,18 @@
 -- What inner cells of a row change in the map, by the total by which each sheds and its loss.
-use Prim.Native.Nat.{ℕ, suc, _+_, _*_, _<_}
+use Prim.Native.Nat.{ℕ, suc, _+_, _*_}
 use mathlib.Core.Bool.{cond}
 use mathlib.Core.List.{List}
 use lib.ListN.{getD, set}
 use lib.Ieee.{Float, nan, binary32, ofBits, add, sub, mul, div, lt, le}
 use Rattle.lists.specs.Loops.{turns}
 use Rattle.grid.specs.Directions.{neighbourAt}
-use Rattle.inner_cells.specs.Inner.{Inner}
+use Rattle.inner_cells.specs.Inner.{InnerRun}
 use Rattle.talus.specs.Talus.{excessTo}
 use Rattle.talus.specs.Places.{InRow}
 
 -- the n cells from column x on, in row y, are inner cells of a w × h map of `cells` heights
 pub record InnerRow (w h cells y x n : ℕ) : Type 0 where
-  pub inner : (i : ℕ) → i < n → Inner w h (x + i + y * w)
+  pub inner : InnerRun w h (x + y * w) n
   pub row : InRow w h cells y x n
 
 -- a height after the loss of its cell, and after its gain by the excess e, if the cell sheds

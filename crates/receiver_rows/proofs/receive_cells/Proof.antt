@@ -16,7 +16,7 @@ abbrev μ-loop : tie.MeasureT-loop
 
 -- the cell of this turn
 inside : (c : tie.In-loop Inv-loop μ-loop) → c .before .before .before .before .args .x + c .before .loop .i + c .before .before .before .before .args .y * c .before .before .before .before .args .size .w < c .before .before .before .before .args .size .w * c .before .before .before .before .args .size .h
-inside c = let p = c .before .before .before .before .pre .0 in cell-lt _ _ _ (omega (arith, p .columns, c .loop-test .taken)) _ (p .row)
+inside c = let p = c .before .before .before .before .pre in cell-lt _ _ _ (omega (arith, p .1 .1 .0, c .loop-test .taken)) _ (p .1 .0)
 
 small : (c : tie.In-loop Inv-loop μ-loop) → c .before .before .before .before .args .size .w * c .before .before .before .before .args .size .h ≤ 2 ^ 24
 small c = let p = c .before .before .before .before .pre .0 in cells-bound _ _ (p .wide) (p .high)
@@ -40,16 +40,16 @@ mul-receiver : tie.Need-mul-receiver Inv-loop μ-loop
 mul-receiver c = omega (arith, inside c, small c)
 
 slice-read-receiver : tie.Need-slice-read-receiver Inv-loop μ-loop
-slice-read-receiver c = omega (arith, inside (c .before), c .before .before .loop .inv .1 .long, c .before .before .before .before .before .pre .1 .1 .1)
+slice-read-receiver c = omega (arith, inside (c .before), c .before .before .loop .inv .1 .long, c .before .before .before .before .before .pre .1 .1 .1 .1 .1)
 
 receiver-requires : tie.Need-receiver-requires Inv-loop μ-loop
-receiver-requires c κs = let p = c .before .before .before .before .before .pre in (record { column = omega (arith, p .0 .columns, c .before .loop-test .taken); row = p .0 .row; wide = p .0 .wide; high = p .0 .high }, (p .1 .1 .0, near-other (near-at _ _ _ (p .1 .0) (c .before .before .loop .inv .1) (c .before .before .before .before .before .args .x + c .before .before .loop .i + c .before .before .before .before .before .args .y * c .before .before .before .before .before .args .size .w) (omega arith) (omega arith) (omega (arith, c .before .loop-test .taken)))))
+receiver-requires c κs = let p = c .before .before .before .before .before .pre in (record { column = omega (arith, p .1 .1 .0, c .before .loop-test .taken); row = p .1 .0; wide = p .0 .wide; high = p .0 .high }, (p .1 .1 .1 .1 .0, near-other (near-at _ _ _ (p .1 .1 .1 .0) (c .before .before .loop .inv .1) (c .before .before .before .before .before .args .x + c .before .before .loop .i + c .before .before .before .before .before .args .y * c .before .before .before .before .before .args .size .w) (omega arith) (omega arith) (omega (arith, c .before .loop-test .taken)))))
 
 mul-recv : tie.Need-mul-recv Inv-loop μ-loop
 mul-recv c = omega (arith, inside (c .before .before), small (c .before .before))
 
 slice-write-recv : tie.Need-slice-write-recv Inv-loop μ-loop
-slice-write-recv c = omega (arith, inside (c .before .before), c .before .before .before .loop .inv .1 .long, c .before .before .before .before .before .before .pre .1 .1 .1)
+slice-write-recv c = omega (arith, inside (c .before .before), c .before .before .before .loop .inv .1 .long, c .before .before .before .before .before .before .pre .1 .1 .1 .1 .1)
 
 add-i : tie.Need-add-i Inv-loop μ-loop
 add-i c = omega (arith, c .before .before .loop-test .taken)
@@ -58,7 +58,7 @@ loop-less : tie.Need-loop-less Inv-loop μ-loop
 loop-less c = omega (arith, c .before .before .loop-test .taken)
 
 loop-again : tie.Need-loop-again Inv-loop μ-loop
-loop-again c = (omega (arith, c .before .before .loop-test .taken), run-join _ _ _ (c .before .before .before .loop .inv .1) (run-one _ _ _ _ _ _ (omega (arith, inside (c .before .before), c .before .before .before .loop .inv .1 .long, c .before .before .before .before .before .before .pre .1 .1 .1)) (c .receiver .ensures)) refl (omega arith) (omega arith) (omega arith))
+loop-again c = (omega (arith, c .before .before .loop-test .taken), run-join _ _ _ (c .before .before .before .loop .inv .1) (run-one _ _ _ _ _ _ (omega (arith, inside (c .before .before), c .before .before .before .loop .inv .1 .long, c .before .before .before .before .before .before .pre .1 .1 .1 .1 .1)) (c .receiver .ensures)) refl (omega arith) (omega arith) (omega arith))
 
 same-length : tie.Need-same-length Inv-loop μ-loop
 same-length c = c .before .loop .inv .1 .long

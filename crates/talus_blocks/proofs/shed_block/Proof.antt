@@ -7,6 +7,7 @@ use lib.ListN.{length, getD}
 use lib.Ieee.{nan, binary32, ofBits, mul, lt}
 use Rattle.talus.specs.declared.Shed.{Shed}
 use Rattle.talus.proofs.RowLaws.{row-cell-below}
+use Rattle.talus_directions.proofs.PassLaws.{inner-column}
 use Rattle.talus_blocks.proofs.BlockLaws.{Shedding, sheds-none, shedding-more, shedding-done}
 use Rattle.talus_blocks.proofs.shed_block.Statement.{statement}
 use Rattle.talus_blocks.proofs.shed_block.Tie as tie
@@ -37,7 +38,7 @@ add-c-2 : tie.Need-add-c-2 Inv-loop μ-loop
 add-c-2 c = omega (arith, below c)
 
 shed-inside-requires : tie.Need-shed-inside-requires Inv-loop μ-loop
-shed-inside-requires c κs = (c .before .before .before .pre .0 .inner (c .before .loop .i) (c .loop-test .taken), (c .before .before .before .pre .1 .0, (below c, c .before .before .before .pre .0 .row .size)))
+shed-inside-requires c κs = (inner-column (c .before .before .before .pre .0) (c .before .loop .i) (c .loop-test .taken), (c .before .before .before .pre .1 .0, (below c, c .before .before .before .pre .0 .row .size)))
 
 mul-dry-total : tie.Need-mul-dry-total Inv-loop μ-loop
 mul-dry-total c = omega (arith, below (c .before))

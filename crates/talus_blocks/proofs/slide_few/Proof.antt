@@ -4,7 +4,7 @@ use native.Mathlib.Omega.{arith}
 use lib.ListN.{length}
 use Rattle.talus.specs.Talus.{slideCell, slideCells}
 use Rattle.talus.proofs.RowLaws.{row-cell-below}
-use Rattle.talus_directions.proofs.PassLaws.{Passing, passing-none, passing-more, passing-done}
+use Rattle.talus_directions.proofs.PassLaws.{Passing, passing-none, passing-more, passing-done, inner-column}
 use Rattle.talus_blocks.proofs.slide_few.Statement.{statement}
 use Rattle.talus_blocks.proofs.slide_few.Tie as tie
 
@@ -46,7 +46,7 @@ element-copy-out-slide-inside-2 : tie.Need-element-copy-out-slide-inside-2 Inv-l
 element-copy-out-slide-inside-2 c = few (c .before .before)
 
 slide-inside-requires : tie.Need-slide-inside-requires Inv-loop μ-loop
-slide-inside-requires c κs = (c .before .before .before .before .before .before .before .pre .0 .inner (c .before .before .before .before .loop .i) (c .before .before .before .loop-test .taken), (c .before .before .before .before .before .before .before .pre .1 .0, (below (c .before .before .before), (c .before .before .before .before .before .before .before .pre .0 .row .size, (c .before .before .before .before .loop .inv .long ∙ c .before .before .before .before .before .before .before .pre .1 .1 .0, (c .before .before .before .before .before .before .before .pre .1 .1 .1 .1 .total (c .before .before .before .before .loop .i) (c .before .before .before .loop-test .taken), c .before .before .before .before .before .before .before .pre .1 .1 .1 .1 .loss (c .before .before .before .before .loop .i) (c .before .before .before .loop-test .taken)))))))
+slide-inside-requires c κs = (inner-column (c .before .before .before .before .before .before .before .pre .0) (c .before .before .before .before .loop .i) (c .before .before .before .loop-test .taken), (c .before .before .before .before .before .before .before .pre .1 .0, (below (c .before .before .before), (c .before .before .before .before .before .before .before .pre .0 .row .size, (c .before .before .before .before .loop .inv .long ∙ c .before .before .before .before .before .before .before .pre .1 .1 .0, (c .before .before .before .before .before .before .before .pre .1 .1 .1 .1 .total (c .before .before .before .before .loop .i) (c .before .before .before .loop-test .taken), c .before .before .before .before .before .before .before .pre .1 .1 .1 .1 .loss (c .before .before .before .before .loop .i) (c .before .before .before .loop-test .taken)))))))
 
 add-i : tie.Need-add-i Inv-loop μ-loop
 add-i c = omega (arith, few (c .before .before .before .before .before .before))

@@ -5,7 +5,7 @@ use lib.ListN.{length, length-set}
 use Rattle.inner_cells.proofs.InnerLaws.{inner-below}
 use Rattle.talus.proofs.RowLaws.{row-cell-below}
 use Rattle.talus_directions.specs.Parts.{gainOf, gainsToward}
-use Rattle.talus_directions.proofs.PassLaws.{Passing, passing-none, passing-more, passing-done, gain-more}
+use Rattle.talus_directions.proofs.PassLaws.{Passing, passing-none, passing-more, passing-done, gain-more, inner-column}
 use Rattle.talus_directions.proofs.gain_block.Statement.{statement}
 use Rattle.talus_directions.proofs.gain_block.Tie as tie
 
@@ -41,11 +41,11 @@ add-c-2 : tie.Need-add-c-2 Inv-loop μ-loop
 add-c-2 c = omega (arith, below c)
 
 beside-requires : tie.Need-beside-requires Inv-loop μ-loop
-beside-requires c κs = (c .before .before .before .before .before .pre .0 .inner (c .before .loop .i) (c .loop-test .taken), (c .before .before .before .before .before .pre .1 .0, (c .before .before .before .before .before .pre .1 .1 .1 .1 .0, c .before .before .before .before .before .pre .1 .1 .1 .1 .1)))
+beside-requires c κs = (inner-column (c .before .before .before .before .before .pre .0) (c .before .loop .i) (c .loop-test .taken), (c .before .before .before .before .before .pre .1 .0, (c .before .before .before .before .before .pre .1 .1 .1 .1 .0, c .before .before .before .before .before .pre .1 .1 .1 .1 .1)))
 
 -- and so is its neighbour
 near : (c : tie.After-beside Inv-loop μ-loop) → c .beside .result < length (c .before .before .before .before .before .before .args .hmap .now)
-near c = inner-below _ _ _ (c .before .before .before .before .before .before .args .d) (c .before .before .before .before .before .before .pre .1 .1 .1 .1 .0) (omega (arith, c .before .before .before .before .before .before .pre .1 .1 .1 .1 .1)) (c .before .before .before .before .before .before .pre .0 .inner (c .before .before .loop .i) (c .before .loop-test .taken)) _ _ (c .before .before .before .before .before .before .pre .0 .row .size) (c .beside .ensures)
+near c = inner-below _ _ _ (c .before .before .before .before .before .before .args .d) (c .before .before .before .before .before .before .pre .1 .1 .1 .1 .0) (omega (arith, c .before .before .before .before .before .before .pre .1 .1 .1 .1 .1)) (inner-column (c .before .before .before .before .before .before .pre .0) (c .before .before .loop .i) (c .before .loop-test .taken)) _ _ (c .before .before .before .before .before .before .pre .0 .row .size) (c .beside .ensures)
 
 excess-requires : tie.Need-excess-requires Inv-loop μ-loop
 excess-requires c κs = (below (c .before), near c)

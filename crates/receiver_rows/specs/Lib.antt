@@ -1,2 +1,0 @@
--- Receivers row by row.
-pub mod Rows
