@@ -1,6 +1,6 @@
 -- A block of inner cells: what its three loops leave.
 use Prim.Native.Nat.{ℕ, _+_, _-_, _*_, _^_, _≤_, _<_}
-use mathlib.Core.Path.{_≡_, refl, sym, ap, ap₂, _∙_, subst}
+use mathlib.Core.Path.{_≡_, sym, ap, ap₂, _∙_, subst}
 use mathlib.Core.Logic.{_⊎_}
 use mathlib.Core.Bool.{cond}
 use mathlib.Core.List.{List, _++_}
@@ -16,7 +16,7 @@ use Rattle.inner_cells.specs.Inner.{InnerRun}
 use Rattle.network.specs.Passes.{Received}
 use Rattle.receiver_blocks.specs.Runs.{finderAs, steepestFrom, steepestAt, NearFinders, Begun, RunReceived}
 use Rattle.receiver_blocks.proofs.OffsetLaws.{inner-inside, offset-enough, offset-below, offset-received}
-use Rattle.receiver_blocks.proofs.RunLaws.{run-one, run-join}
+use Rattle.receiver_blocks.proofs.RunLaws.{run-more}
 
 -- a place that the loop has passed
 pub filled-behind : {A : Type 0} (f : ℕ → A) (n i : ℕ) (old : List A) (d : A) → i < n → getD (filled f n old) i d ≡ f i
@@ -72,6 +72,4 @@ module _
       let r =
       offset-received w h spill (c + i) (getD recv (c + i) 0) long (inner .inner i l) finder v
       (q ∙ ap₂ (λ (f o : ℕ). cond (eqb f (c + i)) f (c + i + o - (w + 1))) same e) in
-      run-join w h spill p
-      (run-one w h spill (c + i) v now (omega (arith, p .long, m, inner-inside (inner .inner i l))) (subst (λ (f : ℕ). Received w h spill (c + i) f v) (sym same) r))
-      refl (omega arith) (omega arith) (omega arith)
+      run-more w h spill p (omega arith) (omega (arith, m, inner-inside (inner .inner i l))) (subst (λ (f : ℕ). Received w h spill (c + i) f v) (sym same) r) (omega arith)

@@ -1,4 +1,4 @@
--- Runs of cells: none, one, and two that meet.
+-- Runs of cells: none, one cell more, and two that meet.
 use Prim.Native.Nat.{ℕ, _+_, _≤_, _<_}
 use mathlib.Core.Path.{_≡_, refl, sym, ap, _∙_}
 use mathlib.Core.List.{List}
@@ -16,7 +16,7 @@ module _ (w h : ℕ) (spill : List Float) where
   pub run-none : (a : ℕ) (r : List ℕ) → RunReceived w h spill a a r r
   run-none a r = record { done = λ water hs c lo hi. absurd (omega arith); earlier = λ c l. refl; later = λ c l. refl; long = refl }
 
-  pub run-one : (c v : ℕ) (r : List ℕ) → c < length r → Received w h spill c (getD r c 0) v → RunReceived w h spill c (c + 1) r (set r c v)
+  run-one : (c v : ℕ) (r : List ℕ) → c < length r → Received w h spill c (getD r c 0) v → RunReceived w h spill c (c + 1) r (set r c v)
   run-one c v r l s = record {
     done = λ water hs k lo hi. let e : k ≡ c = omega arith in rw e (getD-set-same r c v 0 l ∙ s .is water hs);
     earlier = λ k m. getD-set-other r c k v 0 (below k m);
@@ -49,3 +49,9 @@ module _ (w h : ℕ) (spill : List Float) where
 
   pub run-end : {a b b′ : ℕ} {r s : List ℕ} → RunReceived w h spill a b r s → b ≡ b′ → RunReceived w h spill a b′ r s
   run-end p e = rw (sym e) p
+
+  -- one cell more
+  pub run-more :
+      {a c d v : ℕ} {r s : List ℕ} → RunReceived w h spill a c r s → a ≤ c → c < length r → Received w h spill c (getD s c 0) v → c + 1 ≡ d
+      → RunReceived w h spill a d r (set s c v)
+  run-more {a} {c} {d} {v} {r} {s} p l m q e = run-join p (run-one c v s (omega (arith, p .long)) q) refl l (omega arith) e

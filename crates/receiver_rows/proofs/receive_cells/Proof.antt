@@ -1,9 +1,8 @@
 use Prim.Native.Nat.{_+_, _-_, _*_, _^_, _≤_, _<_}
 use native.Mathlib.Omega.{arith}
-use mathlib.Core.Path.{refl}
 use Rattle.grid.proofs.SidesLaws.{cell-lt, cells-bound}
 use Rattle.receiver_blocks.specs.Runs.{RunReceived}
-use Rattle.receiver_blocks.proofs.RunLaws.{run-none, run-one, run-join, run-end}
+use Rattle.receiver_blocks.proofs.RunLaws.{run-none, run-more, run-end}
 use Rattle.receiver_rows.proofs.FinderLaws.{near-at, near-other}
 use Rattle.receiver_rows.proofs.receive_cells.Statement.{statement}
 use Rattle.receiver_rows.proofs.receive_cells.Tie as tie
@@ -58,7 +57,7 @@ loop-less : tie.Need-loop-less Inv-loop μ-loop
 loop-less c = omega (arith, c .before .before .loop-test .taken)
 
 loop-again : tie.Need-loop-again Inv-loop μ-loop
-loop-again c = (omega (arith, c .before .before .loop-test .taken), run-join _ _ _ (c .before .before .before .loop .inv .1) (run-one _ _ _ _ _ _ (omega (arith, inside (c .before .before), c .before .before .before .loop .inv .1 .long, c .before .before .before .before .before .before .pre .1 .1 .1 .1 .1)) (c .receiver .ensures)) refl (omega arith) (omega arith) (omega arith))
+loop-again c = (omega (arith, c .before .before .loop-test .taken), run-more _ _ _ (c .before .before .before .loop .inv .1) (omega arith) (omega (arith, inside (c .before .before), c .before .before .before .before .before .before .pre .1 .1 .1 .1 .1)) (c .receiver .ensures) (omega arith))
 
 same-length : tie.Need-same-length Inv-loop μ-loop
 same-length c = c .before .loop .inv .1 .long
