@@ -4,6 +4,7 @@ use mathlib.Core.Path.{_≡_, refl, sym, ap, _∙_, subst}
 use mathlib.Core.Logic.{_⊎_, inl, inr}
 use mathlib.Core.Bool.{Bool, true, false}
 use mathlib.Core.List.{List, [], _∷_, _++_}
+use native.Mathlib.Nat.{lt-of-not-le}
 use native.Mathlib.Omega.{arith}
 use lib.Dec.{eqb}
 use lib.ListN.{length, getD}
@@ -34,12 +35,12 @@ unfolding times
 times-tail x c rest = omega arith
 
 -- a list holds each of its cells as often as the counts say, so its length is their sum
-length-is : (n : ℕ) (l : List ℕ) → ((before : List ℕ) (c : ℕ) (rest : List ℕ) → l ≡ before ++ (c ∷ rest) → c < n) → sumBelow n (λ c. true) (λ c. times c l) ≡ length l
+pub length-is : (n : ℕ) (l : List ℕ) → ((c : ℕ) → 0 < times c l → c < n) → sumBelow n (λ c. true) (λ c. times c l) ≡ length l
 unfolding times
 length-is n [] below = sum-zero n (λ c. true)
 length-is n (a ∷ l) below =
-    sum-on n (λ c. true) a (λ c. times c l) (below [] a l refl) refl
-    ∙ ap (λ (x : ℕ). 1 + x) (length-is n l (λ b c t e. below (a ∷ b) c t (ap (λ x. a ∷ x) e)))
+    sum-on n (λ c. true) a (λ c. times c l) (below a (omega (arith, times-here a l))) refl
+    ∙ ap (λ (x : ℕ). 1 + x) (length-is n l (λ c p. below c (omega (arith, times-tail c a l))))
     ∙ one-more (length l)
 
 sum-ones : (n : ℕ) → sumBelow n (λ c. true) (λ c. 1) ≡ n
@@ -47,12 +48,16 @@ unfolding sumBelow
 sum-ones zero = refl
 sum-ones (suc n) = omega (arith, sum-ones n)
 
+-- a list in which no number from n on stands
+pub below-of : {n : ℕ} (list : List ℕ) → ((c : ℕ) → n ≤ c → times c list ≡ 0) → (x : ℕ) → 0 < times x list → x < n
+below-of list only x p = lt-of-not-le (λ l. let v : ⊥ = omega (arith, only x l) in v)
+
 module _ {n : ℕ} {recv list : List ℕ} (w : WorkList n recv list) where
   pub split : (x : ℕ) (before : List ℕ) (c : ℕ) (rest : List ℕ) → list ≡ before ++ (c ∷ rest) → times x list ≡ times x before + times x (c ∷ rest)
   split x before c rest e = ap (times x) e ∙ times-append x before (c ∷ rest)
 
   pub in-lt : (x : ℕ) → 0 < times x list → x < n
-  in-lt x p = native.Mathlib.Nat.lt-of-not-le (λ l. let v : ⊥ = omega (arith, w .only x l) in v)
+  in-lt = below-of list (w .only)
 
   pub entry-lt : (before : List ℕ) (c : ℕ) (rest : List ℕ) → list ≡ before ++ (c ∷ rest) → c < n
   entry-lt before c rest e = in-lt c (omega (arith, split c before c rest e, times-here c rest))
@@ -92,6 +97,6 @@ module _ {n : ℕ} {recv list : List ℕ} (w : WorkList n recv list) where
 
   pub list-length : length list ≡ n
   list-length =
-      sym (length-is n list entry-lt)
+      sym (length-is n list in-lt)
       ∙ sum-same n (λ c. true) (λ c. times c list) (λ c. 1) (λ c h t. w .once c h)
       ∙ sum-ones n

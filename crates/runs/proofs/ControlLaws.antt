@@ -3,7 +3,6 @@ use Prim.Native.Nat.{ℕ, zero, suc, _≤_, _<_}
 use mathlib.Core.Path.{_≡_, refl, ap, _∙_}
 use mathlib.Core.Bool.{true}
 use mathlib.Core.List.{List, [], _∷_, _++_}
-use native.Mathlib.Nat.{lt-of-not-le}
 use native.Mathlib.Omega.{arith}
 use lib.ListN.{getD, length}
 use borrow.Author.Tests.{ne-eqb}
@@ -22,6 +21,7 @@ use Rattle.drainage.specs.Ground.{floats, gridGround}
 use Rattle.drainage.specs.Theorems.{Network}
 use Rattle.drainage.proofs.GroundLaws.{grid-networks}
 use Rattle.drainage.proofs.CountLaws.{bit, times-append, times-here}
+use Rattle.drainage.proofs.WorkListLaws.{below-of}
 use Rattle.drainage.specs.Flood.{start, step, leastWaiting, pushAll, floodAfter}
 use Rattle.drainage.specs.Receivers.{receivers, receiverOf, steepestOf, directionTo}
 use Rattle.drainage.specs.Ways.{times, WorkList, areasAlong}
@@ -43,8 +43,7 @@ own-work-list : (n : ℕ) (recv list : List ℕ) → ((c : ℕ) → c < n → ge
 own-work-list n recv list own once only = record { once = once; only = only; after = λ before c rest e other. absurd (other (own c (inside before c rest e))) }
   where
     inside : (before : List ℕ) (c : ℕ) (rest : List ℕ) → list ≡ before ++ (c ∷ rest) → c < n
-    inside before c rest e =
-        lt-of-not-le (λ l. let v : ⊥ = omega (arith, only c l, ap (times c) e ∙ times-append c before (c ∷ rest), times-here c rest) in v)
+    inside before c rest e = below-of list only c (omega (arith, ap (times c) e ∙ times-append c before (c ∷ rest), times-here c rest))
 
 each-once : (c : ℕ) → c < 2 → times c (1 ∷ 0 ∷ []) ≡ 1
 unfolding times
