@@ -26,16 +26,16 @@ reach-found-requires c κs =
     (f .long, (f .few, (sizes-whole (p .0), (p .1 .0, (omega (arith, p .1 .1 .0, p .0 .heights), p .1 .1 .1)))))
 
 same-length : tie.Need-same-length
-same-length c = search needs
+same-length c = c .before .before .before .before .before .before .before .before .reach-found .kept .1 .1 .1 .1 .1 .1 .0
 
 same-length-2 : tie.Need-same-length-2
-same-length-2 c = search needs
+same-length-2 c = c .before .before .before .before .before .before .before .before .reach-found .kept .1 .1 .1 .1 .1 .1 .1 .0
 
 same-length-3 : tie.Need-same-length-3
-same-length-3 c = search needs
+same-length-3 c = c .before .before .before .before .before .before .before .before .reach-found .kept .1 .1 .1 .1 .1 .1 .1 .1 .0
 
 same-length-4 : tie.Need-same-length-4
-same-length-4 c = search needs
+same-length-4 c = c .before .before .before .before .before .before .before .before .reach-found .kept .1 .1 .1 .1 .1 .1 .1 .1 .1 .0
 
 returns : tie.Need-returns
 returns c = found-reached _ _ _ _ _ _ _ _ _ _ _ _ (c .before .before .before .before .before .before .before .before .reach-found .ensures) _ _ _ _ (c .before .before .before .before .before .before .before .before .before .before .before .before .before .before .find-unpushed .ensures) refl
@@ -50,16 +50,16 @@ reach-found-requires-2 c κs =
     (ap length (c .before .before .before .before .before .find-all .ensures) ∙ length-tabulate (λ i. neighbourAt (a .g .w) (a .g .h) (a .c) (suc i)) 8, (omega arith, (sizes-whole (p .0), (p .1 .0, (omega (arith, p .1 .1 .0, p .0 .heights), p .1 .1 .1)))))
 
 same-length-5 : tie.Need-same-length-5
-same-length-5 c = search needs
+same-length-5 c = c .before .before .before .before .before .before .before .before .reach-found2 .kept .1 .1 .1 .1 .1 .1 .0
 
 same-length-6 : tie.Need-same-length-6
-same-length-6 c = search needs
+same-length-6 c = c .before .before .before .before .before .before .before .before .reach-found2 .kept .1 .1 .1 .1 .1 .1 .1 .0
 
 same-length-7 : tie.Need-same-length-7
-same-length-7 c = search needs
+same-length-7 c = c .before .before .before .before .before .before .before .before .reach-found2 .kept .1 .1 .1 .1 .1 .1 .1 .1 .0
 
 same-length-8 : tie.Need-same-length-8
-same-length-8 c = search needs
+same-length-8 c = c .before .before .before .before .before .before .before .before .reach-found2 .kept .1 .1 .1 .1 .1 .1 .1 .1 .1 .0
 
 returns-2 : tie.Need-returns-2
 returns-2 c = all-near _ _ _ _ _ _ _ _ _ _ _ _ (c .before .before .before .before .before .before .before .before .reach-found2 .ensures) _ _ _ (c .before .before .before .before .before .before .before .before .before .before .before .before .before .before .find-all .ensures) refl
