@@ -7,7 +7,7 @@ use lib.Ieee.{Float, nan, inf, fin, binary32, up, down, lt, le, fits}
 use lib.Ieee.Fits.{cond-fits, nan-fits, inf-fits, round-fits, sub-fits}
 use lib.Ieee.Exact.{HasValue}
 use lib.Ieee.Scale.{finite}
-use Rattle.floats.specs.Stand.{maxOf, truncOf, roundOf, ceilOf, fractOf}
+use Rattle.floats.specs.Stand.{maxOf, wholeBy, truncOf, ceilOf, fractOf}
 
 -- above -∞: finite exactly if below +∞
 pub above-low : (x : Float) → lt (inf true) x ≡ true → lt x (inf false) ≡ finite x
@@ -29,17 +29,11 @@ not-above-low (fin s m e) h = sym h
 pub maxOf-fits : (a b : Float) → T (fits binary32 a) → T (fits binary32 b) → T (fits binary32 (maxOf a b))
 maxOf-fits a b p q = cond-fits binary32 (le b a) a b p q
 
-pub truncOf-fits : (x : Float) → T (fits binary32 (truncOf x))
-unfolding truncOf
-truncOf-fits nan = nan-fits binary32
-truncOf-fits (inf s) = inf-fits binary32 s
-truncOf-fits (fin s m e) = round-fits binary32 s (m * up e / down e) 1
-
-pub roundOf-fits : (x : Float) → T (fits binary32 (roundOf x))
-unfolding roundOf
-roundOf-fits nan = nan-fits binary32
-roundOf-fits (inf s) = inf-fits binary32 s
-roundOf-fits (fin s m e) = round-fits binary32 s ((2 * (m * up e) + down e) / (2 * down e)) 1
+pub whole-fits : (q : ℕ → ℕ → ℕ) (x : Float) → T (fits binary32 (wholeBy q x))
+unfolding wholeBy
+whole-fits q nan = nan-fits binary32
+whole-fits q (inf s) = inf-fits binary32 s
+whole-fits q (fin s m e) = round-fits binary32 s (q (m * up e) (down e)) 1
 
 pub ceilOf-fits : (x : Float) → T (fits binary32 (ceilOf x))
 unfolding ceilOf

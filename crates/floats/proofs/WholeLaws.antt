@@ -14,7 +14,7 @@ use lib.Ieee.Exact.{HasValue}
 use lib.Ieee.Back.{round-whole}
 use lib.Ieee.Scale.{round-same}
 use lib.Ieee.Positive.{above, first-pos}
-use Rattle.floats.specs.Stand.{truncOf, roundOf, ceilOf}
+use Rattle.floats.specs.Stand.{wholeBy, ruleOf, truncOf, roundOf, ceilOf}
 use Rattle.floats.proofs.ValueLaws.{Held, held, round-self, round-scaled, value-unique, lt-values, le-positive, cut-value, add-values}
 
 -- a whole number up to 2 ^ 24 is a float
@@ -48,17 +48,11 @@ neg-neg (inf false) = refl
 neg-neg (fin true m e) = refl
 neg-neg (fin false m e) = refl
 
-pub truncOf-neg : (x : Float) → truncOf (neg x) ≡ neg (truncOf x)
-unfolding truncOf neg
-truncOf-neg nan = refl
-truncOf-neg (inf s) = refl
-truncOf-neg (fin s m e) = round-neg binary32 s (m * up e / down e) 1
-
-pub roundOf-neg : (x : Float) → roundOf (neg x) ≡ neg (roundOf x)
-unfolding roundOf neg
-roundOf-neg nan = refl
-roundOf-neg (inf s) = refl
-roundOf-neg (fin s m e) = round-neg binary32 s ((2 * (m * up e) + down e) / (2 * down e)) 1
+pub whole-neg : (q : ℕ → ℕ → ℕ) (x : Float) → wholeBy q (neg x) ≡ neg (wholeBy q x)
+unfolding wholeBy neg
+whole-neg q nan = refl
+whole-neg q (inf s) = refl
+whole-neg q (fin s m e) = round-neg binary32 s (q (m * up e) (down e)) 1
 
 -- ---- neither above nor below zero: a zero or a NaN
 zero-float : (s : Bool) (m : ℕ) (e : ℤ) → T (fits binary32 (fin s m e)) → m * up e ≡ 0 → fin s m e ≡ fin s 0 (pos 0)
@@ -85,13 +79,10 @@ module _ (g : Float → Float) (n : nan ≡ g nan) (z : (s : Bool) → fin s 0 (
   kept-zero (fin true m e) t p q = keeps true m e (zero-float true m e t (none-below (m * up e) (0 * down e) (zero-mul (down e)) q))
   kept-zero (fin false m e) t p q = keeps false m e (zero-float false m e t (none (m * up e) (0 * down e) (zero-mul (down e)) p))
 
-pub truncOf-zero : (x : Float) → T (fits binary32 x) → lt (fin false 0 (pos 0)) x ≡ false → lt x (fin false 0 (pos 0)) ≡ false → x ≡ truncOf x
-unfolding truncOf round
-truncOf-zero = kept-zero truncOf refl (λ (s : Bool). refl)
-
-pub roundOf-zero : (x : Float) → T (fits binary32 x) → lt (fin false 0 (pos 0)) x ≡ false → lt x (fin false 0 (pos 0)) ≡ false → x ≡ roundOf x
-unfolding roundOf round
-roundOf-zero = kept-zero roundOf refl (λ (s : Bool). refl)
+pub whole-zero : (nearest : Bool) (x : Float) → T (fits binary32 x) → lt (fin false 0 (pos 0)) x ≡ false → lt x (fin false 0 (pos 0)) ≡ false → x ≡ wholeBy (ruleOf nearest) x
+unfolding wholeBy round
+whole-zero true = kept-zero (wholeBy (ruleOf true)) refl (λ (s : Bool). refl)
+whole-zero false = kept-zero (wholeBy (ruleOf false)) refl (λ (s : Bool). refl)
 
 -- above zero, by the two tests
 some : (a z : ℕ) → z ≡ 0 → ltb z (a * 1) ≡ true → 0 < a
@@ -151,15 +142,15 @@ half-up a = omega arith
 up-none : (a : ℕ) → (a + (1 - 1)) / 1 ≡ a
 up-none a = omega arith
 
-pub truncOf-big : (x : Float) → T (above x) → T (fits binary32 x) → le big x ≡ true → x ≡ truncOf x
-unfolding truncOf
-truncOf-big (inf s) a t h = refl
-truncOf-big (fin false m e) a t h = sym (stays false m e (λ (d : ℕ). m * up e / d) t (div-one (m * up e)) (at-least m e h))
+-- either rule keeps a whole number
+rule-one : (nearest : Bool) (a : ℕ) → ruleOf nearest a 1 ≡ a
+rule-one true a = half-up a
+rule-one false a = div-one a
 
-pub roundOf-big : (x : Float) → T (above x) → T (fits binary32 x) → le big x ≡ true → x ≡ roundOf x
-unfolding roundOf
-roundOf-big (inf s) a t h = refl
-roundOf-big (fin false m e) a t h = sym (stays false m e (λ (d : ℕ). (2 * (m * up e) + d) / (2 * d)) t (half-up (m * up e)) (at-least m e h))
+pub whole-big : (nearest : Bool) (x : Float) → T (above x) → T (fits binary32 x) → le big x ≡ true → x ≡ wholeBy (ruleOf nearest) x
+unfolding wholeBy
+whole-big nearest (inf s) a t h = refl
+whole-big nearest (fin false m e) a t h = sym (stays false m e (ruleOf nearest (m * up e)) t (rule-one nearest (m * up e)) (at-least m e h))
 
 -- ---- below 2^23 the cut fraction is a whole number that binary32 holds
 -- t is the cut of a / d, which is below 2^23
@@ -178,7 +169,7 @@ wider : (t : ℕ) → t < 2 ^ 23 → t < 2 ^ 24
 wider t h = omega arith
 
 pub truncOf-cut : (x : Float) → T (above x) → le big x ≡ false → (t : ℕ) → t ≡ toUnsigned 64 x → T (inFloat binary32 (pos t)) × (ofInt binary32 (pos t) ≡ truncOf x)
-unfolding truncOf
+unfolding wholeBy
 truncOf-cut (inf false) a h t r = absurd (true≢false (unfold le in h))
 truncOf-cut (fin false m e) a h t r =
     let l : m * up e / down e < 2 ^ 24 = wider (m * up e / down e) (less-cut (m * up e) (down e) (down-pos e) (under m e h)) in
@@ -206,7 +197,7 @@ half-of a d D = ap (λ (z : ℕ). z / 2) (sym (add-div-right (2 * a) D)) ∙ div
 
 pub roundOf-cut : (x : Float) → T (above x) → T (fits binary32 x) → le big x ≡ false → (t : ℕ) → t ≡ toUnsigned 64 (add binary32 x x)
     → (t < 2 ^ 24) × T (inFloat binary32 (pos ((t + 1) / 2))) × (ofInt binary32 (pos ((t + 1) / 2)) ≡ roundOf x)
-unfolding roundOf
+unfolding wholeBy
 roundOf-cut (inf false) a f h t r = absurd (true≢false (unfold le in h))
 roundOf-cut (fin false m e) a f h t r =
     let n = 2 * (m * up e) / down e in
@@ -236,11 +227,11 @@ module _ (s : Bool) (m : ℕ) (e : ℤ) (t : T (fits binary32 (fin s m e))) wher
       go false h k = round-whole binary32 s (q (down e)) (small (k tt))
 
   pub truncOf-value : HasValue (truncOf (fin s m e)) s (m * up e / down e) 1
-  unfolding truncOf
+  unfolding wholeBy
   truncOf-value = whole-value (λ (d : ℕ). m * up e / d) (div-one (m * up e)) (λ h. le-of-lt (wider (m * up e / down e) (less-cut (m * up e) (down e) (down-pos e) h)))
 
   pub roundOf-value : HasValue (roundOf (fin s m e)) s ((2 * (m * up e) + down e) / (2 * down e)) 1
-  unfolding roundOf
+  unfolding wholeBy
   roundOf-value = whole-value (λ (d : ℕ). (2 * (m * up e) + d) / (2 * d)) (half-up (m * up e)) (λ h. div-le-of-le-mul (2 * down e) (most (m * up e) (down e) h))
     where
       most : (a d : ℕ) → a < 2 ^ 23 * d → 2 * a + d ≤ 2 * d * 2 ^ 24
@@ -289,9 +280,9 @@ never-less p q k l = omega (arith, ltb-true (q * 1) p l)
 
 ceil-up : (x : Float) → T (fits binary32 x) → lt (truncOf x) x ≡ true → add binary32 (truncOf x) (fin false 1 (pos 0)) ≡ ceilOf x
 unfolding ceilOf
-ceil-up nan t h = absurd (false≢true (unfold truncOf lt in h))
-ceil-up (inf true) t h = absurd (false≢true (unfold truncOf lt in h))
-ceil-up (inf false) t h = absurd (false≢true (unfold truncOf lt in h))
+ceil-up nan t h = absurd (false≢true (unfold wholeBy lt in h))
+ceil-up (inf true) t h = absurd (false≢true (unfold wholeBy lt in h))
+ceil-up (inf false) t h = absurd (false≢true (unfold wholeBy lt in h))
 ceil-up (fin true m e) t h = absurd (never-less (m * up e / down e * down e) (m * up e) (div-mul-le-self (m * up e) (down e)) (sym (cut-lt true m e t) ∙ h))
 ceil-up (fin false m e) t h =
     let q = m * up e / down e in
@@ -302,7 +293,7 @@ ceil-up (fin false m e) t h =
     ones q = omega arith
 
 ceil-same : (x : Float) → T (fits binary32 x) → lt (truncOf x) x ≡ false → truncOf x ≡ ceilOf x
-unfolding truncOf ceilOf
+unfolding wholeBy ceilOf
 ceil-same nan t h = refl
 ceil-same (inf s) t h = refl
 ceil-same (fin true m e) t h = refl

@@ -2,24 +2,38 @@
 -- A finite float `fin s m e` is ± m × up e / down e, so each whole number below is worked out in ℕ and is exact in binary32 where the float
 -- was not whole already.
 use Prim.Native.Nat.{ℕ, _+_, _-_, _*_, _/_, min}
-use mathlib.Core.Bool.{true, false, cond}
+use mathlib.Core.Bool.{Bool, true, false, cond}
 use lib.Ieee.{Float, nan, inf, fin, binary32, up, down, round, sub, le, toUnsigned}
 
 -- max(a, b): a if a ≥ b, else b
 abbrev pub maxOf : Float → Float → Float
 maxOf a b = cond (le b a) a b
 
+-- a whole number in the place of x, with x's sign: q of the fraction a / d that the size of x is; the infinities and NaN stay
+unfoldable pub wholeBy : (ℕ → ℕ → ℕ) → Float → Float
+wholeBy q nan = nan
+wholeBy q (inf s) = inf s
+wholeBy q (fin s m e) = round binary32 s (q (m * up e) (down e)) 1
+
+-- the fraction cut, and the nearest whole number to it, half up
+abbrev pub cutOf : ℕ → ℕ → ℕ
+cutOf a d = a / d
+
+abbrev pub nearestOf : ℕ → ℕ → ℕ
+nearestOf a d = (2 * a + d) / (2 * d)
+
+-- the second where `nearest` says so, else the first
+abbrev pub ruleOf : Bool → ℕ → ℕ → ℕ
+ruleOf false = cutOf
+ruleOf true = nearestOf
+
 -- x without its fraction, with x's sign
-unfoldable pub truncOf : Float → Float
-truncOf nan = nan
-truncOf (inf s) = inf s
-truncOf (fin s m e) = round binary32 s (m * up e / down e) 1
+abbrev pub truncOf : Float → Float
+truncOf x = wholeBy cutOf x
 
 -- the nearest whole number, half away from zero, with x's sign
-unfoldable pub roundOf : Float → Float
-roundOf nan = nan
-roundOf (inf s) = inf s
-roundOf (fin s m e) = round binary32 s ((2 * (m * up e) + down e) / (2 * down e)) 1
+abbrev pub roundOf : Float → Float
+roundOf x = wholeBy nearestOf x
 
 -- the least whole number that is not below x, with x's sign
 unfoldable pub ceilOf : Float → Float

@@ -5,7 +5,7 @@ ghost use lib.Dec.{T};
 ghost use lib.Ieee.{binary32, ofBits, toBits, toUnsigned};
 ghost use lib.Ieee.Scale.{finite};
 ghost use lib.Ieee.Positive.{above};
-ghost use Rattle.floats.specs.Stand.{maxOf, truncOf, roundOf, ceilOf, fractOf, indexOf};
+ghost use Rattle.floats.specs.Stand.{maxOf, wholeBy, ruleOf, truncOf, roundOf, ceilOf, fractOf, indexOf};
 ghost use Rattle.floats.specs.Key.{keyOf};
 
 // max(a, b): a if a ≥ b, else b.
@@ -52,28 +52,38 @@ pub fn index(x: f32, side: usize) -> usize
     side - 1
 }
 
-// x without its fraction, for x above 0. From 2^23 on it has none.
-fn trunc_above(x: f32) -> f32
+// A whole number in the place of x above 0: the nearest, half up, or x without its fraction. From 2^23 on x is whole; below, its double is exact.
+fn whole_above(x: f32, nearest: bool) -> f32
     requires { ⌜ T (above x) ⌝ }
-    ensures { λ r. ⌜ r ≡ truncOf x ⌝ }
+    ensures { λ r. ⌜ r ≡ wholeBy (ruleOf nearest) x ⌝ }
 {
     if x >= 8388608.0 {
         return x;
     }
+    if nearest {
+        return ((to_u64(x + x) + 1) / 2) as f32;
+    }
     to_u64(x) as f32
+}
+
+// The same of every x, with x's sign.
+fn whole(x: f32, nearest: bool) -> f32
+    ensures { λ r. ⌜ r ≡ wholeBy (ruleOf nearest) x ⌝ }
+{
+    if x > 0.0 {
+        return whole_above(x, nearest);
+    }
+    if x < 0.0 {
+        return -whole_above(-x, nearest);
+    }
+    x
 }
 
 // x without its fraction, with x's sign.
 pub fn trunc(x: f32) -> f32
     ensures { λ r. ⌜ r ≡ truncOf x ⌝ }
 {
-    if x > 0.0 {
-        return trunc_above(x);
-    }
-    if x < 0.0 {
-        return -trunc_above(-x);
-    }
-    x
+    whole(x, false)
 }
 
 // x's fraction, with x's sign.
@@ -91,28 +101,11 @@ pub fn ceil(x: f32) -> f32
     if t < x { t + 1.0 } else { t }
 }
 
-// The whole number nearest to x, half up, for x above 0. Below 2^23 the double is exact.
-fn round_above(x: f32) -> f32
-    requires { ⌜ T (above x) ⌝ }
-    ensures { λ r. ⌜ r ≡ roundOf x ⌝ }
-{
-    if x >= 8388608.0 {
-        return x;
-    }
-    ((to_u64(x + x) + 1) / 2) as f32
-}
-
 // The whole number nearest to x, half away from zero, with x's sign.
 pub fn round(x: f32) -> f32
     ensures { λ r. ⌜ r ≡ roundOf x ⌝ }
 {
-    if x > 0.0 {
-        return round_above(x);
-    }
-    if x < 0.0 {
-        return -round_above(-x);
-    }
-    x
+    whole(x, true)
 }
 
 // The float of a bit pattern. Every NaN's pattern gives the one NaN.

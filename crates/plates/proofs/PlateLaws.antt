@@ -2,7 +2,7 @@
 use mathlib.Core.Path.{refl}
 use lib.Ieee.{ofBits, toBits, ofInt, round, add, sub, mul, div, lt, le, toUnsigned}
 use Rattle.lists.specs.Loops.{turns, tabulate}
-use Rattle.floats.specs.Stand.{truncOf, roundOf}
+use Rattle.floats.specs.Stand.{wholeBy}
 use Rattle.grid.specs.Directions.{neighbourOf}
 use Rattle.grid.specs.Heights.{firstNotFinite, allFinite}
 use Rattle.square_root.specs.Root.{rootOf, nearestRoot, wholeRoot, digits}
@@ -23,5 +23,5 @@ use Rattle.upsample.specs.Samples.{addedOf}
 use Rattle.plates.specs.Plates.{OnTheWall}
 
 pub on-the-wall : OnTheWall
-unfolding ofBits toBits ofInt round add sub mul div lt le toUnsigned turns tabulate truncOf roundOf neighbourOf firstNotFinite allFinite rootOf nearestRoot wholeRoot digits reportOf start step leastWaiting pushAll floodAfter receivers receiverOf steepestOf directionTo areasAlong times firstFailing goodReceiver goodEntry incisedBy inciseAlong shedStep shedOf gainStep gainsOf slideCell slideRow rowsOf workSize scaledSide rowSum blockSum averageOf downsampled bilinearOf addedOf
+unfolding ofBits toBits ofInt round add sub mul div lt le toUnsigned turns tabulate wholeBy neighbourOf firstNotFinite allFinite rootOf nearestRoot wholeRoot digits reportOf start step leastWaiting pushAll floodAfter receivers receiverOf steepestOf directionTo areasAlong times firstFailing goodReceiver goodEntry incisedBy inciseAlong shedStep shedOf gainStep gainsOf slideCell slideRow rowsOf workSize scaledSide rowSum blockSum averageOf downsampled bilinearOf addedOf
 on-the-wall = (refl, (refl, (refl, (refl, (refl, (refl, (refl, (refl, (refl, (refl, (refl, (refl, (refl, tt)))))))))))))

@@ -12,7 +12,7 @@ use lib.Ieee.Exact.{HasValue, odd-sign}
 use lib.Ieee.Order.{round-mono, drop, kept}
 use lib.Ieee.Back.{round-whole, unsigned-back}
 use borrow.Author.Tests.{leb-false, le-leb, lt-leb}
-use Rattle.floats.specs.Stand.{roundOf}
+use Rattle.floats.specs.Stand.{wholeBy, roundOf}
 use Rattle.resample.specs.WorkSize.{float, scaledSide, workSize, Within, WorkWithin}
 use Rattle.grid.specs.Sides.{InRange}
 use Rattle.grid.specs.declared.Sides.{Sides}
@@ -120,7 +120,7 @@ mul-below (fin false m e) (fin false k d) a n v u N =
 
 -- rounded half away and cut to an index, at most n is at most n
 rounded-below : (x : Float) (n : ℕ) → Below x n → n ≤ 2 ^ 24 → toUnsigned 64 (roundOf x) ≤ n
-unfolding roundOf inFloat ofInt
+unfolding wholeBy inFloat ofInt
 rounded-below nan n b N = absurd b
 rounded-below (inf s) n b N = absurd b
 rounded-below (fin true m e) n b N = absurd (true≢false (b .0))

@@ -12,7 +12,7 @@ use lib.Ieee.Fits.{nan-fits}
 use Rattle.float_order.specs.Order.{rank}
 use Rattle.lists.specs.Loops.{turns, tabulate}
 use Rattle.float_order.specs.Fit.{Fit}
-use Rattle.floats.specs.Stand.{ceilOf, roundOf}
+use Rattle.floats.specs.Stand.{wholeBy, ceilOf}
 use Rattle.grid.specs.Directions.{neighbourOf}
 use Rattle.grid.specs.Heights.{firstNotFinite, allFinite}
 use Rattle.square_root.specs.Root.{rootOf, nearestRoot, wholeRoot, digits}
@@ -74,7 +74,7 @@ own-receivers routed long fit all c h = go c h
     go (suc (suc c)) h = let v : ⊥ = omega arith in absurd v
 
 accepted-map : Accepted 2 1 map
-unfolding ofBits toBits ofInt round add sub mul div lt le toUnsigned turns tabulate ceilOf roundOf neighbourOf firstNotFinite allFinite rootOf nearestRoot wholeRoot digits reportOf start step leastWaiting pushAll floodAfter receivers receiverOf steepestOf directionTo areasAlong incisedBy inciseAlong incisionBy shedOf gainsOf slideCell slideRow workSize scaledSide downsampled averageOf after Machine.step
+unfolding ofBits toBits ofInt round add sub mul div lt le toUnsigned turns tabulate ceilOf wholeBy neighbourOf firstNotFinite allFinite rootOf nearestRoot wholeRoot digits reportOf start step leastWaiting pushAll floodAfter receivers receiverOf steepestOf directionTo areasAlong incisedBy inciseAlong incisionBy shedOf gainsOf slideCell slideRow workSize scaledSide downsampled averageOf after Machine.step
 accepted-map = record { sides = refl; long = refl; finite = refl }
 
 premise : (it : ℕ) (routed : List Float) → RunRoutes 2 1 settings 0 map (lent lists) it routed → WorkList 2 (receiversOn (groundOf 2 1 settings 0 map) routed) (lists it)
@@ -84,7 +84,7 @@ premise it routed r =
     own-work-list 2 (receiversOn (gridGround 2 1 (ofBits binary32 0)) routed) (1 ∷ 0 ∷ []) (own-receivers routed (z .0 .long) (z .0 .fit) (z .1)) each-once no-other
 
 pub other-lists : OtherLists
-unfolding ofBits toBits ofInt round add sub mul div lt le toUnsigned turns tabulate ceilOf roundOf neighbourOf firstNotFinite allFinite rootOf nearestRoot wholeRoot digits reportOf start step leastWaiting pushAll floodAfter receivers receiverOf steepestOf directionTo areasAlong incisedBy inciseAlong incisionBy shedOf gainsOf slideCell slideRow workSize scaledSide downsampled averageOf after Machine.step runBy
+unfolding ofBits toBits ofInt round add sub mul div lt le toUnsigned turns tabulate ceilOf wholeBy neighbourOf firstNotFinite allFinite rootOf nearestRoot wholeRoot digits reportOf start step leastWaiting pushAll floodAfter receivers receiverOf steepestOf directionTo areasAlong incisedBy inciseAlong incisionBy shedOf gainsOf slideCell slideRow workSize scaledSide downsampled averageOf after Machine.step runBy
 other-lists = record {
   first-routes = record { started = refl; routes = record { done = 0; goes-on = refl; due = omega arith; entered = refl; unopened = refl; unstopped = refl; heights = refl } };
   second-routes = record { started = refl; routes = record { done = 2; goes-on = refl; due = omega arith; entered = refl; unopened = refl; unstopped = refl; heights = refl } };
