@@ -1,6 +1,7 @@
 // What document 01 puts in the place of Rust's float methods, each on every f32 and each equal to its definition in
 // specs/Stand.antt; the bits of a float; and `height_key`, by which heights leave the queue (specs/Key.antt).
 ghost use mathlib.Core.Path.{_≡_};
+ghost use Prim.Native.Nat.{max as greatest};
 ghost use lib.Dec.{T};
 ghost use lib.Ieee.{binary32, ofBits, toBits, toUnsigned};
 ghost use lib.Ieee.Scale.{finite};
@@ -36,6 +37,14 @@ pub fn to_u64(x: f32) -> u64
         return u64::MAX;
     }
     0
+}
+
+// x cut to a number of things of which there is at least one.
+pub fn to_count(x: f32) -> usize
+    ensures { λ r. ⌜ r ≡ greatest (toUnsigned 64 x) 1 ⌝ }
+{
+    let n = to_u64(x) as usize;
+    if n <= 1 { 1 } else { n }
 }
 
 // x as an index of a side, held inside it.

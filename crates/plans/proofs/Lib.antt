@@ -1,4 +1,3 @@
 -- Laws of plans and of the refusals of whole runs.
-pub mod PlanLaws
 pub mod RefusalLaws
 pub mod InputLaws

@@ -4,7 +4,7 @@ use answers::Refusal;
 use answers::outside;
 use floats::ceil;
 use floats::is_finite;
-use floats::to_u64;
+use floats::to_count;
 use fluvial_erosion::FluvialParams;
 use grid::Sides;
 use grid::bad_sides;
@@ -54,8 +54,7 @@ fn passes(iterations: u32, scale: f32) -> usize
     requires { ⌜ iterations ≤ 4096 ⌝ }
     ensures { λ r. ⌜ r ≡ passesOf iterations scale ⌝ }
 {
-    let n = to_u64(ceil(iterations as f32 * scale)) as usize;
-    if n <= 1 { 1 } else { n }
+    to_count(ceil(iterations as f32 * scale))
 }
 
 // The passes of a thermal run on its working grid.

@@ -165,16 +165,7 @@ work-within w h res good = go (leb (max w h) res) (leb-false (max w h) res)
         scaled (div binary32 (float res) (float (max w h)))
         (div-below (float res) (float (max w h)) res (max w h) 1 (round-whole binary32 false res (omega arith)) (round-whole binary32 false (max w h) (omega arith)) (omega arith) (lit≤ tt) (omega arith))
 
--- ---- the two ways of each function
-module _ (coef : Float) (side : ℕ) {r : Float} {t : ℕ} (p : r ≡ roundOf (mul binary32 (float side) coef)) (q : t ≡ toUnsigned 64 r) where
-  pub scaled-low : t ≤ 1 → 1 ≡ scaledSide coef side
-  unfolding scaledSide
-  scaled-low l = let e : t ≡ toUnsigned 64 (roundOf (mul binary32 (float side) coef)) = q ∙ ap (toUnsigned 64) p in omega arith
-
-  pub scaled-high : 1 < t → t ≡ scaledSide coef side
-  unfolding scaledSide
-  scaled-high l = let e : t ≡ toUnsigned 64 (roundOf (mul binary32 (float side) coef)) = q ∙ ap (toUnsigned 64) p in omega arith
-
+-- ---- the two ways of `work_sides`
 pub work-full : (g : Sides) (res l : ℕ) → l ≡ max (g .w) (g .h) → l ≤ res → g ≡ workSize (g .w) (g .h) res
 unfolding workSize
 work-full g res l e h = rw (le-leb (max (g .w) (g .h)) res (omega arith))

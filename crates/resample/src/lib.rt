@@ -3,7 +3,7 @@
 use answers::Answer;
 use answers::Refusal;
 use floats::round;
-use floats::to_u64;
+use floats::to_count;
 use grid::Sides;
 use grid::bad_sides;
 ghost use mathlib.Core.Path.{_≡_};
@@ -25,8 +25,7 @@ fn scaled_side(side: usize, coef: f32) -> usize
     requires { ⌜ side ≤ 4096 ⌝ }
     ensures { λ r. ⌜ r ≡ scaledSide coef side ⌝ }
 {
-    let scaled = to_u64(round(side as f32 * coef)) as usize;
-    if scaled <= 1 { 1 } else { scaled }
+    to_count(round(side as f32 * coef))
 }
 
 // The working sides: the full ones where the longest fits, else both scaled by max_res / longest.

@@ -1,8 +1,8 @@
-use native.Mathlib.Omega.{arith}
-use lib.Ieee.{toUnsigned}
+use Prim.Native.Nat.{max}
 use mathlib.Core.Path.{ap, _∙_}
+use native.Mathlib.Omega.{arith}
+use lib.Ieee.{Float, toUnsigned}
 use Rattle.floats.proofs.WholeLaws.{float-in}
-use Rattle.plans.proofs.PlanLaws.{one-at-least, itself-at-least}
 use borrow.Author.Needs.{needs}
 use Rattle.plans.proofs.passes.Statement.{statement}
 use Rattle.plans.proofs.passes.Tie as tie
@@ -13,15 +13,12 @@ int-to-float-ceil c = float-in _ (omega (arith, c .before .pre))
 ceil-requires : tie.Need-ceil-requires
 ceil-requires c κs = search needs
 
-to-u64-requires : tie.Need-to-u64-requires
-to-u64-requires c κs = search needs
+to-count-requires : tie.Need-to-count-requires
+to-count-requires c κs = search needs
 
 returns : tie.Need-returns
-returns c = one-at-least _ _ (c .before .to-u64 .ensures ∙ ap (toUnsigned 64) (c .before .before .ceil .ensures)) (c .if1 .taken)
-
-returns-2 : tie.Need-returns-2
-returns-2 c = itself-at-least _ _ (c .before .to-u64 .ensures ∙ ap (toUnsigned 64) (c .before .before .ceil .ensures)) (c .if1 .left)
+returns c = c .to-count .ensures ∙ ap (λ (x : Float). max (toUnsigned 64 x) 1) (c .before .ceil .ensures)
 
 pub passes-spec : {M : Type 1} → statement M
 passes-spec =
-    tie.close (tie.spec int-to-float-ceil ceil-requires to-u64-requires returns returns-2)
+    tie.close (tie.spec int-to-float-ceil ceil-requires to-count-requires returns)
