@@ -12,7 +12,8 @@ use Rattle.float_order.specs.Order.{Number, rank}
 use Rattle.float_order.specs.Fit.{Fit}
 use Rattle.float_order.proofs.OrderLaws.{lt-is}
 use Rattle.float_order.proofs.RankLaws.{finite-number, max-keeps, max-rank}
-use Rattle.float_order.proofs.KeyLaws.{key-lt, key-narrow}
+use Rattle.floats.proofs.BitsLaws.{key-narrow}
+use Rattle.float_order.proofs.KeyLaws.{key-lt}
 use Rattle.grid.specs.Sides.{InRange}
 use Rattle.grid.specs.Directions.{neighbourAt, Adjacent}
 use Rattle.grid.specs.Heights.{allFinite}
@@ -62,7 +63,7 @@ numbers-of Good number = record {
   raised-number = λ a b p q. max-rank a b (number a p) (number b q);
   lower-number = λ a b p q. lt-is a b (number a p) (number b q);
   key-follows = λ a b p q. key-lt a b (number a p) (number b q);
-  key-narrow = λ a p. key-narrow a (number a p .fit);
+  key-narrow = λ a p. key-narrow a;
 }
 
 pub finite-numbers : Numbers floats Height rank

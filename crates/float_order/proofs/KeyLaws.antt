@@ -15,6 +15,7 @@ use lib.Ieee.Bits.{toBits-lt}
 use lib.Ieee.Digits.{size-lt, size-le, size-reaches}
 use lib.Ieee.Fits.{kept-lt}
 use Rattle.floats.specs.Key.{folded, keyOf}
+use Rattle.floats.proofs.BitsLaws.{key-narrow}
 use Rattle.float_order.specs.Order.{Number, signOf, unitsOf, signed, rank, KeyFollowsOrder}
 use Rattle.float_order.proofs.ValueLaws.{bits-unique}
 use Rattle.float_order.proofs.SizeLaws.{rank-is, units-le, bits-is}
@@ -75,13 +76,6 @@ folded-unique b c p q = go (leb (2 ^ 31) b) (leb (2 ^ 31) c) refl refl
 pub key-unique : (x y : Float) → T (fits binary32 x) → T (fits binary32 y) → keyOf x ≡ keyOf y → x ≡ y
 key-unique x y p q h = bits-unique x y p q (folded-unique (toBits binary32 x) (toBits binary32 y) (toBits-lt binary32 x p) (toBits-lt binary32 y q) h)
 
-pub key-narrow : (x : Float) → T (fits binary32 x) → keyOf x < 2 ^ 32
-key-narrow x p = go (leb (2 ^ 31) (toBits binary32 x)) refl
-  where
-    go : (s : Bool) → leb (2 ^ 31) (toBits binary32 x) ≡ s → cond s (2 ^ 32 - 1 - toBits binary32 x) (2 ^ 31 + toBits binary32 x) < 2 ^ 32
-    go true h = omega arith
-    go false h = omega (arith, leb-false)
-
 -- ---- and follows the order
 
 -- sizes a and b up to B with bits u and v below C
@@ -109,4 +103,4 @@ pub key-le : (x y : Float) → Number x → Number y → keyOf x ≤ keyOf y →
 key-le x y p q h = le-of-suc-le-suc (lt-of-not-le (λ (g : rank y < rank x). not-le-of-lt (key-lt y x q p g) h))
 
 pub key-follows-order : KeyFollowsOrder
-key-follows-order = record { less = key-lt; at-most = key-le; unique = key-unique; narrow = key-narrow }
+key-follows-order = record { less = key-lt; at-most = key-le; unique = key-unique; narrow = λ x p. key-narrow x }

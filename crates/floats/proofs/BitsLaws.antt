@@ -45,8 +45,8 @@ pub key-low : (x : Float) (b : ℕ) → b ≡ toBits binary32 x → b < 2 ^ 31 �
 key-low x b e h = sym (ap (λ (t : Bool). cond t (2 ^ 32 - 1 - b) (2 ^ 31 + b)) (lt-leb (2 ^ 31) b h)) ∙ ap folded e
 
 -- a key is a u32, whatever the float
-pub key-lt : (x : Float) → keyOf x < 2 ^ 32
-key-lt x = go (leb (2 ^ 31) (toBits binary32 x)) (nleb→lt (2 ^ 31) (toBits binary32 x))
+pub key-narrow : (x : Float) → keyOf x < 2 ^ 32
+key-narrow x = go (leb (2 ^ 31) (toBits binary32 x)) (nleb→lt (2 ^ 31) (toBits binary32 x))
   where
     most : (b : ℕ) → 2 ^ 32 - 1 - b < 2 ^ 32
     most b = omega arith

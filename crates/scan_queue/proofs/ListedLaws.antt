@@ -13,7 +13,7 @@ use lib.Ieee.{Float, nan}
 use borrow.Author.Tests.{lt-ltb, le-ltb, le-leb, lt-leb}
 use Rattle.floats.specs.Key.{keyOf}
 use Rattle.float_order.specs.Fit.{Fit}
-use Rattle.float_order.proofs.KeyLaws.{key-narrow}
+use Rattle.floats.proofs.BitsLaws.{key-narrow}
 use Rattle.drainage.specs.Ways.{one}
 use Rattle.drainage.proofs.TallyLaws.{same-or-not, one-other, count-more, count-full}
 use Rattle.drainage.proofs.CountLaws.{count-none}
@@ -26,7 +26,7 @@ narrow-place : (k c : ℕ) → k < 2 ^ 32 → c < 2 ^ 24 → k * 2 ^ 32 + c < en
 narrow-place k c h l = omega arith
 
 pub below-endless : (hs : List Float) → Fit hs → (c : ℕ) → c < 2 ^ 24 → placeOf hs c < endless
-below-endless hs fit c l = narrow-place (keyOf (getD hs c nan)) c (key-narrow (getD hs c nan) (fit c)) l
+below-endless hs fit c l = narrow-place (keyOf (getD hs c nan)) c (key-narrow (getD hs c nan)) l
 
 -- a cell that waits is a cell
 pub waits-inside : (status : List ℕ) (c : ℕ) → getD status c 0 ≡ 1 → c < length status
