@@ -2,7 +2,7 @@
 use floats::is_finite;
 ghost use mathlib.Core.Path.{_≡_};
 ghost use mathlib.Core.Bool.{_||_};
-ghost use Prim.Native.Nat.{_-_, _*_, _<_};
+ghost use Prim.Native.Nat.{_-_, _*_, _<_, max, min};
 ghost use lib.Dec.{eqb};
 ghost use lib.ListN.{length};
 ghost use lib.Ieee.{le};
@@ -40,6 +40,20 @@ pub fn bad_sides(g: Sides) -> bool
         return true;
     }
     bad_side(g.h)
+}
+
+// The lesser of two lengths.
+pub fn least(a: usize, b: usize) -> usize
+    ensures { λ r. ⌜ r ≡ min a b ⌝ }
+{
+    if a <= b { a } else { b }
+}
+
+// The longest side.
+pub fn longest(g: Sides) -> usize
+    ensures { λ r. ⌜ r ≡ max (g .w) (g .h) ⌝ }
+{
+    if g.w <= g.h { g.h } else { g.w }
 }
 
 // x moved by d, or `side` where that leaves 0 to side - 1. The sign is tested before the cast.

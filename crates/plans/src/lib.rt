@@ -9,21 +9,16 @@ use fluvial_erosion::FluvialParams;
 use grid::Sides;
 use grid::bad_sides;
 use grid::first_not_finite;
+use grid::longest;
 use runs::FluvialSettings;
 use runs::ThermalSettings;
 use thermal_erosion::ThermalParams;
 ghost use mathlib.Core.Path.{_≡_};
-ghost use Prim.Native.Nat.{_≤_, max, min};
+ghost use Prim.Native.Nat.{_≤_};
 ghost use Rattle.answers.specs.Outcome.{answerOf};
 ghost use Rattle.runs.specs.Plan.{scaleOf, kOf, thresholdOf, passesOf, fluvialPlan, thermalPasses, thermalParams};
 ghost use Rattle.runs.specs.Refusals.{badFluvial, badThermal};
 ghost use Rattle.plans.specs.Accepted.{refusalOn};
-
-fn longest(work: Sides) -> usize
-    ensures { λ r. ⌜ r ≡ max (work .w) (work .h) ⌝ }
-{
-    if work.w <= work.h { work.h } else { work.w }
-}
 
 // Working cells per cell of a reference map: the longest working side / 512.
 pub fn scale(work: Sides) -> f32
@@ -160,13 +155,6 @@ pub fn bad_fluvial(conf: FluvialSettings) -> bool
         return true;
     }
     conf.iterations > 4096
-}
-
-// The lesser of two lengths.
-pub fn least(a: usize, b: usize) -> usize
-    ensures { λ r. ⌜ r ≡ min a b ⌝ }
-{
-    if a <= b { a } else { b }
 }
 
 // What a whole run refuses, where `bad` says whether a setting is bad and `scratch` is the length of the shortest scratch slice.

@@ -6,9 +6,10 @@ use floats::round;
 use floats::to_count;
 use grid::Sides;
 use grid::bad_sides;
+use grid::longest;
 ghost use mathlib.Core.Path.{_≡_};
 ghost use mathlib.Core.Bool.{not, _||_};
-ghost use Prim.Native.Nat.{_*_, _≤_, max as greatest};
+ghost use Prim.Native.Nat.{_*_, _≤_};
 ghost use lib.Dec.{eqb};
 ghost use Rattle.answers.specs.Outcome.{gives, refused, answerOf};
 ghost use Rattle.resample.specs.WorkSize.{scaledSide, workSize, workOf, workAnswer};
@@ -34,22 +35,16 @@ pub fn work_sides(size: Sides, max_res: u32) -> Sides
     requires { ⌜ size .h ≤ 4096 ⌝ }
     ensures { λ r. ⌜ r ≡ workSize (size .w) (size .h) «max_res» ⌝ }
 {
-    let longest = longest_of(size);
+    let side = longest(size);
     let res = max_res as usize;
-    if longest <= res {
+    if side <= res {
         return size;
     }
-    let coef = res as f32 / longest as f32;
+    let coef = res as f32 / side as f32;
     Sides {
         w: scaled_side(size.w, coef),
         h: scaled_side(size.h, coef),
     }
-}
-
-fn longest_of(size: Sides) -> usize
-    ensures { λ r. ⌜ r ≡ greatest (size .w) (size .h) ⌝ }
-{
-    if size.w <= size.h { size.h } else { size.w }
 }
 
 // Document 01's working sides of a map.
