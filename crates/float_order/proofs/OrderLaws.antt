@@ -68,19 +68,19 @@ compares k (fin s m e) (inf t) p q = k .right s t m e (units-lt s m e (p .fit))
 compares {test = test} k (fin s m e) (fin t n d) p q =
     k .finites s t m n e d ∙ in-units (λ (A B a b : ℕ). test s A t B ≡ test s a t b) (k .scaled s t) s t m n e d (p .fit) (q .fit)
 
-below-infinities : (s t : Bool) → lt (inf s) (inf t) ≡ below s (2 ^ 277) t (2 ^ 277)
-unfolding lt
-below-infinities true true = refl
-below-infinities true false = refl
-below-infinities false true = refl
-below-infinities false false = refl
+-- what holds of each pair of signs holds of any two
+by-signs : (P : Bool → Bool → Type 0) → P true true → P true false → P false true → P false false → (s t : Bool) → P s t
+by-signs P a b c d true true = a
+by-signs P a b c d true false = b
+by-signs P a b c d false true = c
+by-signs P a b c d false false = d
 
 lt-below : (x y : Float) → Number x → Number y → lt x y ≡ below (signOf x) (unitsOf x) (signOf y) (unitsOf y)
 unfolding lt
 lt-below =
     compares
     (record {
-      infinities = below-infinities;
+      infinities = by-signs (λ s t. lt (inf s) (inf t) ≡ below s (2 ^ 277) t (2 ^ 277)) refl refl refl refl;
       left = λ s t n d l. inf-below (2 ^ 277) (unitsOf (fin t n d)) s t l;
       right = λ s t m e l. below-inf (2 ^ 277) (unitsOf (fin s m e)) s t l;
       finites = λ s t m n e d. refl;
@@ -93,19 +93,12 @@ not-level s t a b h = sym (ap (λ (u : Bool). u && (Bool·beq s t || eqb a 0)) (
 apart : (B u : ℕ) → u < B → B ≡ u → ⊥
 apart B u h e = omega arith
 
-level-infinities : (s t : Bool) → eq (inf s) (inf t) ≡ level s (2 ^ 277) t (2 ^ 277)
-unfolding eq
-level-infinities true true = refl
-level-infinities true false = refl
-level-infinities false true = refl
-level-infinities false false = refl
-
 eq-level : (x y : Float) → Number x → Number y → eq x y ≡ level (signOf x) (unitsOf x) (signOf y) (unitsOf y)
 unfolding eq
 eq-level =
     compares
     (record {
-      infinities = level-infinities;
+      infinities = by-signs (λ s t. eq (inf s) (inf t) ≡ level s (2 ^ 277) t (2 ^ 277)) refl refl refl refl;
       left = λ s t n d l. not-level s t (2 ^ 277) (unitsOf (fin t n d)) (apart (2 ^ 277) (unitsOf (fin t n d)) l);
       right = λ s t m e l. not-level s t (unitsOf (fin s m e)) (2 ^ 277) (λ h. apart (2 ^ 277) (unitsOf (fin s m e)) l (sym h));
       finites = λ s t m n e d. refl;
