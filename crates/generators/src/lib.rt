@@ -65,7 +65,7 @@ pub fn ask(m: Progress, p: f32, stop: u32) -> Progress
 }
 
 // Refusal 4 of a report: p, the last p or the number of questions outside its range.
-fn bad_report(m: Progress, p: f32) -> bool
+pub fn bad_report(m: Progress, p: f32) -> bool
     ensures { λ r. ⌜ r ≡ badReport m p ⌝ }
 {
     if outside(p, 0.0, 1.0) {

@@ -5,14 +5,14 @@ use mathlib.Core.Bool.{Bool, not, _||_, cond}
 use mathlib.Core.List.{List}
 use lib.ListN.{length}
 use lib.IntN.{pos}
-use lib.Dec.{eqb, ltb}
-use lib.Ieee.{Float, binary32, ofBits, neg, ofInt, add, sub, mul, div}
+use lib.Dec.{eqb}
+use lib.Ieee.{Float, binary32, ofBits, ofInt, add, sub, mul, div}
 use lib.Ieee.Scale.{finite}
 use Rattle.answers.specs.Outcome.{Outcome, gives, refused, refusedAt, answerOf, outsideOf}
 use Rattle.lists.specs.Loops.{turns}
 use Rattle.grid.specs.Sides.{badSides}
 use Rattle.grid.specs.Heights.{firstNotFinite, allFinite}
-use Rattle.generators.specs.Marks.{reportOf}
+use Rattle.generators.specs.Marks.{reportOf, badReport}
 use Rattle.generators.specs.declared.Progress.{Progress}
 use Rattle.talus.specs.Talus.{thresholdsOf, slideRow}
 use Rattle.thermal_erosion.specs.declared.ThermalParams.{ThermalParams}
@@ -53,12 +53,9 @@ pub record Ready (w h map copy asked : ℕ) : Type 0 where
 abbrev pub passOf : ℕ → ℕ → ThermalParams → List Float → Float → Float → ℕ → Progress → Pass
 passOf w h p hs from to stop m = rowsOf w h (thresholdsOf (p .threshold)) (p .strength) (p .«water_level») hs from to stop h m
 
--- refusal 4 of what a pass reports: ends of p 0 to 1, last -1 to 1, asked at most 2^31
+-- refusal 4 of what a pass reports: ends of p 0 to 1, last -1 to 1, asked at most 2^31; but for the first end these are the ranges of a report
 abbrev pub badMarks : Float → Float → Progress → Bool
-badMarks from to m =
-    let zero = ofBits binary32 0 in
-    let one = ofBits binary32 0x3f80_0000 in
-    outsideOf from zero one || (outsideOf to zero one || (outsideOf (m .last) (neg one) one || ltb (2 ^ 31) (m .asked)))
+badMarks from to m = outsideOf from (ofBits binary32 0) (ofBits binary32 0x3f80_0000) || badReport m to
 
 -- refusal 4: threshold 0 to 16, strength 0 to 1, water level finite, and what the pass reports
 abbrev pub badPass : ThermalParams → Float → Float → Progress → Bool

@@ -5,6 +5,7 @@ use answers::outside;
 use floats::is_finite;
 use generators::Progress;
 use generators::ask;
+use generators::bad_report;
 use grid::Sides;
 use grid::all_finite;
 use grid::bad_sides;
@@ -77,13 +78,7 @@ fn bad_marks(from: f32, to: f32, m: Progress) -> bool
     if outside(from, 0.0, 1.0) {
         return true;
     }
-    if outside(to, 0.0, 1.0) {
-        return true;
-    }
-    if outside(m.last, -1.0, 1.0) {
-        return true;
-    }
-    m.asked > 0x8000_0000
+    bad_report(m, to)
 }
 
 // Refusal 4: a setting outside its range.

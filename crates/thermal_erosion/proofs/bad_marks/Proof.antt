@@ -9,29 +9,12 @@ outside-requires c κs = search needs
 returns : tie.Need-returns
 returns c = rw (sym (c .before .outside .ensures) ∙ c .if1 .taken)
 
-outside-requires-2 : tie.Need-outside-requires-2
-outside-requires-2 c κs = search needs
+bad-report-requires : tie.Need-bad-report-requires
+bad-report-requires c κs = search needs
 
 returns-2 : tie.Need-returns-2
-returns-2 c = rw (sym (c .before .before .before .outside .ensures) ∙ c .before .before .if1 .left, sym (c .before .outside2 .ensures) ∙ c .if2 .taken)
-
-outside-requires-3 : tie.Need-outside-requires-3
-outside-requires-3 c κs = search needs
-
-returns-3 : tie.Need-returns-3
-returns-3 c = rw (sym (c .before .before .before .before .before .outside .ensures) ∙ c .before .before .before .before .if1 .left, sym (c .before .before .before .outside2 .ensures) ∙ c .before .before .if2 .left, sym (c .before .outside3 .ensures) ∙ c .if3 .taken)
-
-returns-4 : tie.Need-returns-4
-returns-4 c = rw (sym (c .before .before .before .before .before .before .outside .ensures) ∙ c .before .before .before .before .before .if1 .left, sym (c .before .before .before .before .outside2 .ensures) ∙ c .before .before .before .if2 .left, sym (c .before .before .outside3 .ensures) ∙ c .before .if3 .left)
+returns-2 c = rw (sym (c .before .before .outside .ensures) ∙ c .before .if1 .left) (c .bad-report .ensures)
 
 pub bad-marks-spec : {M : Type 1} → statement M
 bad-marks-spec =
-    tie.close
-    (tie.spec
-    outside-requires
-    returns
-    outside-requires-2
-    returns-2
-    outside-requires-3
-    returns-3
-    returns-4)
+    tie.close (tie.spec outside-requires returns bad-report-requires returns-2)
