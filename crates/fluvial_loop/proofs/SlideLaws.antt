@@ -8,9 +8,10 @@ use native.Mathlib.Numerals.{add-one}
 use native.Mathlib.Omega.{arith}
 use borrow.Author.Tests.{eq-eqb, ne-eqb, eqb-true}
 use lib.ListN.{length}
-use lib.Dec.{T, eqb, le→leb}
+use lib.Dec.{T, eqb}
 use lib.IntN.{pos}
 use lib.Ieee.{Float, binary32, inFloat}
+use Rattle.floats.proofs.WholeLaws.{float-in}
 use Rattle.lists.specs.Loops.{turns}
 use Rattle.lists.proofs.TestLaws.{either}
 use Rattle.lists.proofs.TurnLaws.{turns-none, turns-more, turns-hold, turns-stay, turns-through}
@@ -27,8 +28,7 @@ use Rattle.fluvial_loop.specs.Loops.{passedBy, slidBy, Slides}
 
 -- a count is exact in binary32
 pub count-float : (n : ℕ) → n ≤ 32768 → T (inFloat binary32 (pos n))
-unfolding inFloat
-count-float n h = let l : n ≤ 2 ^ 24 = omega arith in le→leb _ _ l
+count-float n h = float-in n (omega arith)
 
 -- passes of a bounded course
 pub passes-few : (c : Course) → Bounded c → c .passes ≤ 32768
