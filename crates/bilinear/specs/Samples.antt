@@ -8,9 +8,9 @@ use lib.Ieee.{Float, nan, binary32, ofBits, add, sub, mul, lt, le}
 use lib.Ieee.Scale.{finite}
 use Rattle.answers.specs.Outcome.{Outcome, gives, refused, refusedAt}
 use Rattle.floats.specs.Stand.{fractOf, indexOf}
+use Rattle.float_order.specs.Whole.{whole}
 use Rattle.grid.specs.Sides.{badSides}
 use Rattle.grid.specs.Heights.{firstNotFinite, allFinite}
-use Rattle.resample.specs.WorkSize.{float}
 
 -- How a sample past a far edge is taken. `asSource`: it is the north-west one, so the south-east sample is that as soon as either far edge is reached, the
 -- north-east one at the east edge and the south-west one at the south edge.
@@ -39,7 +39,7 @@ bilinearOf kind v w h x y = bilinearAt kind v w h (indexOf w x) (fractOf x) (ind
 
 -- a sample coordinate: from 0 to below its side
 abbrev pub badCoordinate : Float → ℕ → Bool
-badCoordinate x side = not (le (ofBits binary32 0) x && lt x (float side))
+badCoordinate x side = not (le (ofBits binary32 0) x && lt x (whole side))
 
 -- 1: a side; 3: the length; 4: a coordinate; 5: a value not finite; else `then`
 abbrev pub bilinearRefusal : {A : Type 0} → List Float → Float → Float → ℕ → ℕ → (ℕ → A) → (ℕ → ℕ → A) → A → A

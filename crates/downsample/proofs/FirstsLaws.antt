@@ -8,9 +8,10 @@ use lib.ListN.{length, getD, replicate}
 use lib.Arith.{digits-div, digits-mod}
 use lib.Ieee.{Float, binary32, div}
 use borrow.Rule.Slice.PartMut.{putMid}
+use Rattle.float_order.specs.Whole.{whole}
 use Rattle.lists.proofs.TableLaws.{tabulate-same}
 use Rattle.lists.proofs.FillLaws.{Filling}
-use Rattle.resample.specs.WorkSize.{Within, float}
+use Rattle.resample.specs.WorkSize.{Within}
 use Rattle.resample.specs.Places.{Block}
 use Rattle.resample.specs.Blocks.{firstOf, blockSum, averageOf}
 use Rattle.resample.proofs.BlockLaws.{run-of, average-by}
@@ -48,7 +49,7 @@ block-run s r b e low high l = run-of s r b _ _ low high l (first-read s r b (om
 -- the average of a block from the entries
 pub average-read : (src : List Float) (w h dw dh bx by : ℕ) {xs ys : List ℕ} {s : Float} → xs ≡ firstsOf w dw → ys ≡ firstsOf h dh → bx < dw → by < dh
     → s ≡ blockSum src w (getD xs bx 0) (getD xs (bx + 1) 0 - getD xs bx 0) (getD ys by 0) (getD ys (by + 1) 0 - getD ys by 0)
-    → div binary32 s (float ((getD xs (bx + 1) 0 - getD xs bx 0) * (getD ys (by + 1) 0 - getD ys by 0))) ≡ averageOf src w h dw dh bx by
+    → div binary32 s (whole ((getD xs (bx + 1) 0 - getD xs bx 0) * (getD ys (by + 1) 0 - getD ys by 0))) ≡ averageOf src w h dw dh bx by
 average-read src w h dw dh bx by e f l m q =
     average-by src w h dw dh bx by (first-read w dw bx (omega arith) e) (first-read h dh by (omega arith) f) (first-read w dw (bx + 1) (omega arith) e)
     (first-read h dh (by + 1) (omega arith) f) q

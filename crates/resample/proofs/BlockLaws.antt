@@ -7,9 +7,10 @@ use native.Mathlib.Omega.{arith}
 use lib.Dec.{T}
 use lib.IntN.{pos}
 use lib.Ieee.{Float, binary32, div, inFloat}
-use Rattle.resample.specs.WorkSize.{Within, float}
+use Rattle.resample.specs.WorkSize.{Within}
 use Rattle.resample.specs.Places.{Part}
 use Rattle.floats.proofs.WholeLaws.{float-in}
+use Rattle.float_order.specs.Whole.{whole}
 use Rattle.resample.specs.Blocks.{firstOf, countOf, blockSum, averageOf, SourceBlocks}
 
 module _ (s r : ℕ) (low : 1 ≤ r) where
@@ -93,11 +94,11 @@ module _ {w h dw dh : ℕ} (in-grid : Within w h dw dh) (x e y f : ℕ) (across 
 -- the average of block (bx, by) from its first column and row, and those of the next ones
 pub average-by : (src : List Float) (w h dw dh bx by : ℕ) {x y e f : ℕ} {s : Float}
     → x ≡ firstOf w dw bx → y ≡ firstOf h dh by → e ≡ firstOf w dw (bx + 1) → f ≡ firstOf h dh (by + 1) → s ≡ blockSum src w x (e - x) y (f - y)
-    → div binary32 s (float ((e - x) * (f - y))) ≡ averageOf src w h dw dh bx by
+    → div binary32 s (whole ((e - x) * (f - y))) ≡ averageOf src w h dw dh bx by
 unfolding averageOf
 average-by src w h dw dh bx by {x} {y} {e} {f} p q r t u =
     let nx : e - x ≡ countOf w dw bx = ap₂ _-_ r p in
     let ny : f - y ≡ countOf h dh by = ap₂ _-_ t q in
     ap₂ (div binary32)
     (u ∙ ap₂ (λ (i n : ℕ). blockSum src w i n y (f - y)) p nx ∙ ap₂ (λ (j m : ℕ). blockSum src w (firstOf w dw bx) (countOf w dw bx) j m) q ny)
-    (ap₂ (λ (n m : ℕ). float (n * m)) nx ny)
+    (ap₂ (λ (n m : ℕ). whole (n * m)) nx ny)

@@ -13,7 +13,8 @@ use lib.Ieee.Order.{round-mono, drop, kept}
 use lib.Ieee.Back.{round-whole, unsigned-back}
 use borrow.Author.Tests.{leb-false, le-leb, lt-leb}
 use Rattle.floats.specs.Stand.{wholeBy, roundOf}
-use Rattle.resample.specs.WorkSize.{float, scaledSide, workSize, Within, WorkWithin}
+use Rattle.float_order.specs.Whole.{whole}
+use Rattle.resample.specs.WorkSize.{scaledSide, workSize, Within, WorkWithin}
 use Rattle.grid.specs.Sides.{InRange}
 use Rattle.grid.specs.declared.Sides.{Sides}
 use Rattle.grid.proofs.SidesLaws.{good-sides}
@@ -139,8 +140,8 @@ rounded-below (fin false m e) n b N =
 scaled-within : (coef : Float) (side : ℕ) → Below coef 1 → 1 ≤ side → side ≤ 4096 → (1 ≤ scaledSide coef side) × (scaledSide coef side ≤ side)
 unfolding scaledSide ofInt
 scaled-within coef side b low high =
-    let l : toUnsigned 64 (roundOf (mul binary32 (float side) coef)) ≤ side =
-    rounded-below (mul binary32 (float side) coef) side (mul-below (float side) coef side 1 (round-whole binary32 false side (omega arith)) b (omega arith)) (omega arith) in
+    let l : toUnsigned 64 (roundOf (mul binary32 (whole side) coef)) ≤ side =
+    rounded-below (mul binary32 (whole side) coef) side (mul-below (whole side) coef side 1 (round-whole binary32 false side (omega arith)) b (omega arith)) (omega arith) in
     omega arith
 
 pub work-within : WorkWithin
@@ -156,21 +157,21 @@ work-within w h res good = go (leb (max w h) res) (leb-false (max w h) res)
     scaled : (coef : Float) → Below coef 1 → Within w h (scaledSide coef w) (scaledSide coef h)
     scaled coef b = omega (arith, r, scaled-within coef w b (r .columns) (r .wide), scaled-within coef h b (r .rows) (r .high))
 
-    go : (t : Bool) → (t ≡ false → res < max w h) → let coef = div binary32 (float res) (float (max w h)) in
+    go : (t : Bool) → (t ≡ false → res < max w h) → let coef = div binary32 (whole res) (whole (max w h)) in
         let g : Sides = cond t (record { w = w; h = h }) (record { w = scaledSide coef w; h = scaledSide coef h }) in Within w h (g .w) (g .h)
     go true l = same
     go false l =
         let q : res < max w h = l refl in
         let m : max w h ≤ 4096 = omega (arith, r) in
-        scaled (div binary32 (float res) (float (max w h)))
-        (div-below (float res) (float (max w h)) res (max w h) 1 (round-whole binary32 false res (omega arith)) (round-whole binary32 false (max w h) (omega arith)) (omega arith) (lit≤ tt) (omega arith))
+        scaled (div binary32 (whole res) (whole (max w h)))
+        (div-below (whole res) (whole (max w h)) res (max w h) 1 (round-whole binary32 false res (omega arith)) (round-whole binary32 false (max w h) (omega arith)) (omega arith) (lit≤ tt) (omega arith))
 
 -- ---- the two ways of `work_sides`
 pub work-full : (g : Sides) (res l : ℕ) → l ≡ max (g .w) (g .h) → l ≤ res → g ≡ workSize (g .w) (g .h) res
 unfolding workSize
 work-full g res l e h = rw (le-leb (max (g .w) (g .h)) res (omega arith))
 
-pub work-scaled : (w h res l a b : ℕ) → l ≡ max w h → res < l → a ≡ scaledSide (div binary32 (float res) (float l)) w → b ≡ scaledSide (div binary32 (float res) (float l)) h
+pub work-scaled : (w h res l a b : ℕ) → l ≡ max w h → res < l → a ≡ scaledSide (div binary32 (whole res) (whole l)) w → b ≡ scaledSide (div binary32 (whole res) (whole l)) h
     → record { w = a; h = b } ≡ workSize w h res
 unfolding workSize
 work-scaled w h res l a b e r p q = rw (lt-leb (max w h) res (omega arith), ← e, p, q)

@@ -10,11 +10,11 @@ use lib.Dec.{eqb, ltb}
 use lib.Ieee.{Float, nan, binary32, ofBits, add, div}
 use Rattle.answers.specs.Outcome.{Outcome, gives, refused, refusedAt, answerOf}
 use Rattle.answers.specs.declared.Answer.{Answer}
+use Rattle.float_order.specs.Whole.{whole}
 use Rattle.float_order.specs.Fit.{Fit}
 use Rattle.lists.specs.Loops.{tabulate}
 use Rattle.grid.specs.Sides.{badSides}
 use Rattle.grid.specs.Heights.{firstNotFinite, allFinite}
-use Rattle.resample.specs.WorkSize.{float}
 
 -- the block of column (or row) x: x × reduced / side
 abbrev pub blockOf : ℕ → ℕ → ℕ → ℕ
@@ -52,7 +52,7 @@ unfoldable pub averageOf : List Float → ℕ → ℕ → ℕ → ℕ → ℕ �
 unfolding blockSum
 averageOf src w h dw dh bx by =
     div binary32 (blockSum src w (firstOf w dw bx) (countOf w dw bx) (firstOf h dh by) (countOf h dh by))
-    (float (countOf w dw bx * countOf h dh by))
+    (whole (countOf w dw bx * countOf h dh by))
 
 unfoldable pub downsampled : List Float → ℕ → ℕ → ℕ → ℕ → List Float
 unfolding averageOf tabulate

@@ -2,27 +2,23 @@
 use Prim.Native.Nat.{ℕ, max, _≤_}
 use mathlib.Core.Path.{_≡_}
 use mathlib.Core.Bool.{false, cond}
-use lib.IntN.{pos}
 use lib.Dec.{leb}
-use lib.Ieee.{Float, binary32, ofInt, mul, div, toUnsigned}
+use lib.Ieee.{Float, binary32, mul, div, toUnsigned}
 use Rattle.answers.specs.Outcome.{Outcome, gives, refused, refusalOf}
 use Rattle.floats.specs.Stand.{roundOf}
+use Rattle.float_order.specs.Whole.{whole}
 use Rattle.grid.specs.Sides.{badSides}
 use Rattle.grid.specs.declared.Sides.{Sides}
 use Rattle.resample.specs.declared.Work.{Work}
 
--- a whole number as a float; every number below 2^24 is exact
-abbrev pub float : ℕ → Float
-float n = ofInt binary32 (pos n)
-
 -- one side: (side × coef).round(), at least 1
 unfoldable pub scaledSide : Float → ℕ → ℕ
-scaledSide coef side = max (toUnsigned 64 (roundOf (mul binary32 (float side) coef))) 1
+scaledSide coef side = max (toUnsigned 64 (roundOf (mul binary32 (whole side) coef))) 1
 
 unfoldable pub workSize : ℕ → ℕ → ℕ → Sides
 unfolding scaledSide
 workSize w h res =
-    let coef = div binary32 (float res) (float (max w h)) in
+    let coef = div binary32 (whole res) (whole (max w h)) in
     cond (leb (max w h) res) (record { w = w; h = h }) (record { w = scaledSide coef w; h = scaledSide coef h })
 
 abbrev pub workOf : Work → Outcome Sides

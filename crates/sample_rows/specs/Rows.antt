@@ -5,8 +5,8 @@ use mathlib.Core.List.{List, _++_}
 use lib.ListN.{length, getD, drop, replicate}
 use lib.Ieee.{Float, nan, binary32, ofBits, add, sub, mul, div}
 use Rattle.floats.specs.Stand.{maxOf, fractOf, indexOf}
+use Rattle.float_order.specs.Whole.{whole}
 use Rattle.lists.specs.Loops.{tabulate}
-use Rattle.resample.specs.WorkSize.{float}
 use Rattle.bilinear.specs.Samples.{asSource, acrossOf}
 
 -- column (or row) x of a side, or the end past the last one, and a reduced side, each at most 4,096
@@ -18,8 +18,8 @@ pub record Sampled (side reduced x : ℕ) : Type 0 where
 -- where the centre of column (or row) x lies on the reduced side: max((x + 0.5) × coef - 0.5, 0), where coef is reduced / side
 abbrev pub centreOf : ℕ → ℕ → ℕ → Float
 centreOf side reduced x =
-    let coef = div binary32 (float reduced) (float side) in
-    maxOf (sub binary32 (mul binary32 (add binary32 (float x) (ofBits binary32 0x3f00_0000)) coef) (ofBits binary32 0x3f00_0000)) (ofBits binary32 0)
+    let coef = div binary32 (whole reduced) (whole side) in
+    maxOf (sub binary32 (mul binary32 (add binary32 (whole x) (ofBits binary32 0x3f00_0000)) coef) (ofBits binary32 0x3f00_0000)) (ofBits binary32 0)
 
 -- the reduced column (or row) that the centre of column x lies in, and how much of the way to the next lies before it
 abbrev pub columnOf : ℕ → ℕ → ℕ → ℕ
