@@ -1,7 +1,7 @@
 -- The four samples around a cell lie within the grid, and are small enough to be worked out.
 use Prim.Native.Nat.{ℕ, _+_, _-_, _*_, _^_, _≤_, _<_}
-use mathlib.Core.Path.{_≡_, refl, ap₂, _∙_}
-use mathlib.Core.Bool.{Bool, true, false, not, cond, _&&_}
+use mathlib.Core.Path.{_≡_, ap₂, _∙_}
+use mathlib.Core.Bool.{false, not, _&&_}
 use mathlib.Core.List.{List}
 use native.Mathlib.Nat.{mul-comm, mul-le-mul-right}
 use native.Mathlib.Omega.{arith}
@@ -10,6 +10,7 @@ use lib.Dec.{eqb, ltb}
 use lib.Ieee.{Float, nan}
 use borrow.Author.Tests.{ltb-true, eqb-true, not-false}
 use Rattle.floats.specs.Stand.{fractOf, indexOf}
+use Rattle.lists.proofs.TestLaws.{both, by-test}
 use Rattle.grid.specs.Sides.{badSides}
 use Rattle.grid.specs.Directions.{Place}
 use Rattle.grid.proofs.SidesLaws.{cells-bound, good-sides}
@@ -24,12 +25,10 @@ pub place-fits : {w h x y : ℕ} → Place w h x y → (y * w + w ≤ w * h) × 
 place-fits {w} {h} {x} {y} p = (row-end w h y (p .row), cells-bound w h (p .wide) (p .high))
 
 pub corner-in : {w h x y : ℕ} → Place w h x y → (east south : ℕ) → cornerOf asSource w h x y east south < w * h
-corner-in {w} {h} {x} {y} p east south = go (ltb (x + east) w) (ltb (y + south) h) (ltb-true (x + east) w) (ltb-true (y + south) h)
-  where
-    go : (a b : Bool) → (a ≡ true → x + east < w) → (b ≡ true → y + south < h) → cond (a && b) (x + east + (y + south) * w) (x + y * w) < w * h
-    go true true l m = omega (arith, l refl, row-end w h (y + south) (m refl))
-    go true false l m = omega (arith, p .column, place-fits p)
-    go false b l m = omega (arith, p .column, place-fits p)
+corner-in {w} {h} {x} {y} p east south =
+    by-test (λ (c : ℕ). c < w * h) (ltb (x + east) w && ltb (y + south) h) _ _
+    (λ e. let s = both (ltb (x + east) w) (ltb (y + south) h) e in omega (arith, ltb-true (x + east) w (s .0), row-end w h (y + south) (ltb-true (y + south) h (s .1))))
+    (λ e. omega (arith, p .column, place-fits p))
 
 -- the sample from its corners
 module _ (v : List Float) (w h x y : ℕ) (dx : Float) where
