@@ -3,8 +3,8 @@ use Prim.Native.Nat.{ℕ}
 use mathlib.Core.Path.{_≡_}
 use mathlib.Core.List.{List, [], _∷_, map}
 use lib.ListN.{getD, replicate}
-use lib.IntN.{pos}
-use lib.Ieee.{Float, nan, binary32, ofBits, ofInt}
+use lib.Ieee.{Float, nan, binary32, ofBits}
+use Rattle.float_order.specs.Whole.{whole}
 use Rattle.answers.specs.Outcome.{Outcome, gives, refused, refusedAt}
 use Rattle.generators.specs.Marks.{fresh}
 use Rattle.flow.specs.Route.{lentOf, routeAnswer, orderOf, floodOf, receiversOf, areasOf}
@@ -30,11 +30,8 @@ AllHold [] = Unit
 AllHold (p ∷ ps) = Holds p × AllHold ps
 
 -- the numbers of the table: whole ones, and those with a fraction by their bits
-abbrev pub float : ℕ → Float
-float n = ofInt binary32 (pos n)
-
 abbrev pub floats : List ℕ → List Float
-floats = map float
+floats = map whole
 
 abbrev pub ¼ : Float
 ¼ = ofBits binary32 0x3e80_0000
@@ -64,21 +61,21 @@ abbrev pub routed : List ℕ → ℕ → (Outcome (Unit {0}) × List ℕ) × ℕ
 routed heights cell =
     let hs : List Float = floats heights in
     let zeros : List ℕ = replicate 9 0 in (
-      (routeAnswer 3 3 hs (float 0) (lentOf hs zeros zeros (lent 9) (lent 9) zeros zeros), orderOf 3 3 hs (float 0)),
-      getD (receiversOf 3 3 hs (float 0)) cell 0,
+      (routeAnswer 3 3 hs (whole 0) (lentOf hs zeros zeros (lent 9) (lent 9) zeros zeros), orderOf 3 3 hs (whole 0)),
+      getD (receiversOf 3 3 hs (whole 0)) cell 0,
     )
 
 -- and with the cell's spill height and another cell's area
 abbrev pub drained : List ℕ → ℕ → ℕ → ((Outcome (Unit {0}) × List ℕ) × ℕ) × (Float × Float)
 drained heights cell other =
     let hs : List Float = floats heights in
-    (routed heights cell, (getD (floodOf 3 3 hs (float 0) .spill) cell nan, getD (areasOf 3 3 hs (float 0)) other nan))
+    (routed heights cell, (getD (floodOf 3 3 hs (whole 0) .spill) cell nan, getD (areasOf 3 3 hs (whole 0)) other nan))
 
 -- 1 × 1: a height, water 0, k 1, an uplift
 abbrev pub incise : ℕ → Float → Left
 incise height uplift =
     let hs : List Float = floats (height ∷ []) in
-    let p : FluvialParams = record { k = float 1; uplift = uplift; «water_level» = float 0 } in
+    let p : FluvialParams = record { k = whole 1; uplift = uplift; «water_level» = whole 0 } in
     let own : List ℕ = 0 ∷ [] in
     (inciseAnswer 1 1 hs p own own 1 1, inciseRefusal 1 1 hs p own own 1 1 (λ _. lent 1) (λ _ _. lent 1) (incised 1 1 hs p own own))
 
@@ -86,9 +83,9 @@ incise height uplift =
 abbrev pub slide : Float → ℕ → Left
 slide threshold water =
     let hs : List Float = floats (1 ∷ 0 ∷ []) in
-    let p : ThermalParams = record { threshold = threshold; strength = ½; «water_level» = float water } in (
-      slideRefusal 2 1 hs 2 p (float 0) (float 1) fresh refused refusedAt (passAnswer (passOf 2 1 p hs (float 0) (float 1) 0 fresh)),
-      slideRefusal 2 1 hs 2 p (float 0) (float 1) fresh (λ _. lent 2) (λ _ _. lent 2) (passOf 2 1 p hs (float 0) (float 1) 0 fresh .out),
+    let p : ThermalParams = record { threshold = threshold; strength = ½; «water_level» = whole water } in (
+      slideRefusal 2 1 hs 2 p (whole 0) (whole 1) fresh refused refusedAt (passAnswer (passOf 2 1 p hs (whole 0) (whole 1) 0 fresh)),
+      slideRefusal 2 1 hs 2 p (whole 0) (whole 1) fresh (λ _. lent 2) (λ _ _. lent 2) (passOf 2 1 p hs (whole 0) (whole 1) 0 fresh .out),
     )
 
 -- 1 3 5 (3 × 1) to 2 × 1
@@ -105,14 +102,14 @@ add =
 -- the table, line by line
 abbrev pub plates : List Plate
 plates =
-    (drained (5 ∷ 5 ∷ 5 ∷ 5 ∷ 1 ∷ 4 ∷ 5 ∷ 5 ∷ 5 ∷ []) 4 5 ⇒ (((gives tt, 5 ∷ 4 ∷ 0 ∷ 1 ∷ 2 ∷ 3 ∷ 6 ∷ 7 ∷ 8 ∷ []), 5), (float 4, float 2)))
+    (drained (5 ∷ 5 ∷ 5 ∷ 5 ∷ 1 ∷ 4 ∷ 5 ∷ 5 ∷ 5 ∷ []) 4 5 ⇒ (((gives tt, 5 ∷ 4 ∷ 0 ∷ 1 ∷ 2 ∷ 3 ∷ 6 ∷ 7 ∷ 8 ∷ []), 5), (whole 4, whole 2)))
     ∷ (routed (3 ∷ 4 ∷ 9 ∷ 9 ∷ 10 ∷ 9 ∷ 9 ∷ 9 ∷ 9 ∷ []) 4 ⇒ ((gives tt, 0 ∷ 1 ∷ 2 ∷ 3 ∷ 5 ∷ 6 ∷ 7 ∷ 8 ∷ 4 ∷ []), 1))
-    ∷ (incise 1 (float 0) ⇒ (gives tt, ½ ∷ []))
+    ∷ (incise 1 (whole 0) ⇒ (gives tt, ½ ∷ []))
     ∷ (incise 1 ½ ⇒ (gives tt, ¾ ∷ []))
-    ∷ (incise 0 (float 0) ⇒ (gives tt, float 0 ∷ []))
+    ∷ (incise 0 (whole 0) ⇒ (gives tt, whole 0 ∷ []))
     ∷ (slide ½ 1 ⇒ (gives tt, ¾ ∷ ¼ ∷ []))
-    ∷ (slide (float 1) 1 ⇒ (gives tt, float 1 ∷ float 0 ∷ []))
-    ∷ (slide ½ 2 ⇒ (gives tt, float 1 ∷ float 0 ∷ []))
+    ∷ (slide (whole 1) 1 ⇒ (gives tt, whole 1 ∷ whole 0 ∷ []))
+    ∷ (slide ½ 2 ⇒ (gives tt, whole 1 ∷ whole 0 ∷ []))
     ∷ (workAnswer 4 3 2 ⇒ gives (record { w = 2; h = 2 }))
     ∷ (workAnswer 513 513 512 ⇒ gives (record { w = 512; h = 512 }))
     ∷ (downsample ⇒ (gives tt, floats (2 ∷ 5 ∷ [])))

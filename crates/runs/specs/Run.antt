@@ -4,9 +4,9 @@ use Prim.Native.Nat.{ℕ, _+_}
 use mathlib.Core.Bool.{true, false, _&&_, cond}
 use mathlib.Core.List.{List}
 use lib.ListN.{getD, length}
-use lib.IntN.{pos}
 use lib.Dec.{eqb}
-use lib.Ieee.{Float, nan, binary32, ofBits, ofInt, add, sub, mul, div}
+use lib.Ieee.{Float, nan, binary32, ofBits, add, sub, mul, div}
+use Rattle.float_order.specs.Whole.{whole}
 use Rattle.lists.specs.Loops.{tabulate}
 use Rattle.grid.specs.Heights.{allFinite}
 use Rattle.drainage.specs.Ground.{Ground, floats, gridGround}
@@ -22,9 +22,6 @@ use Rattle.runs.specs.Plan.{Plan, fluvialPlan, thermalPasses, thermalPar
 use Rattle.runs.specs.Machine.{Course, State, finished}
 use Rattle.runs.specs.declared.FluvialSettings.{FluvialSettings}
 use Rattle.runs.specs.declared.ThermalSettings.{ThermalSettings}
-
-abbrev float : ℕ → Float
-float n = ofInt binary32 (pos n)
 
 -- which list an iteration goes along, by its number and the order that its routing gave
 abbrev pub Choice : Type 0
@@ -55,8 +52,8 @@ abbrev pub fluvialBegins : ℕ → ℕ → ℕ → ℕ → Float
 fluvialBegins iterations passes it pass =
     let half = ofBits binary32 0x3f00_0000 in
     div binary32
-    (add binary32 (add binary32 (float it) half) (div binary32 (mul binary32 half (float pass)) (float passes)))
-    (float iterations)
+    (add binary32 (add binary32 (whole it) half) (div binary32 (mul binary32 half (whole pass)) (whole passes)))
+    (whole iterations)
 
 abbrev pub fluvialCourse : (List Float → Ground) → ℕ → ℕ → Plan → ℕ → Choice → Course
 fluvialCourse ground w h plan stop choose =
@@ -67,7 +64,7 @@ fluvialCourse ground w h plan stop choose =
       passes = plan .passes;
       cutting = true;
       incision = incisionBy ground (plan .cuts) choose;
-      opening = λ it. div binary32 (float it) (float (plan .iterations));
+      opening = λ it. div binary32 (whole it) (whole (plan .iterations));
       begins = fluvialBegins (plan .iterations) (plan .passes);
       thresholds = thresholdsOf (plan .slides .threshold);
       strength = plan .slides .strength;
@@ -87,7 +84,7 @@ thermalCourse w h s stop =
       cutting = false;
       incision = λ it hs. hs;
       opening = λ it. ofBits binary32 0;
-      begins = λ it pass. div binary32 (float (it + pass)) (float n);
+      begins = λ it pass. div binary32 (whole (it + pass)) (whole n);
       thresholds = thresholdsOf (thermalParams w h s .threshold);
       strength = s .strength;
       water = s .«water_level»;
