@@ -1,9 +1,10 @@
 // What document 01 puts in the place of Rust's float methods, each on every f32 and each equal to its definition in
 // specs/Stand.antt; the bits of a float; and `height_key`, by which heights leave the queue (specs/Key.antt).
 ghost use mathlib.Core.Path.{_≡_};
-ghost use Prim.Native.Nat.{max as greatest};
+ghost use Prim.Native.Nat.{_^_, _≤_, max as greatest};
 ghost use lib.Dec.{T};
-ghost use lib.Ieee.{binary32, ofBits, toBits, toUnsigned};
+ghost use lib.IntN.{pos};
+ghost use lib.Ieee.{binary32, div, ofBits, toBits, ofInt, toUnsigned};
 ghost use lib.Ieee.Scale.{finite};
 ghost use lib.Ieee.Positive.{above};
 ghost use Rattle.floats.specs.Stand.{maxOf, wholeBy, ruleOf, truncOf, roundOf, ceilOf, fractOf, indexOf};
@@ -45,6 +46,15 @@ pub fn to_count(x: f32) -> usize
 {
     let n = to_u64(x) as usize;
     if n <= 1 { 1 } else { n }
+}
+
+// a / b, of numbers that are floats.
+pub fn ratio(a: usize, b: usize) -> f32
+    requires { ⌜ a ≤ 2 ^ 24 ⌝ }
+    requires { ⌜ b ≤ 2 ^ 24 ⌝ }
+    ensures { λ r. ⌜ r ≡ div binary32 (ofInt binary32 (pos a)) (ofInt binary32 (pos b)) ⌝ }
+{
+    a as f32 / b as f32
 }
 
 // x as an index of a side, held inside it.

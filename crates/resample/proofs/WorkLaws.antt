@@ -171,7 +171,7 @@ pub work-full : (g : Sides) (res l : ℕ) → l ≡ max (g .w) (g .h) → l ≤ 
 unfolding workSize
 work-full g res l e h = rw (le-leb (max (g .w) (g .h)) res (omega arith))
 
-pub work-scaled : (w h res l a b : ℕ) → l ≡ max w h → res < l → a ≡ scaledSide (div binary32 (whole res) (whole l)) w → b ≡ scaledSide (div binary32 (whole res) (whole l)) h
+pub work-scaled : (w h res l a b : ℕ) {coef : Float} → l ≡ max w h → res < l → coef ≡ div binary32 (whole res) (whole l) → a ≡ scaledSide coef w → b ≡ scaledSide coef h
     → record { w = a; h = b } ≡ workSize w h res
 unfolding workSize
-work-scaled w h res l a b e r p q = rw (lt-leb (max w h) res (omega arith), ← e, p, q)
+work-scaled w h res l a b e r k p q = rw (lt-leb (max w h) res (omega arith), ← e, ← k, p, q)

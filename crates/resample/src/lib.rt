@@ -2,6 +2,7 @@
 // in `bilinear` and `upsample`.
 use answers::Answer;
 use answers::Refusal;
+use floats::ratio;
 use floats::round;
 use floats::to_count;
 use grid::Sides;
@@ -40,7 +41,7 @@ pub fn work_sides(size: Sides, max_res: u32) -> Sides
     if side <= res {
         return size;
     }
-    let coef = res as f32 / side as f32;
+    let coef = ratio(res, side);
     Sides {
         w: scaled_side(size.w, coef),
         h: scaled_side(size.h, coef),

@@ -15,6 +15,7 @@ use Rattle.drainage.specs.Receivers.{receivers}
 use Rattle.fluvial_erosion.specs.Incision.{incisedBy}
 use Rattle.fluvial_erosion.specs.declared.FluvialParams.{FluvialParams}
 use Rattle.talus.specs.Talus.{thresholdsOf}
+use Rattle.thermal_erosion.specs.declared.ThermalParams.{ThermalParams}
 use Rattle.resample.specs.WorkSize.{workSize}
 use Rattle.resample.specs.Blocks.{downsampled}
 use Rattle.upsample.specs.Samples.{FarEdge, asSource, addedOf}
@@ -72,24 +73,27 @@ fluvialCourse ground w h plan stop choose =
       stop = stop;
     }
 
--- a thermal run: each iteration is one pass, and nothing opens it
-abbrev pub thermalCourse : ℕ → ℕ → ThermalSettings → ℕ → Course
-thermalCourse w h s stop =
-    let n = thermalPasses w h s in
+-- so many passes by their parameters: each iteration is one pass, and nothing opens it
+abbrev pub slideCourse : ℕ → ℕ → ThermalParams → ℕ → ℕ → Course
+slideCourse w h params passes stop =
     record {
       w = w;
       h = h;
-      iterations = n;
+      iterations = passes;
       passes = 1;
       cutting = false;
       incision = λ it hs. hs;
       opening = λ it. ofBits binary32 0;
-      begins = λ it pass. div binary32 (whole (it + pass)) (whole n);
-      thresholds = thresholdsOf (thermalParams w h s .threshold);
-      strength = s .strength;
-      water = s .«water_level»;
+      begins = λ it pass. div binary32 (whole (it + pass)) (whole passes);
+      thresholds = thresholdsOf (params .threshold);
+      strength = params .strength;
+      water = params .«water_level»;
       stop = stop;
     }
+
+-- a thermal run
+abbrev pub thermalCourse : ℕ → ℕ → ThermalSettings → ℕ → Course
+thermalCourse w h s stop = slideCourse w h (thermalParams w h s) (thermalPasses w h s) stop
 
 -- What a whole run ends with: 0 or the number that ended it, the counts, and the map.
 pub record Ran : Type 0 where

@@ -4,6 +4,7 @@ use bilinear::across;
 use floats::fract;
 use floats::index;
 use floats::max;
+use floats::ratio;
 use grid::Sides;
 ghost use mathlib.Core.Path.{_≡_};
 ghost use Prim.Native.Nat.{_<_, _≤_};
@@ -16,7 +17,7 @@ fn centre(side: usize, reduced: usize, x: usize) -> f32
     requires { ⌜ Sampled side reduced x ⌝ }
     ensures { λ r. ⌜ r ≡ centreOf side reduced x ⌝ }
 {
-    let coef = reduced as f32 / side as f32;
+    let coef = ratio(reduced, side);
     max((x as f32 + 0.5) * coef - 0.5, 0.0)
 }
 

@@ -15,7 +15,7 @@ use Rattle.resample.specs.WorkSize.{Within, workSize}
 use Rattle.thermal_erosion.specs.declared.ThermalParams.{ThermalParams}
 use Rattle.upsample.specs.Samples.{asSource}
 use Rattle.runs.specs.Plan.{thermalPasses, thermalParams}
-use Rattle.runs.specs.Run.{Ran, thermalCourse, runOn, thermalRun}
+use Rattle.runs.specs.Run.{Ran, slideCourse, thermalCourse, runOn, thermalRun}
 use Rattle.runs.specs.Refusals.{badThermal}
 use Rattle.runs.specs.declared.ThermalSettings.{ThermalSettings}
 use Rattle.runs.proofs.PlanLaws.{Counted, thermal-passes}
@@ -28,7 +28,7 @@ use Rattle.erosion.specs.declared.Reached.{Reached}
 use Rattle.erosion.specs.declared.RunAnswer.{RunAnswer}
 use Rattle.erosion.proofs.EndingLaws.{done-accepts, accepts-all, ending-refused, ending-ran}
 use Rattle.erosion.proofs.WholeLaws.{wholeRun, whole-run, run-numbered}
-use Rattle.thermal_run.specs.ThermalRun.{inputRefusal, slideCourse, ThermalRun, Slides, Reduces, Erodes}
+use Rattle.thermal_run.specs.ThermalRun.{inputRefusal, ThermalRun, Slides, Reduces, Erodes}
 
 module _ {w h dw dh : ℕ} (n : Within w h dw dh) where
   module _ (params : ThermalParams) (passes stop : ℕ) (map : List Float) where

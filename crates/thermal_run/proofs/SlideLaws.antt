@@ -4,18 +4,20 @@ use mathlib.Core.Path.{_≡_, refl, sym, ap, ap₂, _∙_}
 use mathlib.Core.List.{List}
 use native.Mathlib.Omega.{arith}
 use lib.ListN.{length}
-use lib.Ieee.{Float}
+use lib.Ieee.{Float, binary32, div}
+use Rattle.float_order.specs.Whole.{whole}
 use Rattle.thermal_erosion.specs.SlidePass.{rowsOf}
 use Rattle.thermal_erosion.specs.declared.ThermalParams.{ThermalParams}
 use Rattle.talus.specs.Talus.{thresholdsOf}
 use Rattle.runs.specs.Machine.{Course}
+use Rattle.runs.specs.Run.{slideCourse}
 use Rattle.runs.specs.Nested.{iterated, nested, Bounded}
 use Rattle.runs.proofs.AskedLaws.{steps-thermal}
 use Rattle.erosion.specs.Reached.{Worked, seen, begun, afterPass, PassReady}
 use Rattle.erosion.specs.declared.Reached.{Reached}
 use Rattle.erosion.proofs.ReachedLaws.{worked, rowsBy}
 use Rattle.erosion.proofs.LoopLaws.{going-none, going-ended, Sliding, sliding-first, sliding-pass, sliding-done, sliding-ready}
-use Rattle.thermal_run.specs.ThermalRun.{passFraction, slideCourse, Slides}
+use Rattle.thermal_run.specs.ThermalRun.{Slides}
 
 -- before pass `it`, or once the run has ended
 pub record Passing (c : Course) (hs : List Float) (copied it : ℕ) (map copy : List Float) (r : Reached) : Type 0 where
@@ -70,8 +72,8 @@ module _ (w h : ℕ) (params : ThermalParams) (passes stop : ℕ) (hs : List Flo
       -- one pass more, between its fractions
       pub passing-more : {ts : List Float} (from to : Float) (x : Worked) (copy′ : List Float)
           → ts ≡ thresholdsOf (params .threshold)
-          → from ≡ passFraction it passes
-          → to ≡ passFraction (it + 1) passes
+          → from ≡ div binary32 (whole it) (whole passes)
+          → to ≡ div binary32 (whole (it + 1)) (whole passes)
           → x ≡ passOn ts from to
           → it < passes
           → length (x .heights) ≡ length map
@@ -82,7 +84,7 @@ module _ (w h : ℕ) (params : ThermalParams) (passes stop : ℕ) (hs : List Flo
           let b : it + 1 ≡ it + suc 0 = omega arith in
           let made : x ≡ afterPass map r (rowsBy course it 0 map (r .marks)) =
           e ∙ ap (λ (ts : List Float). passOn ts from to) t
-          ∙ ap₂ (passOn (course .thresholds)) (f ∙ ap (λ (n : ℕ). passFraction n passes) a) (g ∙ ap (λ (n : ℕ). passFraction n passes) b) in
+          ∙ ap₂ (passOn (course .thresholds)) (f ∙ ap (λ (n : ℕ). div binary32 (whole n) (whole passes)) a) (g ∙ ap (λ (n : ℕ). div binary32 (whole n) (whole passes)) b) in
           record {
             held = sliding-done course hs it (0 + 1) (sliding-pass course hs it 0 (omega arith) sliding made) refl;
             most = omega arith;

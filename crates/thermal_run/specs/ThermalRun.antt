@@ -4,14 +4,10 @@ use mathlib.Core.Path.{_≡_}
 use mathlib.Core.Bool.{false}
 use mathlib.Core.List.{List}
 use lib.ListN.{length}
-use lib.IntN.{pos}
-use lib.Ieee.{Float, binary32, ofBits, ofInt, div}
+use lib.Ieee.{Float}
 use Rattle.answers.specs.Outcome.{Outcome}
 use Rattle.grid.specs.Sides.{InRange}
 use Rattle.resample.specs.WorkSize.{Within}
-use Rattle.talus.specs.Talus.{thresholdsOf}
-use Rattle.thermal_erosion.specs.declared.ThermalParams.{ThermalParams}
-use Rattle.runs.specs.Machine.{Course}
 use Rattle.runs.specs.Run.{thermalRun}
 use Rattle.runs.specs.Refusals.{badThermal}
 use Rattle.runs.specs.declared.ThermalSettings.{ThermalSettings}
@@ -29,28 +25,6 @@ pub record ThermalRun (w h : ℕ) (conf : ThermalSettings) (stop : ℕ) (map sma
   pub small-kept : accepted (inputRefusal w h conf map (length small) (length eroded) (length copy)) ≡ false → small′ ≡ small
   pub eroded-kept : accepted (inputRefusal w h conf map (length small) (length eroded) (length copy)) ≡ false → eroded′ ≡ eroded
   pub copy-kept : accepted (inputRefusal w h conf map (length small) (length eroded) (length copy)) ≡ false → copy′ ≡ copy
-
--- the fraction p at which a pass begins
-abbrev pub passFraction : ℕ → ℕ → Float
-passFraction pass passes = div binary32 (ofInt binary32 (pos pass)) (ofInt binary32 (pos passes))
-
--- the course of so many passes by a plan's parameters
-abbrev pub slideCourse : ℕ → ℕ → ThermalParams → ℕ → ℕ → Course
-slideCourse w h params passes stop =
-    record {
-      w = w;
-      h = h;
-      iterations = passes;
-      passes = 1;
-      cutting = false;
-      incision = λ it hs. hs;
-      opening = λ it. ofBits binary32 0;
-      begins = λ it pass. passFraction (it + pass) passes;
-      thresholds = thresholdsOf (params .threshold);
-      strength = params .strength;
-      water = params .«water_level»;
-      stop = stop;
-    }
 
 -- what the passes ask of their grid, their number and the lengths of the map and its copy
 pub record Slides (w h passes map copy : ℕ) : Type 0 where

@@ -10,6 +10,7 @@ use erosion::on_map;
 use erosion::reduce;
 use erosion::refused;
 use erosion::run_pass;
+use floats::ratio;
 use generators::fresh;
 use grid::Sides;
 use grid::least;
@@ -23,23 +24,13 @@ use talus::thresholds;
 use thermal_erosion::ThermalParams;
 ghost use mathlib.Core.Path.{_≡_};
 ghost use mathlib.Core.Bool.{false, _&&_};
-ghost use Prim.Native.Nat.{_≤_};
 ghost use lib.Dec.{eqb};
 ghost use lib.ListN.{length};
 ghost use Rattle.upsample.specs.Samples.{asSource};
-ghost use Rattle.runs.specs.Run.{runOn};
+ghost use Rattle.runs.specs.Run.{slideCourse, runOn};
 ghost use Rattle.runs.specs.Nested.{nested};
 ghost use Rattle.erosion.specs.Reached.{Worked, seen, ranBy};
-ghost use Rattle.thermal_run.specs.ThermalRun.{passFraction, slideCourse, Slides, Reduces, Erodes, ThermalRun};
-
-// The fraction of the run's passes that are done before a pass.
-fn fraction(pass: usize, passes: usize) -> f32
-    requires { ⌜ pass ≤ 32768 ⌝ }
-    requires { ⌜ passes ≤ 32768 ⌝ }
-    ensures { λ r. ⌜ r ≡ passFraction pass passes ⌝ }
-{
-    pass as f32 / passes as f32
-}
+ghost use Rattle.thermal_run.specs.ThermalRun.{Slides, Reduces, Erodes, ThermalRun};
 
 // Runs every pass on the working grid, until 21 or 22 ends the run.
 fn slide_passes(
@@ -60,8 +51,8 @@ fn slide_passes(
         if r.number != 0 {
             return r;
         }
-        let from = fraction(pass, passes);
-        let to = fraction(pass + 1, passes);
+        let from = ratio(pass, passes);
+        let to = ratio(pass + 1, passes);
         r = run_pass(work, &ts, hmap, copy, params, from, to, stop, r);
         pass += 1;
     }

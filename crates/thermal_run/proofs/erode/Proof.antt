@@ -2,7 +2,7 @@ use mathlib.Core.Path.{sym, _∙_}
 use lib.Seq.{length-take-le}
 use Rattle.grid.proofs.SidesLaws.{cells-fit}
 use Rattle.plans.proofs.InputLaws.{within-range}
-use Rattle.thermal_run.specs.ThermalRun.{slideCourse}
+use Rattle.runs.specs.Run.{slideCourse}
 use Rattle.erosion.proofs.WholeLaws.{whole-on-map}
 use Rattle.thermal_run.proofs.RunLaws.{by-loops, small-room, eroded-room, copy-room, erodes-slides, erodes-reduces}
 use borrow.Author.Needs.{needs}

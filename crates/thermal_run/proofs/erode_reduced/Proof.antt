@@ -1,6 +1,6 @@
 use mathlib.Core.Path.{sym, _∙_}
 use borrow.Author.Tests.{not-true, not-false}
-use Rattle.thermal_run.specs.ThermalRun.{slideCourse}
+use Rattle.runs.specs.Run.{slideCourse}
 use Rattle.erosion.proofs.WholeLaws.{whole-averages, whole-ended, whole-added}
 use Rattle.erosion.proofs.GridLaws.{map-grid, work-grid, halted-fresh}
 use Rattle.thermal_run.proofs.RunLaws.{by-loops}

@@ -2,7 +2,7 @@ use Prim.Native.Nat.{_-_}
 use native.Mathlib.Omega.{arith}
 use borrow.Author.Needs.{needs}
 use lib.ListN.{length}
-use Rattle.thermal_run.specs.ThermalRun.{slideCourse}
+use Rattle.runs.specs.Run.{slideCourse}
 use Rattle.thermal_run.proofs.SlideLaws.{Passing, passing-none, passing-done, passing-ended, passing-ready, passing-more}
 use Rattle.thermal_run.proofs.slide_passes.Statement.{statement}
 use Rattle.thermal_run.proofs.slide_passes.Tie as tie
@@ -31,14 +31,14 @@ same-length-2 c = c .before .before .before .loop .inv .room
 returns : tie.Need-returns Inv-loop μ-loop
 returns c = passing-ended _ _ _ _ _ _ (c .before .before .before .loop .inv) (c .if1 .taken)
 
-fraction-requires : tie.Need-fraction-requires Inv-loop μ-loop
-fraction-requires c κs = let n = c .before .before .before .before .before .before .before .before .pre .few in (omega (arith, n, c .before .before .loop-test .taken), n)
+ratio-requires : tie.Need-ratio-requires Inv-loop μ-loop
+ratio-requires c κs = let n = c .before .before .before .before .before .before .before .before .pre .few in (omega (arith, n, c .before .before .loop-test .taken), omega (arith, n))
 
-add-fraction : tie.Need-add-fraction Inv-loop μ-loop
-add-fraction c = omega (arith, c .before .before .before .before .before .before .before .before .before .pre .few, c .before .before .before .loop-test .taken)
+add-ratio : tie.Need-add-ratio Inv-loop μ-loop
+add-ratio c = omega (arith, c .before .before .before .before .before .before .before .before .before .pre .few, c .before .before .before .loop-test .taken)
 
-fraction-requires-2 : tie.Need-fraction-requires-2 Inv-loop μ-loop
-fraction-requires-2 c κs = let n = c .before .before .before .before .before .before .before .before .before .pre .few in (omega (arith, n, c .before .before .before .loop-test .taken), n)
+ratio-requires-2 : tie.Need-ratio-requires-2 Inv-loop μ-loop
+ratio-requires-2 c κs = let n = c .before .before .before .before .before .before .before .before .before .pre .few in (omega (arith, n, c .before .before .before .loop-test .taken), omega (arith, n))
 
 run-pass-requires : tie.Need-run-pass-requires Inv-loop μ-loop
 run-pass-requires c κs = passing-ready _ _ _ _ _ _ (c .before .before .before .before .before .before .before .before .loop .inv) (c .before .before .before .before .before .if1 .left) (c .before .before .before .before .before .before .before .before .before .before .before .before .before .pre) (c .before .before .before .before .before .before .before .loop-test .taken)
@@ -50,7 +50,7 @@ loop-less : tie.Need-loop-less Inv-loop μ-loop
 loop-less c = omega (arith, c .before .before .before .before .before .before .before .before .before .before .before .before .loop-test .taken)
 
 loop-again : tie.Need-loop-again Inv-loop μ-loop
-loop-again c = passing-more _ _ _ _ _ _ (c .before .before .before .before .before .before .before .before .before .before .before .before .before .loop .inv) (c .before .before .before .before .before .before .before .before .before .before .if1 .left) _ _ (record { heights = _; reached = c .before .before .before .before .run-pass .result }) _ (c .before .before .before .before .before .before .before .before .before .before .before .before .before .before .before .thresholds .ensures) (c .before .before .before .before .before .before .before .before .before .fraction .ensures) (c .before .before .before .before .before .before .before .before .fraction2 .ensures) (c .before .before .before .before .run-pass .ensures) (c .before .before .before .before .before .before .before .before .before .before .before .before .loop-test .taken) (c .before .before .before .before .run-pass .kept .1 .1 .0) (c .before .before .before .before .run-pass .kept .1 .1 .1 .0)
+loop-again c = passing-more _ _ _ _ _ _ (c .before .before .before .before .before .before .before .before .before .before .before .before .before .loop .inv) (c .before .before .before .before .before .before .before .before .before .before .if1 .left) _ _ (record { heights = _; reached = c .before .before .before .before .run-pass .result }) _ (c .before .before .before .before .before .before .before .before .before .before .before .before .before .before .before .thresholds .ensures) (c .before .before .before .before .before .before .before .before .before .ratio .ensures) (c .before .before .before .before .before .before .before .before .ratio2 .ensures) (c .before .before .before .before .run-pass .ensures) (c .before .before .before .before .before .before .before .before .before .before .before .before .loop-test .taken) (c .before .before .before .before .run-pass .kept .1 .1 .0) (c .before .before .before .before .run-pass .kept .1 .1 .1 .0)
 
 same-length-3 : tie.Need-same-length-3 Inv-loop μ-loop
 same-length-3 c = c .before .loop .inv .long
@@ -73,9 +73,9 @@ slide-passes-spec =
     same-length
     same-length-2
     returns
-    fraction-requires
-    add-fraction
-    fraction-requires-2
+    ratio-requires
+    add-ratio
+    ratio-requires-2
     run-pass-requires
     add-pass
     loop-less
