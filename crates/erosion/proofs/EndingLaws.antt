@@ -11,8 +11,7 @@ use Rattle.answers.specs.declared.Refusal.{Refusal}
 use Rattle.answers.proofs.OutcomeLaws.{refusal-by}
 use Rattle.grid.specs.Heights.{allFinite}
 use Rattle.runs.specs.Run.{Ran, differenceOf}
-use Rattle.upsample.specs.Samples.{asSource}
-use Rattle.upsample.specs.Samples.{addedOf}
+use Rattle.upsample.specs.Samples.{asSource, addedOf, AddedFinite}
 use Rattle.erosion.specs.Reached.{halted, ranBy, addedTo}
 use Rattle.erosion.specs.Ending.{Ending, accepted, outcomeOf, ranTo, endingOf, endedWith, refusedTo, Numbered, Answered}
 use Rattle.erosion.specs.declared.RunAnswer.{RunAnswer}
@@ -69,16 +68,16 @@ module _ (w h dw dh : ℕ) (map small eroded : List Float) (r : Reached) where
         let f : allFinite (differenceOf eroded small) ≡ false = ap allFinite (sym d) ∙ sym a ∙ t in
         off x e _ (rw f) refl
 
-    pub back-sum : {x : Reached} {sums : Bool} → x ≡ halted 22 (r .marks) r → delta ≡ differenceOf eroded small → all ≡ allFinite delta → all ≡ true
-        → sums ≡ allFinite (sumOf delta) → sums ≡ false → ranBy map x ≡ addedTo w h dw dh map small eroded r
+    pub back-sum : {x : Reached} {sums : Bool} {sum : List Float} → x ≡ halted 22 (r .marks) r → delta ≡ differenceOf eroded small → all ≡ allFinite delta → all ≡ true
+        → AddedFinite (sumOf delta) map sums sum → sums ≡ false → ranBy sum x ≡ addedTo w h dw dh map small eroded r
     back-sum {x} e d a t b u =
         let f : allFinite (differenceOf eroded small) ≡ true = ap allFinite (sym d) ∙ sym a ∙ t in
-        let g : allFinite (sumOf (differenceOf eroded small)) ≡ false = ap (λ (l : List Float). allFinite (sumOf l)) (sym d) ∙ sym b ∙ u in
-        off x e _ (rw (f, g)) refl
+        let g : allFinite (sumOf (differenceOf eroded small)) ≡ false = ap (λ (l : List Float). allFinite (sumOf l)) (sym d) ∙ sym (b .good) ∙ u in
+        ap (λ (l : List Float). ranBy l x) (rw u at (b .heights)) ∙ off x e _ (rw (f, g)) refl
 
-    pub back-added : {sums : Bool} {sum : List Float} → delta ≡ differenceOf eroded small → all ≡ allFinite delta → all ≡ true → sums ≡ allFinite (sumOf delta) → sums ≡ true
-        → sum ≡ sumOf delta → r .number ≡ 0 → ranBy sum r ≡ addedTo w h dw dh map small eroded r
-    back-added d a t b u e z =
+    pub back-added : {sums : Bool} {sum : List Float} → delta ≡ differenceOf eroded small → all ≡ allFinite delta → all ≡ true → AddedFinite (sumOf delta) map sums sum → sums ≡ true
+        → r .number ≡ 0 → ranBy sum r ≡ addedTo w h dw dh map small eroded r
+    back-added d a t b u z =
         let f : allFinite (differenceOf eroded small) ≡ true = ap allFinite (sym d) ∙ sym a ∙ t in
-        let g : allFinite (sumOf (differenceOf eroded small)) ≡ true = ap (λ (l : List Float). allFinite (sumOf l)) (sym d) ∙ sym b ∙ u in
-        rw (f, g, z) (ap (λ (l : List Float). ranBy l (halted 0 (r .marks) r)) (e ∙ ap sumOf d))
+        let g : allFinite (sumOf (differenceOf eroded small)) ≡ true = ap (λ (l : List Float). allFinite (sumOf l)) (sym d) ∙ sym (b .good) ∙ u in
+        rw (f, g, z) (ap (λ (l : List Float). ranBy l (halted 0 (r .marks) r)) (rw u at (b .heights) ∙ ap sumOf d))

@@ -9,8 +9,7 @@ use grid::all_finite;
 use grid::copy_heights;
 use thermal_erosion::ThermalParams;
 use thermal_erosion::slide_pass_into;
-use upsample::add_into;
-use upsample::sums_finite;
+use upsample::add_finite;
 ghost use mathlib.Core.Path.{_≡_};
 ghost use mathlib.Core.Bool.{_&&_};
 ghost use Prim.Native.Nat.{_*_};
@@ -161,10 +160,9 @@ pub fn add_back(
     if !all_finite(work, eroded) {
         return ended(22, r.marks, r);
     }
-    if !sums_finite(hmap, size, eroded, work) {
+    if !add_finite(hmap, size, eroded, work) {
         return ended(22, r.marks, r);
     }
-    add_into(hmap, size, eroded, work);
     r
 }
 

@@ -3,16 +3,16 @@ use Prim.Native.Nat.{ℕ, _≤_, _<_}
 use mathlib.Core.Path.{_≡_, sym, ap, ap₂, _∙_, subst}
 use mathlib.Core.List.{List}
 use native.Mathlib.Omega.{arith}
-use lib.ListN.{length, getD, replicate}
-use lib.Ieee.{Float, nan, binary32, ofBits}
+use lib.ListN.{length, getD}
+use lib.Ieee.{Float, nan}
 use Rattle.floats.specs.Stand.{fractOf, indexOf}
 use Rattle.lists.proofs.FillLaws.{Filling, filling-length}
 use Rattle.grid.specs.Directions.{Place}
-use Rattle.resample.proofs.RowFillLaws.{filled-at, filling-at, stored}
+use Rattle.resample.proofs.RowFillLaws.{filling-at}
 use Rattle.bilinear.specs.Places.{Grid}
 use Rattle.bilinear.specs.Samples.{asSource, acrossOf}
 use Rattle.bilinear.proofs.CornerLaws.{place-in}
-use Rattle.sample_rows.specs.Rows.{Sampled, centreOf, columnOf, wayOf, columnsOf, waysOf, Mix, Mixes}
+use Rattle.sample_rows.specs.Rows.{Sampled, centreOf, columnOf, wayOf, Columns, Mix, Mixes}
 
 -- the columns of a grid and its rows, on a reduced grid
 pub all-columns : {w h len dw dh dlen : ℕ} → Grid w h len → Grid dw dh dlen → Sampled w dw w
@@ -22,14 +22,6 @@ pub row-in : {w h len dw dh dlen : ℕ} → Grid w h len → Grid dw dh dlen →
 row-in g d y l = record { full = g .h-high; small = d .h-high; inside = omega arith }
 
 module _ (w dw : ℕ) where
-  pub columns-done : {i : ℕ} {cs : List ℕ} → Filling (columnOf w dw) i (replicate 4096 0) cs → i ≤ w → w ≤ i → cs ≡ columnsOf w dw
-  unfolding columnsOf
-  columns-done p a b = stored p a b
-
-  pub ways-done : {i : ℕ} {ds : List Float} → Filling (wayOf w dw) i (replicate 4096 (ofBits binary32 0)) ds → i ≤ w → w ≤ i → ds ≡ waysOf w dw
-  unfolding waysOf
-  ways-done p a b = stored p a b
-
   -- as the code works them out
   module _ (x : ℕ) {u : Float} (e : u ≡ centreOf w dw x) where
     pub column-is : {i : ℕ} → i ≡ indexOf dw u → i ≡ columnOf w dw x
@@ -38,22 +30,18 @@ module _ (w dw : ℕ) where
     pub way-is : {d : Float} → d ≡ fractOf u → d ≡ wayOf w dw x
     way-is f = f ∙ ap fractOf e
 
-  module _ (x : ℕ) (l : x < w) {cs : List ℕ} {ds : List Float} (e : cs ≡ columnsOf w dw) (f : ds ≡ waysOf w dw) where
-    column-read : getD cs x 0 ≡ columnOf w dw x
-    unfolding columnsOf
-    column-read = ap (λ (t : List ℕ). getD t x 0) e ∙ filled-at (columnOf w dw) w (replicate 4096 0) x 0 l
+  -- the arrays while they are filled
+  pub columns-done : {i : ℕ} {cs₀ cs : List ℕ} {ds₀ ds : List Float} → Filling (columnOf w dw) i cs₀ cs → Filling (wayOf w dw) i ds₀ ds → w ≤ i → Columns w dw cs ds
+  columns-done p q l = record { column = λ x h. filling-at p x 0 (omega arith); way = λ x h. filling-at q x nan (omega arith) }
 
-    way-read : getD ds x nan ≡ wayOf w dw x
-    unfolding waysOf
-    way-read = ap (λ (t : List Float). getD t x nan) f ∙ filled-at (wayOf w dw) w (replicate 4096 (ofBits binary32 0)) x nan l
-
+  module _ (x : ℕ) (l : x < w) {cs : List ℕ} {ds : List Float} (e : Columns w dw cs ds) where
     -- a place of the reduced grid
     pub place-read : {dh len y : ℕ} → Grid dw dh len → y < dh → Place dw dh (getD cs x 0) y
-    place-read g m = place-in g (omega (arith, column-read, g .w-low)) m
+    place-read g m = place-in g (omega (arith, e .column x l, g .w-low)) m
 
     pub across-read : (delta : List Float) (dh y south : ℕ) {r : Float} → r ≡ acrossOf asSource delta dw dh (getD cs x 0) (getD ds x nan) y south
         → r ≡ acrossOf asSource delta dw dh (columnOf w dw x) (wayOf w dw x) y south
-    across-read delta dh y south q = q ∙ ap₂ (λ (k : ℕ) (d : Float). acrossOf asSource delta dw dh k d y south) column-read way-read
+    across-read delta dh y south q = q ∙ ap₂ (λ (k : ℕ) (d : Float). acrossOf asSource delta dw dh k d y south) (e .column x l) (e .way x l)
 
 -- the array while it is made: n columns are done
 abbrev pub Mixing : List Float → ℕ → ℕ → ℕ → ℕ → ℕ → ℕ → List Float → List Float → Type 0

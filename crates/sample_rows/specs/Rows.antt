@@ -1,12 +1,11 @@
 -- Samples row by row.
 use Prim.Native.Nat.{ℕ, _≤_, _<_}
 use mathlib.Core.Path.{_≡_}
-use mathlib.Core.List.{List, _++_}
-use lib.ListN.{length, getD, drop, replicate}
+use mathlib.Core.List.{List}
+use lib.ListN.{length, getD}
 use lib.Ieee.{Float, nan, binary32, ofBits, add, sub, mul, div}
 use Rattle.floats.specs.Stand.{maxOf, fractOf, indexOf}
 use Rattle.float_order.specs.Whole.{whole}
-use Rattle.lists.specs.Loops.{tabulate}
 use Rattle.bilinear.specs.Samples.{asSource, acrossOf}
 
 -- column (or row) x of a side, or the end past the last one, and a reduced side, each at most 4,096
@@ -28,14 +27,10 @@ columnOf side reduced x = indexOf reduced (centreOf side reduced x)
 abbrev pub wayOf : ℕ → ℕ → ℕ → Float
 wayOf side reduced x = fractOf (centreOf side reduced x)
 
--- of every column, in arrays of 4,096 places, with 0 from the side's end on
-unfoldable pub columnsOf : ℕ → ℕ → List ℕ
-unfolding tabulate
-columnsOf side reduced = tabulate side (columnOf side reduced) ++ drop side (replicate 4096 0)
-
-unfoldable pub waysOf : ℕ → ℕ → List Float
-unfolding tabulate
-waysOf side reduced = tabulate side (wayOf side reduced) ++ drop side (replicate 4096 (ofBits binary32 0))
+-- arrays that hold both of every column of a side of w
+pub record Columns (w dw : ℕ) (cs : List ℕ) (ds : List Float) : Type 0 where
+  pub column : (x : ℕ) → x < w → getD cs x 0 ≡ columnOf w dw x
+  pub way : (x : ℕ) → x < w → getD ds x nan ≡ wayOf w dw x
 
 -- an array of 4,096 places that holds, for each of w columns, what lies there `south` rows south of row y of the reduced grid
 pub record Mix (delta : List Float) (dw dh w y south : ℕ) (row : List Float) : Type 0 where

@@ -10,7 +10,7 @@ ghost use mathlib.Core.Path.{_≡_};
 ghost use Prim.Native.Nat.{_<_, _≤_};
 ghost use lib.ListN.{length};
 ghost use Rattle.bilinear.specs.Places.{Grid};
-ghost use Rattle.sample_rows.specs.Rows.{Sampled, centreOf, columnOf, wayOf, columnsOf, waysOf, Mix, Mixes};
+ghost use Rattle.sample_rows.specs.Rows.{Sampled, centreOf, columnOf, wayOf, Columns, Mix, Mixes};
 
 // Where the centre of column (or row) x of a side lies on the reduced one.
 fn centre(side: usize, reduced: usize, x: usize) -> f32
@@ -37,32 +37,19 @@ pub fn way(side: usize, reduced: usize, x: usize) -> f32
     fract(centre(side, reduced, x))
 }
 
-// The reduced column of each column of a side of w.
-pub fn columns(w: usize, dw: usize) -> [usize; 4096]
+// The reduced column of each column of a side of w, and its way.
+pub fn columns(w: usize, dw: usize, cs: &mut [usize; 4096], ds: &mut [f32; 4096])
     requires { ⌜ Sampled w dw w ⌝ }
-    ensures { λ r. ⌜ r ≡ columnsOf w dw ⌝ }
+    requires { ⌜ length (now cs) ≡ 4096 ⌝ }
+    requires { ⌜ length (now ds) ≡ 4096 ⌝ }
+    ensures { λ _. ⌜ Columns w dw (now (cs .exit)) (now (ds .exit)) ⌝ }
 {
-    let mut cs: [usize; 4096] = [0; 4096];
     let mut x: usize = 0;
     while x < w {
         cs[x] = column(w, dw, x);
-        x += 1;
-    }
-    cs
-}
-
-// The way of each column.
-pub fn ways(w: usize, dw: usize) -> [f32; 4096]
-    requires { ⌜ Sampled w dw w ⌝ }
-    ensures { λ r. ⌜ r ≡ waysOf w dw ⌝ }
-{
-    let mut ds: [f32; 4096] = [0.0; 4096];
-    let mut x: usize = 0;
-    while x < w {
         ds[x] = way(w, dw, x);
         x += 1;
     }
-    ds
 }
 
 // What lies at each of w columns `south` rows south of row y of the reduced grid.
@@ -77,8 +64,7 @@ fn mix_row(
     row: &mut [f32; 4096],
 )
     requires { ⌜ Grid (dsize .w) (dsize .h) (length (now delta)) ⌝ }
-    requires { ⌜ now cs ≡ columnsOf w (dsize .w) ⌝ }
-    requires { ⌜ now ds ≡ waysOf w (dsize .w) ⌝ }
+    requires { ⌜ Columns w (dsize .w) (now cs) (now ds) ⌝ }
     requires { ⌜ w ≤ 4096 ⌝ }
     requires { ⌜ y < dsize .h ⌝ }
     requires { ⌜ south ≤ 1 ⌝ }
@@ -104,8 +90,7 @@ pub fn mix_rows(
     south: &mut [f32; 4096],
 )
     requires { ⌜ Grid (dsize .w) (dsize .h) (length (now delta)) ⌝ }
-    requires { ⌜ now cs ≡ columnsOf w (dsize .w) ⌝ }
-    requires { ⌜ now ds ≡ waysOf w (dsize .w) ⌝ }
+    requires { ⌜ Columns w (dsize .w) (now cs) (now ds) ⌝ }
     requires { ⌜ w ≤ 4096 ⌝ }
     requires { ⌜ y < dsize .h ⌝ }
     requires { ⌜ length (now north) ≡ 4096 ⌝ }
@@ -130,8 +115,7 @@ pub fn prepare(
     south: &mut [f32; 4096],
 ) -> usize
     requires { ⌜ Grid (dsize .w) (dsize .h) (length (now delta)) ⌝ }
-    requires { ⌜ now cs ≡ columnsOf (size .w) (dsize .w) ⌝ }
-    requires { ⌜ now ds ≡ waysOf (size .w) (dsize .w) ⌝ }
+    requires { ⌜ Columns (size .w) (dsize .w) (now cs) (now ds) ⌝ }
     requires { ⌜ size .w ≤ 4096 ⌝ }
     requires { ⌜ Sampled (size .h) (dsize .h) y ⌝ }
     requires { ⌜ Mixes (now delta) (dsize .w) (dsize .h) (size .w) held (now north) (now south) ⌝ }

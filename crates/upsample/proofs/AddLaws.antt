@@ -1,7 +1,7 @@
 -- Each way out of `add_upsampled` keeps its promise.
 use Prim.Native.Nat.{ℕ}
-use mathlib.Core.Path.{_≡_}
-use mathlib.Core.Bool.{true, false}
+use mathlib.Core.Path.{_≡_, sym, _∙_}
+use mathlib.Core.Bool.{Bool, true, false}
 use mathlib.Core.List.{List}
 use native.Mathlib.Omega.{arith}
 use lib.ListN.{length}
@@ -14,7 +14,7 @@ use Rattle.resample.specs.Blocks.{shapeRefusal}
 use Rattle.resample.proofs.RefusalLaws.{Shaped, shape-refused}
 use Rattle.bilinear.specs.Places.{Grid}
 use Rattle.bilinear.specs.Samples.{asSource}
-use Rattle.upsample.specs.Samples.{addedOf, Added}
+use Rattle.upsample.specs.Samples.{addedOf, AddedFinite, Added}
 
 pub full-grid : {w h len dw dh dlen : ℕ} → Shaped w h len dw dh dlen → Grid w h len
 full-grid s = omega (arith, s .in-grid, s .full)
@@ -36,9 +36,13 @@ module _ {map delta : List Float} {w h dw dh : ℕ} where
       add-small c f g = record { answer = rw (s .sides, s .reduced, s .lengths, e, g, f); heights = rw (s .sides, s .reduced, s .lengths, e, g) }
 
       module _ (g : allFinite delta ≡ true) where
-        pub add-run-off : allFinite (addedOf asSource map w h delta dw dh) ≡ false → Added map w h delta dw dh (Answer.Refused Refusal.RunOff) map
-        add-run-off q = record { answer = rw (s .sides, s .reduced, s .lengths, e, g, q); heights = rw (s .sides, s .reduced, s .lengths, e, g, q) }
+        module _ {t : Bool} {after : List Float} (a : AddedFinite (addedOf asSource map w h delta dw dh) map t after) where
+          pub add-run-off : t ≡ false → Added map w h delta dw dh (Answer.Refused Refusal.RunOff) after
+          add-run-off q =
+              let off : allFinite (addedOf asSource map w h delta dw dh) ≡ false = sym (a .good) ∙ q in
+              record { answer = rw (s .sides, s .reduced, s .lengths, e, g, off); heights = rw (s .sides, s .reduced, s .lengths, e, g, off) (rw q at (a .heights)) }
 
-        pub add-done : allFinite (addedOf asSource map w h delta dw dh) ≡ true → (after : List Float) → after ≡ addedOf asSource map w h delta dw dh
-            → Added map w h delta dw dh Answer.Done after
-        add-done q after f = record { answer = rw (s .sides, s .reduced, s .lengths, e, g, q); heights = rw (s .sides, s .reduced, s .lengths, e, g, q) f }
+          pub add-done : t ≡ true → Added map w h delta dw dh Answer.Done after
+          add-done q =
+              let on : allFinite (addedOf asSource map w h delta dw dh) ≡ true = sym (a .good) ∙ q in
+              record { answer = rw (s .sides, s .reduced, s .lengths, e, g, on); heights = rw (s .sides, s .reduced, s .lengths, e, g, on) (rw q at (a .heights)) }

@@ -1,7 +1,7 @@
 -- `add_upsampled`.
 use Prim.Native.Nat.{ℕ, _*_, _/_, _%_}
 use mathlib.Core.Path.{_≡_}
-use mathlib.Core.Bool.{cond}
+use mathlib.Core.Bool.{Bool, _||_, cond}
 use mathlib.Core.List.{List}
 use lib.ListN.{length, getD}
 use lib.Ieee.{Float, nan, binary32, add}
@@ -20,6 +20,11 @@ unfoldable pub summedRow : List Float → List Float → List Float → Float �
 unfolding tabulate
 summedRow row north south dy = tabulate (length row) (λ x. add binary32 (getD row x nan) (between dy (getD north x nan) (getD south x nan)))
 
+-- sums are stored in the place of `old`, or tested and nothing is stored
+pub record Summed (store : Bool) (sum old : List Float) (r : Bool) (new : List Float) : Type 0 where
+  pub heights : new ≡ cond store sum old
+  pub good : r ≡ (store || allFinite sum)
+
 -- cell c of the map with the reduced grid `delta`, upsampled on cell centres, added to it
 abbrev pub addedAt : FarEdge → List Float → ℕ → ℕ → List Float → ℕ → ℕ → ℕ → Float
 addedAt kind map w h delta dw dh c = add binary32 (getD map c nan) (bilinearOf kind delta dw dh (centreOf w dw (c % w)) (centreOf h dh (c / w)))
@@ -27,6 +32,11 @@ addedAt kind map w h delta dw dh c = add binary32 (getD map c nan) (bilinearOf k
 unfoldable pub addedOf : FarEdge → List Float → ℕ → ℕ → List Float → ℕ → ℕ → List Float
 unfolding bilinearOf tabulate
 addedOf kind map w h delta dw dh = tabulate (w * h) (addedAt kind map w h delta dw dh)
+
+-- the sum in the place of the map where all of it is finite
+pub record AddedFinite (sum map : List Float) (r : Bool) (after : List Float) : Type 0 where
+  pub good : r ≡ allFinite sum
+  pub heights : after ≡ cond r sum map
 
 -- 1, 2, 3, 5 (the full grid first), else `then`
 abbrev pub addRefusal : {A : Type 0} → List Float → ℕ → ℕ → List Float → ℕ → ℕ → (ℕ → A) → (ℕ → ℕ → A) → A → A

@@ -11,14 +11,13 @@ use sample_rows::columns;
 use sample_rows::mix_rows;
 use sample_rows::prepare;
 use sample_rows::way;
-use sample_rows::ways;
 ghost use mathlib.Core.Path.{_≡_};
 ghost use Prim.Native.Nat.{_≤_};
 ghost use lib.ListN.{length};
 ghost use Rattle.grid.specs.Heights.{allFinite};
 ghost use Rattle.bilinear.specs.Places.{Grid};
 ghost use Rattle.bilinear.specs.Samples.{asSource};
-ghost use Rattle.upsample.specs.Samples.{summedRow, addedOf, Added};
+ghost use Rattle.upsample.specs.Samples.{summedRow, Summed, addedOf, AddedFinite, Added};
 
 // Whether every height of a row stays finite with the samples added, dy of the way from north to south. No height is looked at apart, so that several are tested at a time.
 fn row_finite(row: &[f32], north: &[f32; 4096], south: &[f32; 4096], dy: f32) -> bool
@@ -49,53 +48,29 @@ fn add_row(row: &mut [f32], north: &[f32; 4096], south: &[f32; 4096], dy: f32)
     }
 }
 
-// Whether every height of the map stays finite with the samples added: the sums are worked out and nothing is stored.
-pub fn sums_finite(map: &[f32], size: Sides, delta: &[f32], dsize: Sides) -> bool
-    requires { ⌜ Grid (size .w) (size .h) (length (now map)) ⌝ }
-    requires { ⌜ Grid (dsize .w) (dsize .h) (length (now delta)) ⌝ }
-    ensures { λ r. ⌜ r ≡ allFinite (addedOf asSource (now (map .entry)) (size .w) (size .h) (now (delta .entry)) (dsize .w) (dsize .h)) ⌝ }
+// One of the two for a row: adds the samples where `store` says so, and else tests the sums.
+fn sum_row(row: &mut [f32], north: &[f32; 4096], south: &[f32; 4096], dy: f32, store: bool) -> bool
+    requires { ⌜ length (now row) ≤ 4096 ⌝ }
+    ensures { λ r. ⌜ Summed store (summedRow (now (row .entry)) (now (north .entry)) (now (south .entry)) dy) (now (row .entry)) r (now (row .exit)) ⌝ }
 {
-    let w = size.w;
-    let h = size.h;
-    let cs = columns(w, dsize.w);
-    let ds = ways(w, dsize.w);
-    let mut north: [f32; 4096] = [0.0; 4096];
-    let mut south: [f32; 4096] = [0.0; 4096];
-    mix_rows(delta, dsize, &cs, &ds, w, 0, &mut north, &mut south);
-    let mut held: usize = 0;
-    let mut y: usize = 0;
-    while y < h {
-        held = prepare(
-            delta,
-            dsize,
-            &cs,
-            &ds,
-            size,
-            y,
-            held,
-            &mut north,
-            &mut south,
-        );
-        let from = y * w;
-        let to = from + w;
-        if !row_finite(&map[from..to], &north, &south, way(h, dsize.h, y)) {
-            return false;
-        }
-        y += 1;
+    if store {
+        add_row(row, north, south, dy);
+        return true;
     }
-    true
+    row_finite(row, north, south, dy)
 }
 
-// Adds the samples to the map.
-pub fn add_into(map: &mut [f32], size: Sides, delta: &[f32], dsize: Sides)
+// The same for every row of the map.
+fn sum_rows(map: &mut [f32], size: Sides, delta: &[f32], dsize: Sides, store: bool) -> bool
     requires { ⌜ Grid (size .w) (size .h) (length (now map)) ⌝ }
     requires { ⌜ Grid (dsize .w) (dsize .h) (length (now delta)) ⌝ }
-    ensures { λ _. ⌜ now (map .exit) ≡ addedOf asSource (now (map .entry)) (size .w) (size .h) (now (delta .entry)) (dsize .w) (dsize .h) ⌝ }
+    ensures { λ r. ⌜ Summed store (addedOf asSource (now (map .entry)) (size .w) (size .h) (now (delta .entry)) (dsize .w) (dsize .h)) (now (map .entry)) r (now (map .exit)) ⌝ }
 {
     let w = size.w;
     let h = size.h;
-    let cs = columns(w, dsize.w);
-    let ds = ways(w, dsize.w);
+    let mut cs: [usize; 4096] = [0; 4096];
+    let mut ds: [f32; 4096] = [0.0; 4096];
+    columns(w, dsize.w, &mut cs, &mut ds);
     let mut north: [f32; 4096] = [0.0; 4096];
     let mut south: [f32; 4096] = [0.0; 4096];
     mix_rows(delta, dsize, &cs, &ds, w, 0, &mut north, &mut south);
@@ -116,13 +91,27 @@ pub fn add_into(map: &mut [f32], size: Sides, delta: &[f32], dsize: Sides)
         let dy = way(h, dsize.h, y);
         let from = y * w;
         let to = from + w;
-        add_row(&mut map[from..to], &north, &south, dy);
+        if !sum_row(&mut map[from..to], &north, &south, dy, store) {
+            return false;
+        }
         y += 1;
     }
+    true
 }
 
-// Adds delta, a reduced grid, to the map, bilinearly upsampled on cell centres. On a refusal the map is as it came: every sum is tested
-// before the first is stored.
+// Adds the samples to the map where every sum is finite, and says whether they are: every sum is tested before the first is stored.
+pub fn add_finite(map: &mut [f32], size: Sides, delta: &[f32], dsize: Sides) -> bool
+    requires { ⌜ Grid (size .w) (size .h) (length (now map)) ⌝ }
+    requires { ⌜ Grid (dsize .w) (dsize .h) (length (now delta)) ⌝ }
+    ensures { λ r. ⌜ AddedFinite (addedOf asSource (now (map .entry)) (size .w) (size .h) (now (delta .entry)) (dsize .w) (dsize .h)) (now (map .entry)) r (now (map .exit)) ⌝ }
+{
+    if !sum_rows(map, size, delta, dsize, false) {
+        return false;
+    }
+    sum_rows(map, size, delta, dsize, true)
+}
+
+// Adds delta, a reduced grid, to the map, bilinearly upsampled on cell centres. On a refusal the map is as it came.
 pub fn add_upsampled(map: &mut [f32], size: Sides, delta: &[f32], dsize: Sides) -> Answer
     ensures { λ r. ⌜ Added (now (map .entry)) (size .w) (size .h) (now (delta .entry)) (dsize .w) (dsize .h) r (now (map .exit)) ⌝ }
 {
@@ -136,9 +125,8 @@ pub fn add_upsampled(map: &mut [f32], size: Sides, delta: &[f32], dsize: Sides) 
     if !all_finite(dsize, delta) {
         return Answer::Refused(Refusal::Height(first_not_finite(dsize, delta)));
     }
-    if !sums_finite(map, size, delta, dsize) {
+    if !add_finite(map, size, delta, dsize) {
         return Answer::Refused(Refusal::RunOff);
     }
-    add_into(map, size, delta, dsize);
     Answer::Done
 }

@@ -16,30 +16,30 @@ loop-holds : tie.Need-loop-holds Inv-loop μ-loop
 loop-holds c = filling-none
 
 mul-across : tie.Need-mul-across Inv-loop μ-loop
-mul-across c = omega (arith, c .loop-test .taken, c .before .before .before .pre .1 .1 .1 .0)
+mul-across c = omega (arith, c .loop-test .taken, c .before .before .before .pre .1 .1 .0)
 
 element-copy-out-across : tie.Need-element-copy-out-across Inv-loop μ-loop
-element-copy-out-across c = omega (arith, c .loop-test .taken, c .before .before .before .pre .1 .1 .1 .0)
+element-copy-out-across c = omega (arith, c .loop-test .taken, c .before .before .before .pre .1 .1 .0)
 
 mul-across-2 : tie.Need-mul-across-2 Inv-loop μ-loop
-mul-across-2 c = omega (arith, c .before .loop-test .taken, c .before .before .before .before .pre .1 .1 .1 .0)
+mul-across-2 c = omega (arith, c .before .loop-test .taken, c .before .before .before .before .pre .1 .1 .0)
 
 element-copy-out-across-2 : tie.Need-element-copy-out-across-2 Inv-loop μ-loop
-element-copy-out-across-2 c = omega (arith, c .before .loop-test .taken, c .before .before .before .before .pre .1 .1 .1 .0)
+element-copy-out-across-2 c = omega (arith, c .before .loop-test .taken, c .before .before .before .before .pre .1 .1 .0)
 
 across-requires : tie.Need-across-requires Inv-loop μ-loop
 across-requires c κs =
     let p = c .before .before .before .before .before .pre in
-    (place-read _ _ (c .before .before .before .loop .x) (c .before .before .loop-test .taken) (p .1 .0) (p .1 .1 .0) (p .0) (p .1 .1 .1 .1 .0), (p .1 .1 .1 .1 .1 .0, p .0 .size))
+    (place-read _ _ (c .before .before .before .loop .x) (c .before .before .loop-test .taken) (p .1 .0) (p .0) (p .1 .1 .1 .0), (p .1 .1 .1 .1 .0, p .0 .size))
 
 mul-row : tie.Need-mul-row Inv-loop μ-loop
-mul-row c = omega (arith, c .before .before .before .loop-test .taken, c .before .before .before .before .before .before .pre .1 .1 .1 .0)
+mul-row c = omega (arith, c .before .before .before .loop-test .taken, c .before .before .before .before .before .before .pre .1 .1 .0)
 
 element-write-row : tie.Need-element-write-row Inv-loop μ-loop
-element-write-row c = omega (arith, c .before .before .before .loop-test .taken, c .before .before .before .before .before .before .pre .1 .1 .1 .0)
+element-write-row c = omega (arith, c .before .before .before .loop-test .taken, c .before .before .before .before .before .before .pre .1 .1 .0)
 
 add-x : tie.Need-add-x Inv-loop μ-loop
-add-x c = omega (arith, c .before .before .before .loop-test .taken, c .before .before .before .before .before .before .pre .1 .1 .1 .0)
+add-x c = omega (arith, c .before .before .before .loop-test .taken, c .before .before .before .before .before .before .pre .1 .1 .0)
 
 loop-less : tie.Need-loop-less Inv-loop μ-loop
 loop-less c = omega (arith, c .before .before .before .loop-test .taken)
@@ -48,10 +48,10 @@ loop-again : tie.Need-loop-again Inv-loop μ-loop
 loop-again c =
     let a = c .before .before .before .before .before .before .args in
     let p = c .before .before .before .before .before .before .pre in
-    filling-more (c .before .before .before .before .loop .inv) (across-read _ _ (c .before .before .before .before .loop .x) (c .before .before .before .loop-test .taken) (p .1 .0) (p .1 .1 .0) (now (a .delta)) (a .dsize .h) (a .y) (a .south) (c .across .ensures)) (omega (arith, p .1 .1 .1 .1 .1 .1, c .before .before .before .loop-test .taken, p .1 .1 .1 .0))
+    filling-more (c .before .before .before .before .loop .inv) (across-read _ _ (c .before .before .before .before .loop .x) (c .before .before .before .loop-test .taken) (p .1 .0) (now (a .delta)) (a .dsize .h) (a .y) (a .south) (c .across .ensures)) (omega (arith, p .1 .1 .1 .1 .1, c .before .before .before .loop-test .taken, p .1 .1 .0))
 
 returns : tie.Need-returns Inv-loop μ-loop
-returns c = let a = c .before .before .before .args in mixing-done (now (a .delta)) (a .dsize .w) (a .dsize .h) (a .w) (a .y) (a .south) (c .before .loop .inv) (c .before .before .before .pre .1 .1 .1 .1 .1 .1) (c .loop-test .left)
+returns c = let a = c .before .before .before .args in mixing-done (now (a .delta)) (a .dsize .w) (a .dsize .h) (a .w) (a .y) (a .south) (c .before .loop .inv) (c .before .before .before .pre .1 .1 .1 .1 .1) (c .loop-test .left)
 
 pub mix-row-spec : {M : Type 1} → statement M
 mix-row-spec =

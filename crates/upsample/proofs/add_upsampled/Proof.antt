@@ -3,7 +3,9 @@ use Rattle.resample.proofs.RefusalLaws.{Shaped, shape-good}
 use borrow.Author.Tests.{not-true, not-false}
 use lib.ListN.{length}
 use denote.Ref.{now}
-use mathlib.Core.Path.{sym, _∙_}
+use mathlib.Core.Path.{_≡_, sym, _∙_}
+use mathlib.Core.Bool.{true}
+use Rattle.grid.specs.Heights.{allFinite}
 use borrow.Author.Needs.{needs}
 use Rattle.upsample.proofs.add_upsampled.Statement.{statement}
 use Rattle.upsample.proofs.add_upsampled.Tie as tie
@@ -48,23 +50,24 @@ same-length-2 c = search needs
 returns-3 : tie.Need-returns-3
 returns-3 c = add-small (shaped (c .before .before .before .before .before .before)) (sym (c .before .before .before .before .all-finite .ensures) ∙ not-false _ (c .before .before .before .if1 .left)) _ (c .first-not-finite2 .ensures) (sym (c .before .before .all-finite2 .ensures) ∙ not-true _ (c .before .if2 .taken))
 
-sums-finite-requires : tie.Need-sums-finite-requires
-sums-finite-requires c κs = let s = shaped (c .before .before .before .before .before .before) in (full-grid s, small-grid s)
+add-finite-requires : tie.Need-add-finite-requires
+add-finite-requires c κs = let s = shaped (c .before .before .before .before .before .before) in (full-grid s, small-grid s)
+
+-- both heights are finite
+finites : (c : tie.After-add-finite) → let a = c .before .before .before .before .before .before .before .before .before .before .before .before .args in (allFinite (now (a .map)) ≡ true) × (allFinite (now (a .delta)) ≡ true)
+finites c = (sym (c .before .before .before .before .before .all-finite .ensures) ∙ not-false _ (c .before .before .before .before .if1 .left), sym (c .before .before .before .all-finite2 .ensures) ∙ not-false _ (c .before .before .if2 .left))
 
 same-length-3 : tie.Need-same-length-3
 same-length-3 c = search needs
 
 returns-4 : tie.Need-returns-4
-returns-4 c = add-run-off (shaped (c .before .before .before .before .before .before .before .before)) (sym (c .before .before .before .before .before .before .all-finite .ensures) ∙ not-false _ (c .before .before .before .before .before .if1 .left)) (sym (c .before .before .before .before .all-finite2 .ensures) ∙ not-false _ (c .before .before .before .if2 .left)) (sym (c .before .sums-finite .ensures) ∙ not-true _ (c .if3 .taken))
-
-add-into-requires : tie.Need-add-into-requires
-add-into-requires c κs = let s = shaped (c .before .before .before .before .before .before .before .before .before) in (full-grid s, small-grid s)
+returns-4 c = let f = finites (c .before .before .before) in add-run-off (shaped (c .before .before .before .before .before .before .before .before .before .before)) (f .0) (f .1) (c .before .before .before .add-finite .ensures) (not-true _ (c .if3 .taken))
 
 same-length-4 : tie.Need-same-length-4
 same-length-4 c = search needs
 
 returns-5 : tie.Need-returns-5
-returns-5 c = add-done (shaped (c .before .before .before .before .before .before .before .before .before .before .before .before)) (sym (c .before .before .before .before .before .before .before .before .before .before .all-finite .ensures) ∙ not-false _ (c .before .before .before .before .before .before .before .before .before .if1 .left)) (sym (c .before .before .before .before .before .before .before .before .all-finite2 .ensures) ∙ not-false _ (c .before .before .before .before .before .before .before .if2 .left)) (sym (c .before .before .before .before .before .sums-finite .ensures) ∙ not-false _ (c .before .before .before .before .if3 .left)) _ (c .before .before .add-into .ensures)
+returns-5 c = let f = finites (c .before .before .before) in add-done (shaped (c .before .before .before .before .before .before .before .before .before .before)) (f .0) (f .1) (c .before .before .before .add-finite .ensures) (not-false _ (c .if3 .left))
 
 pub add-upsampled-spec : {M : Type 1} → statement M
 add-upsampled-spec =
@@ -82,9 +85,8 @@ add-upsampled-spec =
     first-not-finite-requires-2
     same-length-2
     returns-3
-    sums-finite-requires
+    add-finite-requires
     same-length-3
     returns-4
-    add-into-requires
     same-length-4
     returns-5)
