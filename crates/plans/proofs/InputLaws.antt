@@ -1,7 +1,7 @@
 -- What a whole run knows of an input that it accepts: its sides, its working sides, and its iterations.
 use Prim.Native.Nat.{ℕ, _*_, _≤_}
 use mathlib.Core.Path.{_≡_, sym, ap₂, _∙_, subst}
-use mathlib.Core.Bool.{Bool, true, false, not, _&&_, _||_}
+use mathlib.Core.Bool.{Bool, true, false, not, _&&_}
 use mathlib.Core.List.{List}
 use native.Mathlib.Nat.{mul-le-mul}
 use native.Mathlib.Omega.{arith}
@@ -9,14 +9,14 @@ use borrow.Author.Tests.{ltb-false, eqb-true}
 use lib.Dec.{eqb, ltb}
 use lib.Ieee.{Float, binary32, ofBits, neg}
 use lib.Ieee.Scale.{finite}
-use Rattle.lists.proofs.TestLaws.{both, fourth}
+use Rattle.lists.proofs.TestLaws.{both, neither, fourth}
 use Rattle.answers.specs.Outcome.{Outcome, outsideOf}
 use Rattle.grid.specs.Sides.{InRange}
 use Rattle.grid.specs.declared.Sides.{Sides}
 use Rattle.grid.proofs.SidesLaws.{in-range}
 use Rattle.resample.specs.WorkSize.{Within, workSize}
 use Rattle.resample.proofs.WorkLaws.{work-within}
-use Rattle.runs.specs.Refusals.{notShare, badFluvial, badThermal}
+use Rattle.runs.specs.Refusals.{notShare, badEither, badFluvial, badThermal}
 use Rattle.runs.specs.declared.FluvialSettings.{FluvialSettings}
 use Rattle.runs.specs.declared.ThermalSettings.{ThermalSettings}
 use Rattle.plans.specs.Accepted.{refusalOn, Accepted}
@@ -45,15 +45,13 @@ pub accepted-within : {w h : ℕ} {bad : Bool} {map : List Float} {scratch : ℕ
     → Within w h (work .w) (work .h)
 accepted-within {w} {h} a res e = subst (λ (g : Sides). Within w h (g .w) (g .h)) (sym e) (work-within w h res (in-range (a .sides)))
 
+few-iterations : (water strength talus : Float) (iterations : ℕ) → badEither water strength talus iterations ≡ false → iterations ≤ 4096
+few-iterations water strength talus iterations e = ltb-false 4096 iterations (fourth (not (finite water)) (notShare strength) (notShare talus) (ltb 4096 iterations) e)
+
 pub thermal-iterations : (s : ThermalSettings) → badThermal s ≡ false → s .iterations ≤ 4096
-thermal-iterations s e =
-    ltb-false 4096 (s .iterations) (fourth (not (finite (s .«water_level»))) (notShare (s .talus)) (notShare (s .strength)) (ltb 4096 (s .iterations)) e)
+thermal-iterations s = few-iterations (s .«water_level») (s .strength) (s .talus) (s .iterations)
 
 pub fluvial-iterations : (s : FluvialSettings) → badFluvial s ≡ false → s .iterations ≤ 4096
 fluvial-iterations s e =
-    ltb-false 4096 (s .iterations)
-    (fourth false badUplift false (ltb 4096 (s .iterations))
-    (fourth (not (finite (s .«water_level»))) (notShare (s .strength)) (notShare (s .talus)) (badUplift || ltb 4096 (s .iterations)) e))
-  where
-    badUplift : Bool
-    badUplift = outsideOf (s .uplift) (neg (ofBits binary32 0x3f80_0000)) (ofBits binary32 0x3f80_0000)
+    few-iterations (s .«water_level») (s .strength) (s .talus) (s .iterations)
+    (neither (outsideOf (s .uplift) (neg (ofBits binary32 0x3f80_0000)) (ofBits binary32 0x3f80_0000)) (badEither (s .«water_level») (s .strength) (s .talus) (s .iterations)) e .1)

@@ -17,7 +17,7 @@ ghost use mathlib.Core.Path.{_≡_};
 ghost use Prim.Native.Nat.{_≤_};
 ghost use Rattle.answers.specs.Outcome.{answerOf};
 ghost use Rattle.runs.specs.Plan.{scaleOf, kOf, thresholdOf, passesOf, fluvialPlan, thermalPasses, thermalParams};
-ghost use Rattle.runs.specs.Refusals.{badFluvial, badThermal};
+ghost use Rattle.runs.specs.Refusals.{badEither, badFluvial, badThermal};
 ghost use Rattle.plans.specs.Accepted.{refusalOn};
 
 // Working cells per cell of a reference map: the longest working side / 512.
@@ -122,39 +122,37 @@ pub fn talus_plan(work: Sides, conf: FluvialSettings) -> ThermalParams
     }
 }
 
+// Refusal 4 of either run.
+fn bad_either(water: f32, strength: f32, talus: f32, iterations: u32) -> bool
+    ensures { λ r. ⌜ r ≡ badEither water strength talus iterations ⌝ }
+{
+    if !is_finite(water) {
+        return true;
+    }
+    if outside(strength, 0.0, 1.0) {
+        return true;
+    }
+    if outside(talus, 0.0, 1.0) {
+        return true;
+    }
+    iterations > 4096
+}
+
 // Refusal 4 of a thermal run.
 pub fn bad_thermal(conf: ThermalSettings) -> bool
     ensures { λ r. ⌜ r ≡ badThermal conf ⌝ }
 {
-    if !is_finite(conf.water_level) {
-        return true;
-    }
-    if outside(conf.talus, 0.0, 1.0) {
-        return true;
-    }
-    if outside(conf.strength, 0.0, 1.0) {
-        return true;
-    }
-    conf.iterations > 4096
+    bad_either(conf.water_level, conf.strength, conf.talus, conf.iterations)
 }
 
 // Refusal 4 of a fluvial run.
 pub fn bad_fluvial(conf: FluvialSettings) -> bool
     ensures { λ r. ⌜ r ≡ badFluvial conf ⌝ }
 {
-    if !is_finite(conf.water_level) {
-        return true;
-    }
-    if outside(conf.strength, 0.0, 1.0) {
-        return true;
-    }
-    if outside(conf.talus, 0.0, 1.0) {
-        return true;
-    }
     if outside(conf.uplift, -1.0, 1.0) {
         return true;
     }
-    conf.iterations > 4096
+    bad_either(conf.water_level, conf.strength, conf.talus, conf.iterations)
 }
 
 // What a whole run refuses, where `bad` says whether a setting is bad and `scratch` is the length of the shortest scratch slice.

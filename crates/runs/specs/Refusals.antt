@@ -16,15 +16,18 @@ use Rattle.runs.specs.declared.ThermalSettings.{ThermalSettings}
 abbrev pub notShare : Float → Bool
 notShare x = outsideOf x (ofBits binary32 0) (ofBits binary32 0x3f80_0000)
 
--- water level finite, strength and talus 0 to 1, uplift -1 to 1, iterations 0 to 4,096
+-- of either run: water level finite, strength and talus 0 to 1, iterations 0 to 4,096
+abbrev pub badEither : Float → Float → Float → ℕ → Bool
+badEither water strength talus iterations = not (finite water) || (notShare strength || (notShare talus || ltb 4096 iterations))
+
+-- and uplift -1 to 1
 abbrev pub badFluvial : FluvialSettings → Bool
 badFluvial s =
-    not (finite (s .«water_level»))
-    || (notShare (s .strength)
-    || (notShare (s .talus) || (outsideOf (s .uplift) (neg (ofBits binary32 0x3f80_0000)) (ofBits binary32 0x3f80_0000) || ltb 4096 (s .iterations))))
+    outsideOf (s .uplift) (neg (ofBits binary32 0x3f80_0000)) (ofBits binary32 0x3f80_0000)
+    || badEither (s .«water_level») (s .strength) (s .talus) (s .iterations)
 
 abbrev pub badThermal : ThermalSettings → Bool
-badThermal s = not (finite (s .«water_level»)) || (notShare (s .talus) || (notShare (s .strength) || ltb 4096 (s .iterations)))
+badThermal s = badEither (s .«water_level») (s .strength) (s .talus) (s .iterations)
 
 -- the number of the refusal, 0 if there is none
 abbrev pub refusalBy : ℕ → ℕ → Bool → List Float → ℕ

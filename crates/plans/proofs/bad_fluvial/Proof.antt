@@ -1,46 +1,20 @@
-use borrow.Author.Tests.{not-false}
 use mathlib.Core.Path.{sym, _∙_}
 use borrow.Author.Needs.{needs}
 use Rattle.plans.proofs.bad_fluvial.Statement.{statement}
 use Rattle.plans.proofs.bad_fluvial.Tie as tie
 
-is-finite-requires : tie.Need-is-finite-requires
-is-finite-requires c κs = search needs
-
-returns : tie.Need-returns
-returns c = search needs
-
 outside-requires : tie.Need-outside-requires
 outside-requires c κs = search needs
 
+returns : tie.Need-returns
+returns c = rw (sym (c .before .outside .ensures) ∙ c .if1 .taken)
+
+bad-either-requires : tie.Need-bad-either-requires
+bad-either-requires c κs = search needs
+
 returns-2 : tie.Need-returns-2
-returns-2 c = rw (sym (c .before .before .before .is-finite .ensures) ∙ not-false _ (c .before .before .if1 .left), sym (c .before .outside .ensures) ∙ c .if2 .taken)
-
-outside-requires-2 : tie.Need-outside-requires-2
-outside-requires-2 c κs = search needs
-
-returns-3 : tie.Need-returns-3
-returns-3 c = rw (sym (c .before .before .before .before .before .is-finite .ensures) ∙ not-false _ (c .before .before .before .before .if1 .left), sym (c .before .before .before .outside .ensures) ∙ c .before .before .if2 .left, sym (c .before .outside2 .ensures) ∙ c .if3 .taken)
-
-outside-requires-3 : tie.Need-outside-requires-3
-outside-requires-3 c κs = search needs
-
-returns-4 : tie.Need-returns-4
-returns-4 c = rw (sym (c .before .before .before .before .before .before .before .is-finite .ensures) ∙ not-false _ (c .before .before .before .before .before .before .if1 .left), sym (c .before .before .before .before .before .outside .ensures) ∙ c .before .before .before .before .if2 .left, sym (c .before .before .before .outside2 .ensures) ∙ c .before .before .if3 .left, sym (c .before .outside3 .ensures) ∙ c .if4 .taken)
-
-returns-5 : tie.Need-returns-5
-returns-5 c = rw (sym (c .before .before .before .before .before .before .before .before .is-finite .ensures) ∙ not-false _ (c .before .before .before .before .before .before .before .if1 .left), sym (c .before .before .before .before .before .before .outside .ensures) ∙ c .before .before .before .before .before .if2 .left, sym (c .before .before .before .before .outside2 .ensures) ∙ c .before .before .before .if3 .left, sym (c .before .before .outside3 .ensures) ∙ c .before .if4 .left)
+returns-2 c = rw (sym (c .before .before .outside .ensures) ∙ c .before .if1 .left) (c .bad-either .ensures)
 
 pub bad-fluvial-spec : {M : Type 1} → statement M
 bad-fluvial-spec =
-    tie.close
-    (tie.spec
-    is-finite-requires
-    returns
-    outside-requires
-    returns-2
-    outside-requires-2
-    returns-3
-    outside-requires-3
-    returns-4
-    returns-5)
+    tie.close (tie.spec outside-requires returns bad-either-requires returns-2)

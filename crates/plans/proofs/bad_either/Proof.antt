@@ -1,8 +1,8 @@
 use borrow.Author.Tests.{not-false}
 use mathlib.Core.Path.{sym, _∙_}
 use borrow.Author.Needs.{needs}
-use Rattle.plans.proofs.bad_thermal.Statement.{statement}
-use Rattle.plans.proofs.bad_thermal.Tie as tie
+use Rattle.plans.proofs.bad_either.Statement.{statement}
+use Rattle.plans.proofs.bad_either.Tie as tie
 
 is-finite-requires : tie.Need-is-finite-requires
 is-finite-requires c κs = search needs
@@ -23,10 +23,10 @@ returns-3 : tie.Need-returns-3
 returns-3 c = rw (sym (c .before .before .before .before .before .is-finite .ensures) ∙ not-false _ (c .before .before .before .before .if1 .left), sym (c .before .before .before .outside .ensures) ∙ c .before .before .if2 .left, sym (c .before .outside2 .ensures) ∙ c .if3 .taken)
 
 returns-4 : tie.Need-returns-4
-returns-4 c = rw (sym (c .before .before .before .before .before .before .is-finite .ensures) ∙ not-false _ (c .before .before .before .before .before .if1 .left), sym (c .before .before .before .before .outside .ensures) ∙ c .before .before .before .if2 .left, sym (c .before .before .outside2 .ensures) ∙ c .before .if3 .left)
+returns-4 c = rw (sym (c .before .before .before .before .before .is-finite .ensures) ∙ not-false _ (c .before .before .before .before .if1 .left), sym (c .before .before .before .outside .ensures) ∙ c .before .before .if2 .left, sym (c .before .outside2 .ensures) ∙ c .if3 .left)
 
-pub bad-thermal-spec : {M : Type 1} → statement M
-bad-thermal-spec =
+pub bad-either-spec : {M : Type 1} → statement M
+bad-either-spec =
     tie.close
     (tie.spec
     is-finite-requires
