@@ -16,7 +16,7 @@ use thermal_erosion::ThermalParams;
 ghost use mathlib.Core.Path.{_≡_};
 ghost use Prim.Native.Nat.{_≤_};
 ghost use Rattle.answers.specs.Outcome.{answerOf};
-ghost use Rattle.runs.specs.Plan.{scaleOf, kOf, thresholdOf, passesOf, fluvialPlan, thermalPasses, thermalParams};
+ghost use Rattle.runs.specs.Plan.{scaleOf, kOf, thresholdOf, passesOf, slidesOf, fluvialPlan, thermalPasses, thermalParams};
 ghost use Rattle.runs.specs.Refusals.{badEither, badFluvial, badThermal};
 ghost use Rattle.plans.specs.Accepted.{refusalOn};
 
@@ -62,17 +62,26 @@ pub fn thermal_passes(work: Sides, conf: ThermalSettings) -> usize
     passes(conf.iterations, scale(work))
 }
 
+// What talus passes go by.
+fn slides(work: Sides, talus: f32, strength: f32, water: f32) -> ThermalParams
+    requires { ⌜ work .w ≤ 4096 ⌝ }
+    requires { ⌜ work .h ≤ 4096 ⌝ }
+    ensures { λ r. ⌜ r ≡ slidesOf (work .w) (work .h) talus strength water ⌝ }
+{
+    ThermalParams {
+        threshold: threshold(talus, scale(work)),
+        strength: strength,
+        water_level: water,
+    }
+}
+
 // What each of those passes goes by.
 pub fn thermal_plan(work: Sides, conf: ThermalSettings) -> ThermalParams
     requires { ⌜ work .w ≤ 4096 ⌝ }
     requires { ⌜ work .h ≤ 4096 ⌝ }
     ensures { λ r. ⌜ r ≡ thermalParams (work .w) (work .h) conf ⌝ }
 {
-    ThermalParams {
-        threshold: threshold(conf.talus, scale(work)),
-        strength: conf.strength,
-        water_level: conf.water_level,
-    }
+    slides(work, conf.talus, conf.strength, conf.water_level)
 }
 
 // The iterations of a fluvial run: 0 counts as 1.
@@ -115,11 +124,7 @@ pub fn talus_plan(work: Sides, conf: FluvialSettings) -> ThermalParams
     requires { ⌜ work .h ≤ 4096 ⌝ }
     ensures { λ r. ⌜ r ≡ fluvialPlan (work .w) (work .h) conf .slides ⌝ }
 {
-    ThermalParams {
-        threshold: threshold(conf.talus, scale(work)),
-        strength: 0.5,
-        water_level: conf.water_level,
-    }
+    slides(work, conf.talus, 0.5, conf.water_level)
 }
 
 // Refusal 4 of either run.

@@ -33,6 +33,10 @@ pub record Plan : Type 0 where
   pub cuts : FluvialParams
   pub slides : ThermalParams
 
+-- what talus passes go by on a w × h working grid
+abbrev pub slidesOf : ℕ → ℕ → Float → Float → Float → ThermalParams
+slidesOf w h talus strength water = record { threshold = thresholdOf talus (scaleOf w h); strength = strength; «water_level» = water }
+
 -- a fluvial run on a w × h working grid: 1 in place of iterations for its passes, talus strength 0.5; iterations 0 counts as 1
 abbrev pub fluvialPlan : ℕ → ℕ → FluvialSettings → Plan
 fluvialPlan w h s =
@@ -41,7 +45,7 @@ fluvialPlan w h s =
       iterations = max (s .iterations) 1;
       passes = passesOf 1 scale;
       cuts = record { k = kOf (s .strength) scale; uplift = s .uplift; «water_level» = s .«water_level» };
-      slides = record { threshold = thresholdOf (s .talus) scale; strength = ofBits binary32 0x3f00_0000; «water_level» = s .«water_level» };
+      slides = slidesOf w h (s .talus) (ofBits binary32 0x3f00_0000) (s .«water_level»);
     }
 
 -- the passes and the parameters of a thermal run
@@ -49,4 +53,4 @@ abbrev pub thermalPasses : ℕ → ℕ → ThermalSettings → ℕ
 thermalPasses w h s = passesOf (s .iterations) (scaleOf w h)
 
 abbrev pub thermalParams : ℕ → ℕ → ThermalSettings → ThermalParams
-thermalParams w h s = record { threshold = thresholdOf (s .talus) (scaleOf w h); strength = s .strength; «water_level» = s .«water_level» }
+thermalParams w h s = slidesOf w h (s .talus) (s .strength) (s .«water_level»)

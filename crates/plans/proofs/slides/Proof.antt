@@ -1,6 +1,6 @@
 use borrow.Author.Needs.{needs}
-use Rattle.plans.proofs.talus_plan.Statement.{statement}
-use Rattle.plans.proofs.talus_plan.Tie as tie
+use Rattle.plans.proofs.slides.Statement.{statement}
+use Rattle.plans.proofs.slides.Tie as tie
 
 scale-requires : tie.Need-scale-requires
 scale-requires c κs = search needs
@@ -11,5 +11,5 @@ threshold-requires c κs = search needs
 returns : tie.Need-returns
 returns c = rw (c .threshold .ensures, c .before .scale .ensures)
 
-pub talus-plan-spec : {M : Type 1} → statement M
-talus-plan-spec = tie.close (tie.spec scale-requires threshold-requires returns)
+pub slides-spec : {M : Type 1} → statement M
+slides-spec = tie.close (tie.spec scale-requires threshold-requires returns)
