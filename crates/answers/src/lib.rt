@@ -1,7 +1,7 @@
 // What every public call answers: a value, or one of document 01's refusals. specs/Outcome.antt gives each case the paper's
 // number and the values that it carries.
 ghost use mathlib.Core.Path.{_≡_};
-ghost use Rattle.answers.specs.Outcome.{outsideOf, numberOf, placeOf};
+ghost use Rattle.answers.specs.Outcome.{outsideOf, numberIn, placeIn, numberOf, placeOf, answerOf};
 
 // A refusal. Those that name a place carry it: the first bad cell, or the first bad position of a list.
 pub enum Refusal {
@@ -75,5 +75,25 @@ pub fn place(r: Refusal) -> usize
         Refusal::Cells => 0,
         Refusal::Stopped => 0,
         Refusal::RunOff => 0,
+    }
+}
+
+// The number of an answer, 0 if it is no refusal.
+pub fn answer_number(a: Answer) -> u32
+    ensures { λ n. ⌜ n ≡ numberIn (answerOf a) ⌝ }
+{
+    match a {
+        Answer::Done => 0,
+        Answer::Refused(r) => number(r),
+    }
+}
+
+// The place that an answer carries, 0 if it carries none.
+pub fn answer_place(a: Answer) -> usize
+    ensures { λ p. ⌜ p ≡ placeIn (answerOf a) ⌝ }
+{
+    match a {
+        Answer::Done => 0,
+        Answer::Refused(r) => place(r),
     }
 }

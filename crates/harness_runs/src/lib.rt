@@ -1,44 +1,24 @@
 // Whole runs by the C convention, for the oracle's bench and comparison: a slice passes as pointer and length, an answer is one u64
 // (specs/Exported.antt). No part of the public calls.
-use answers::Answer;
+use answers::answer_number;
+use answers::answer_place;
 use erosion::RunAnswer;
 use grid::Sides;
 use runs::FluvialSettings;
 use runs::ThermalSettings;
 ghost use mathlib.Core.Path.{_≡_};
-ghost use Rattle.answers.specs.Outcome.{numberIn, placeIn, answerOf};
 ghost use Rattle.thermal_run.specs.ThermalRun.{ThermalRun};
 ghost use Rattle.fluvial_run.specs.FluvialRun.{FluvialRun};
 ghost use Rattle.harness_runs.specs.Exported.{Exported, endWord};
-
-// Document 01's number of an answer, 0 if it is no refusal.
-fn number(a: Answer) -> u32
-    ensures { λ r. ⌜ r ≡ numberIn (answerOf a) ⌝ }
-{
-    match a {
-        Answer::Done => 0,
-        Answer::Refused(r) => answers::number(r),
-    }
-}
-
-// The place that a refusal carries, 0 if none does.
-fn place(a: Answer) -> usize
-    ensures { λ r. ⌜ r ≡ placeIn (answerOf a) ⌝ }
-{
-    match a {
-        Answer::Done => 0,
-        Answer::Refused(r) => answers::place(r),
-    }
-}
 
 // The end of a run in one word.
 fn ended(r: RunAnswer) -> u64
     ensures { λ w. ⌜ w ≡ endWord (r .answer) (r .incisions) (r .passes) (r .questions) ⌝ }
 {
     let answer = r.answer;
-    let high = number(answer) % 0x1_0000 * 0x1_0000 + r.incisions % 0x1_0000;
+    let high = answer_number(answer) % 0x1_0000 * 0x1_0000 + r.incisions % 0x1_0000;
     let counts = r.passes % 0x1_0000 * 0x1_0000 + r.questions % 0x1_0000;
-    let low = (place(answer) % 0x1_0000_0000 + counts as usize) % 0x1_0000_0000;
+    let low = (answer_place(answer) % 0x1_0000_0000 + counts as usize) % 0x1_0000_0000;
     high as u64 * 0x1_0000_0000 + low as u64
 }
 

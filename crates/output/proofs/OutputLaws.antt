@@ -13,8 +13,8 @@ use lib.Dec.{ltb}
 use lib.ListN.{length, length-append}
 use lib.Seq.{sets, length-sets}
 use lib.Ieee.{Float}
-use Rattle.answers.specs.Outcome.{numberOf}
-use Rattle.answers.specs.declared.Refusal.{Refusal}
+use Rattle.answers.specs.Outcome.{numberIn, answerOf}
+use Rattle.answers.specs.declared.Answer.{Answer}
 use Rattle.answers.proofs.OutcomeLaws.{refusal-by}
 use Rattle.stream_bytes.specs.Bytes.{bytes2, bytes4, gridMark, rowMark, endMark}
 use Rattle.words.specs.Words.{bitsAt}
@@ -23,8 +23,9 @@ use Rattle.stream_bytes.proofs.PutLaws.{sets-next}
 use Rattle.output.specs.Output.{gridRecord, heightBytes, rowRecord, rowRecords, endRecord, forInput}
 
 -- every number of document 01 is small
-pub number-fits : (r : Refusal) (n : ℕ) → n ≡ numberOf r → Fits w16 n
-number-fits r n e = record { fits = omega (arith, e, refusal-by (λ o n p. n < 23) (λ n l. l) (λ n p l. l) r) }
+pub number-fits : (a : Answer) (n : ℕ) → n ≡ numberIn (answerOf a) → Fits w16 n
+number-fits Answer.Done n e = record { fits = omega arith }
+number-fits (Answer.Refused r) n e = record { fits = omega (arith, e, refusal-by (λ o n p. n < 23) (λ n l. l) (λ n p l. l) r) }
 
 pub input-none : (n : ℕ) → n ≡ 0 → false ≡ forInput n
 input-none n e = sym (rw (le-ltb 0 n (omega arith)))

@@ -1,7 +1,7 @@
 // The output of document 01's stream: an answer and the map as bytes.
 use answers::Answer;
 use answers::Refusal;
-use answers::number;
+use answers::answer_number;
 use erosion::RunAnswer;
 use grid::Sides;
 use grid::bad_sides;
@@ -27,14 +27,11 @@ pub enum Written {
     Refused(Refusal),
 }
 
-// Document 01's number of an answer, 0 where the run is done.
-fn answer_number(a: Answer) -> u16
+// The number of an answer in two bytes.
+fn short_number(a: Answer) -> u16
     ensures { λ n. ⌜ n ≡ numberIn (answerOf a) ⌝ }
 {
-    match a {
-        Answer::Done => 0,
-        Answer::Refused(r) => number(r) as u16,
-    }
+    answer_number(a) as u16
 }
 
 // Whether a number is that of a refusal for the input.
@@ -100,7 +97,7 @@ pub fn write_output(size: Sides, map: &[f32], r: RunAnswer, out: &mut [u8]) -> W
     ensures { λ a. ⌜ Wrote (size .w) (size .h) (now (map .entry)) r (now (out .entry)) a (now (out .exit)) ⌝ }
 {
     let answer = r.answer;
-    let number = answer_number(answer);
+    let number = short_number(answer);
     if for_input(number) {
         if out.len() < 16 {
             return Written::Refused(Refusal::Length);

@@ -3,8 +3,8 @@ use borrow.Author.Needs.{needs}
 use Rattle.harness_runs.proofs.ended.Statement.{statement}
 use Rattle.harness_runs.proofs.ended.Tie as tie
 
-number-requires : tie.Need-number-requires
-number-requires c κs = search needs
+answer-number-requires : tie.Need-answer-number-requires
+answer-number-requires c κs = search needs
 
 mul-high : tie.Need-mul-high
 mul-high c = search needs
@@ -18,8 +18,8 @@ mul-counts c = search needs
 add-counts : tie.Need-add-counts
 add-counts c = search needs
 
-place-requires : tie.Need-place-requires
-place-requires c κs = search needs
+answer-place-requires : tie.Need-answer-place-requires
+answer-place-requires c κs = search needs
 
 cast-low : tie.Need-cast-low
 cast-low c = search needs
@@ -39,18 +39,18 @@ add-result c = search needs
 returns : tie.Need-returns
 returns c =
     end-word (c .before .before .before .before .before .args .r .answer) (c .before .before .before .before .before .args .r .incisions) (c .before .before .before .before .before .args .r .passes) (c .before .before .before .before .before .args .r .questions)
-    (c .before .before .before .before .number .ensures) (c .place .ensures)
+    (c .before .before .before .before .answer-number .ensures) (c .answer-place .ensures)
 
 pub ended-spec : {M : Type 1} → statement M
 ended-spec =
     tie.close
     (tie.spec
-    number-requires
+    answer-number-requires
     mul-high
     add-high
     mul-counts
     add-counts
-    place-requires
+    answer-place-requires
     cast-low
     add-low
     cast-result
