@@ -60,20 +60,27 @@ fn extent_word(e: Extent, greatest: bool) -> u64
     }
 }
 
-// `get_min_max`: the bits of min.
+// `get_min_max`: the bits of one end.
+fn end_word(v: &[f32], greatest: bool) -> u64
+    ensures { λ w. ⌜ w ≡ wordOf (endBits greatest) (getMinMaxAnswer (now (v .entry))) ⌝ }
+{
+    extent_word(generators::get_min_max(v), greatest)
+}
+
+// Of min.
 #[no_mangle]
 pub extern "C" fn harness_least(v: &[f32]) -> u64
     ensures { λ w. ⌜ w ≡ wordOf leastBits (getMinMaxAnswer (now (v .entry))) ⌝ }
 {
-    extent_word(generators::get_min_max(v), false)
+    end_word(v, false)
 }
 
-// `get_min_max`: the bits of max.
+// Of max.
 #[no_mangle]
 pub extern "C" fn harness_greatest(v: &[f32]) -> u64
     ensures { λ w. ⌜ w ≡ wordOf greatestBits (getMinMaxAnswer (now (v .entry))) ⌝ }
 {
-    extent_word(generators::get_min_max(v), true)
+    end_word(v, true)
 }
 
 // `normalize`.
