@@ -1,7 +1,7 @@
 -- The header of a whole stream, and the order in which a stream is refused.
-use Prim.Native.Nat.{ℕ, _+_, _*_, _≤_}
+use Prim.Native.Nat.{ℕ, _+_, _-_, _*_, _≤_}
 use mathlib.Core.Path.{_≡_, refl, sym, ap, subst, _∙_}
-use mathlib.Core.Bool.{Bool, true, false, not, _&&_, _||_, cond, true≢false}
+use mathlib.Core.Bool.{Bool, true, false, not, _&&_, _||_, cond}
 use mathlib.Core.List.{List}
 use native.Mathlib.Omega.{arith}
 use borrow.Author.Tests.{ltb-false, eqb-true, eqb-false, ne-eqb, eq-eqb, not-false}
@@ -13,11 +13,9 @@ use Rattle.grid.specs.Sides.{badSides, InRange}
 use Rattle.grid.specs.Heights.{firstNotFinite, allFinite}
 use Rattle.grid.specs.declared.Sides.{Sides}
 use Rattle.grid.proofs.SidesLaws.{good-sides}
-use Rattle.runs.specs.declared.FluvialSettings.{FluvialSettings}
-use Rattle.runs.specs.declared.ThermalSettings.{ThermalSettings}
 use Rattle.stream_bytes.specs.Bytes.{number4, fluvialMark, thermalMark, same, markAt, marked}
-use Rattle.stream.specs.Stream.{Parsed, sidesAt, settingsLength, rowsAt, rowAt, rowsMarked, fluvialAt, thermalAt, fluvialHeader, thermalHeader, headerAt, heightsAt, parsedOf, badGrid, badRest, badSettings, valuesOf, readStream, Framed, Whole}
-use Rattle.stream.specs.declared.Settings.the-variants.{Fluvial, Thermal}
+use Rattle.stream.specs.Stream.{Parsed, sidesAt, settingsLength, rowsAt, rowAt, rowsMarked, settingsAt, Recorded, headerAt, heightsAt, parsedOf, badGrid, badRest, badSettings, valuesOf, readStream, Framed, Whole}
+use Rattle.stream.specs.declared.Settings.{Settings}
 use Rattle.stream.specs.declared.Header.{Header}
 use Rattle.stream.proofs.RecordLaws.{settings-few}
 use Rattle.stream.proofs.CellLaws.{heights-length}
@@ -33,55 +31,34 @@ module _ {s : List ℕ} {w h : ℕ} (whole : Whole s w h) where
   filled-up : length s ≡ rowAt (rowsAt s) w h
   filled-up = eqb-true (length s) (rowAt (rowsAt s) w h) (not-false _ (neither _ _ (neither (eqb (settingsLength (markAt s 6)) 0) _ opened .1) .0))
 
-  -- the two kinds of settings record, by the mark
-  module _ {b : Bool} (e : b ≡ marked s 6 fluvialMark) where
-    rows-fluvial : b ≡ true → rowsAt s ≡ 36
-    rows-fluvial t = rw (sym e ∙ t)
-
-    pub room-fluvial : b ≡ true → 36 ≤ length s
-    room-fluvial t = omega (arith, rows-fluvial t, filled-up)
-
-    pub header-fluvial : b ≡ true → {size : Sides} {f : FluvialSettings} {stop : ℕ} → size ≡ sidesAt s → f ≡ fluvialAt s → stop ≡ number4 s 32
-        → _≡_ {A = Header} (record { size = size; settings = Fluvial f; stop = stop; rows = 36 }) (headerAt s)
-    unfolding headerAt
-    header-fluvial t {size} {f} {stop} a c d =
-        (λ i. record { size = a i; settings = Fluvial (c i); stop = d i; rows = sym (rows-fluvial t) i }) ∙ sym (rw (sym e ∙ t))
-
-    rows-thermal : b ≡ false → rowsAt s ≡ 32
-    rows-thermal t = go (same (markAt s 6) fluvialMark) (same (markAt s 6) thermalMark) (sym e ∙ t) some-settings
-      where
-        go : (f t : Bool) → f ≡ false → (_≡_ {A = ℕ} (cond f 28 (cond t 24 0)) 0 → ⊥) → _≡_ {A = ℕ} (8 + cond f 28 (cond t 24 0)) 32
-        go true t e d = absurd (true≢false e)
-        go false true e d = refl
-        go false false e d = absurd (d refl)
-
-    pub room-thermal : b ≡ false → 32 ≤ length s
-    room-thermal t = omega (arith, rows-thermal t, filled-up)
-
-    pub header-thermal : b ≡ false → {size : Sides} {f : ThermalSettings} {stop : ℕ} → size ≡ sidesAt s → f ≡ thermalAt s → stop ≡ number4 s 28
-        → _≡_ {A = Header} (record { size = size; settings = Thermal f; stop = stop; rows = 32 }) (headerAt s)
-    unfolding headerAt
-    header-thermal t {size} {f} {stop} a c d =
-        (λ i. record { size = a i; settings = Thermal (c i); stop = d i; rows = sym (rows-thermal t) i }) ∙ sym (rw (sym e ∙ t))
+  -- the settings record has a mark, and stands before the rows
+  pub whole-recorded : Recorded s
+  whole-recorded = record { some = go (same (markAt s 6) fluvialMark) (same (markAt s 6) thermalMark) some-settings; room = omega (arith, filled-up) }
+    where
+      go : (f t : Bool) → (_≡_ {A = ℕ} (cond f 28 (cond t 24 0)) 0 → ⊥) → 32 ≤ 8 + cond f 28 (cond t 24 0)
+      go true t d = omega arith
+      go false true d = omega arith
+      go false false d = absurd (d refl)
 
   whole-framed : Framed s (rowsAt s) w h
   whole-framed = record { begins = omega (arith, settings-few s (settingsLength (markAt s 6)) refl); sides = whole .sides; whole = filled-up }
 
+-- a settings record of 46 4C
+pub room-fluvial : (s : List ℕ) {b : Bool} → Recorded s → b ≡ marked s 6 fluvialMark → b ≡ true → 36 ≤ length s
+room-fluvial s r e t = let rows : rowsAt s ≡ 36 = rw (sym e ∙ t) in omega (arith, r .room)
+
+pub header-is : (s : List ℕ) {n stop : ℕ} {size : Sides} {f : Settings} → size ≡ sidesAt s → n ≡ settingsLength (markAt s 6) → f ≡ settingsAt s → stop ≡ number4 s (8 + n - 4)
+    → _≡_ {A = Header} (record { size = size; settings = f; stop = stop; rows = 8 + n }) (headerAt s)
+unfolding headerAt
+header-is s a e c d = λ i. record { size = a i; settings = c i; stop = (d ∙ ap (λ (k : ℕ). number4 s (8 + k - 4)) e) i; rows = 8 + e i }
+
 pub header-size : (s : List ℕ) → headerAt s .size ≡ sidesAt s
 unfolding headerAt
-header-size s = go (marked s 6 fluvialMark)
-  where
-    go : (b : Bool) → cond b (fluvialHeader s) (thermalHeader s) .size ≡ sidesAt s
-    go true = refl
-    go false = refl
+header-size s = refl
 
 header-rows : (s : List ℕ) → headerAt s .rows ≡ rowsAt s
 unfolding headerAt
-header-rows s = go (marked s 6 fluvialMark)
-  where
-    go : (b : Bool) → cond b (fluvialHeader s) (thermalHeader s) .rows ≡ rowsAt s
-    go true = refl
-    go false = refl
+header-rows s = refl
 
 -- 5, or the stream is accepted
 module _ (s : List ℕ) (head : Header) where

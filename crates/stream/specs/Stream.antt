@@ -1,5 +1,5 @@
 -- The reader of document 01, 'The stream': from bytes to the run that they ask for, or to a refusal.
-use Prim.Native.Nat.{ℕ, zero, suc, _+_, _*_, _≤_}
+use Prim.Native.Nat.{ℕ, zero, suc, _+_, _-_, _*_, _≤_}
 use mathlib.Core.Path.{_≡_}
 use mathlib.Core.Bool.{Bool, true, false, not, _&&_, _||_, cond}
 use mathlib.Core.List.{List}
@@ -49,9 +49,6 @@ fluvialAt s =
       «work_res» = number4 s 28;
     }
 
-abbrev pub fluvialHeader : List ℕ → Header
-fluvialHeader s = record { size = sidesAt s; settings = Fluvial (fluvialAt s); stop = number4 s 32; rows = rowsAt s }
-
 -- 54 48: water level, talus, strength, iterations, working side, S; four bytes each
 abbrev pub thermalAt : List ℕ → ThermalSettings
 thermalAt s =
@@ -63,11 +60,13 @@ thermalAt s =
       «work_res» = number4 s 24;
     }
 
-abbrev pub thermalHeader : List ℕ → Header
-thermalHeader s = record { size = sidesAt s; settings = Thermal (thermalAt s); stop = number4 s 28; rows = rowsAt s }
+-- the one or the other, by the mark
+abbrev pub settingsAt : List ℕ → Settings
+settingsAt s = cond (marked s 6 fluvialMark) (Fluvial (fluvialAt s)) (Thermal (thermalAt s))
 
+-- S is the last value of a settings record, so it stands before the rows
 unfoldable pub headerAt : List ℕ → Header
-headerAt s = cond (marked s 6 fluvialMark) (fluvialHeader s) (thermalHeader s)
+headerAt s = record { size = sidesAt s; settings = settingsAt s; stop = number4 s (rowsAt s - 4); rows = rowsAt s }
 
 -- h records 52 57 of w heights: where row y begins, if the rows begin at a place
 abbrev pub rowLength : ℕ → ℕ
@@ -125,6 +124,11 @@ readStream limited s =
     cond (badGrid s) (refused 8)
     (cond (badSides w h) (refused 1)
     (cond (limited && ltb 4096 (w * h)) (refused 9) (cond (badRest s w h) (refused 8) (valuesOf (parsedOf s (headerAt s))))))
+
+-- a stream that holds the whole of its settings record
+pub record Recorded (s : List ℕ) : Type 0 where
+  pub some : 32 ≤ rowsAt s
+  pub room : rowsAt s ≤ length s
 
 -- rows that fill the stream to its end, of a grid in range
 pub record Framed (s : List ℕ) (rows w h : ℕ) : Type 0 where

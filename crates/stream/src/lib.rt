@@ -19,7 +19,7 @@ ghost use lib.ListN.{length};
 ghost use Rattle.grid.specs.Sides.{InRange};
 ghost use Rattle.grid.specs.Heights.{firstNotFinite};
 ghost use Rattle.stream_bytes.specs.Bytes.{markAt};
-ghost use Rattle.stream.specs.Stream.{sidesAt, settingsLength, headerAt, rowLength, rowsMarked, heightsAt, parsedOf, badGrid, badRest, badSettings, Framed, Whole, fluvialAt, thermalAt, cellAt, valuesOf, readStream, readOf};
+ghost use Rattle.stream.specs.Stream.{sidesAt, settingsLength, settingsAt, Recorded, headerAt, rowLength, rowsMarked, heightsAt, parsedOf, badGrid, badRest, badSettings, Framed, Whole, fluvialAt, thermalAt, cellAt, valuesOf, readStream, readOf};
 
 // The mark of each record.
 pub const GRID: [u8; 2] = *b"GR";
@@ -157,25 +157,29 @@ fn read_thermal(bytes: &[u8]) -> ThermalSettings
     }
 }
 
+// The settings of the kind of run that the mark says.
+fn read_settings(bytes: &[u8]) -> Settings
+    requires { ⌜ Recorded (now bytes) ⌝ }
+    ensures { λ r. ⌜ r ≡ settingsAt (now (bytes .entry)) ⌝ }
+{
+    if has_mark(bytes, 6, &FLUVIAL) {
+        return Settings::Fluvial(read_fluvial(bytes));
+    }
+    Settings::Thermal(read_thermal(bytes))
+}
+
 // What the grid and settings records of a stream that is whole say.
 fn read_header(bytes: &[u8], size: Sides) -> Header
     requires { ⌜ size ≡ sidesAt (now bytes) ⌝ }
     requires { ⌜ Whole (now bytes) (size .w) (size .h) ⌝ }
     ensures { λ r. ⌜ r ≡ headerAt (now (bytes .entry)) ⌝ }
 {
-    if has_mark(bytes, 6, &FLUVIAL) {
-        return Header {
-            size: size,
-            settings: Settings::Fluvial(read_fluvial(bytes)),
-            stop: read_u32(bytes, 32),
-            rows: 36,
-        };
-    }
+    let rows = 8 + settings_length(bytes);
     Header {
         size: size,
-        settings: Settings::Thermal(read_thermal(bytes)),
-        stop: read_u32(bytes, 28),
-        rows: 32,
+        settings: read_settings(bytes),
+        stop: read_u32(bytes, rows - 4),
+        rows: rows,
     }
 }
 

@@ -1,38 +1,35 @@
 use native.Mathlib.Omega.{arith}
-use Rattle.stream.proofs.ReaderLaws.{room-fluvial, header-fluvial, room-thermal, header-thermal}
+use Rattle.stream.proofs.RecordLaws.{settings-few}
+use Rattle.stream.proofs.ReaderLaws.{whole-recorded, header-is}
 use borrow.Author.Needs.{needs}
 use Rattle.stream.proofs.read_header.Statement.{statement}
 use Rattle.stream.proofs.read_header.Tie as tie
 
-has-mark-requires : tie.Need-has-mark-requires
-has-mark-requires c κs = search needs
+settings-length-requires : tie.Need-settings-length-requires
+settings-length-requires c κs = search needs
 
-read-fluvial-requires : tie.Need-read-fluvial-requires
-read-fluvial-requires c κs = omega (arith, room-fluvial (c .before .before .before .before .pre .1) (c .before .has-mark .ensures) (c .if1 .taken))
+add-rows : tie.Need-add-rows
+add-rows c = omega (arith, settings-few (c .before .before .args .bytes .now) _ (c .settings-length .ensures))
+
+read-settings-requires : tie.Need-read-settings-requires
+read-settings-requires c κs = whole-recorded (c .before .before .pre .1)
+
+sub-read-u32 : tie.Need-sub-read-u32
+sub-read-u32 c = search needs
 
 read-u32-requires : tie.Need-read-u32-requires
-read-u32-requires c κs = omega (arith, room-fluvial (c .before .before .before .before .before .pre .1) (c .before .before .has-mark .ensures) (c .before .if1 .taken))
+read-u32-requires c κs = let r = whole-recorded (c .before .before .before .pre .1) in omega (arith, r .some, r .room, c .before .settings-length .ensures)
 
 returns : tie.Need-returns
-returns c = header-fluvial (c .before .before .before .before .before .before .pre .1) (c .before .before .before .has-mark .ensures) (c .before .before .if1 .taken) (c .before .before .before .before .before .before .pre .0) (c .before .read-fluvial .ensures) (c .read-u32 .ensures)
-
-read-thermal-requires : tie.Need-read-thermal-requires
-read-thermal-requires c κs = omega (arith, room-thermal (c .before .before .before .before .pre .1) (c .before .has-mark .ensures) (c .if1 .left))
-
-read-u32-requires-2 : tie.Need-read-u32-requires-2
-read-u32-requires-2 c κs = omega (arith, room-thermal (c .before .before .before .before .before .pre .1) (c .before .before .has-mark .ensures) (c .before .if1 .left))
-
-returns-2 : tie.Need-returns-2
-returns-2 c = header-thermal (c .before .before .before .before .before .before .pre .1) (c .before .before .before .has-mark .ensures) (c .before .before .if1 .left) (c .before .before .before .before .before .before .pre .0) (c .before .read-thermal .ensures) (c .read-u322 .ensures)
+returns c = header-is (c .before .before .before .before .args .bytes .now) (c .before .before .before .before .pre .0) (c .before .before .settings-length .ensures) (c .before .read-settings .ensures) (c .read-u32 .ensures)
 
 pub read-header-spec : {M : Type 1} → statement M
 read-header-spec =
     tie.close
     (tie.spec
-    has-mark-requires
-    read-fluvial-requires
+    settings-length-requires
+    add-rows
+    read-settings-requires
+    sub-read-u32
     read-u32-requires
-    returns
-    read-thermal-requires
-    read-u32-requires-2
-    returns-2)
+    returns)
