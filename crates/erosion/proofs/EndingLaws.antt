@@ -35,8 +35,9 @@ ending-refused why early o map ran e f g = ap (λ (r : RunAnswer). endedWith r m
 pub done-accepts : {early : Answer} {o : Outcome (Unit {0})} → answerOf early ≡ o → early ≡ Answer.Done → o ≡ gives tt
 done-accepts f e = sym f ∙ ap answerOf e
 
-pub accepts-all : {o : Outcome (Unit {0})} → o ≡ gives tt → accepted o ≡ false → ⊥
-accepts-all e z = true≢false (sym (ap accepted e) ∙ z)
+-- so what is kept where one is refused need not be
+pub done-keeps : {early : Answer} {o : Outcome (Unit {0})} → answerOf early ≡ o → early ≡ Answer.Done → {A : Type 0} {x y : A} → accepted o ≡ false → x ≡ y
+done-keeps f e z = absurd (true≢false (sym (ap accepted (done-accepts f e)) ∙ z))
 
 -- a run that was accepted
 pub ending-ran : (r : Reached) (a : RunAnswer) (o : Outcome (Unit {0})) (old map : List Float) (ran : Ran)

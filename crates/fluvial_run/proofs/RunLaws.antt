@@ -8,7 +8,7 @@ use native.Mathlib.Omega.{arith}
 use lib.ListN.{take}
 use lib.Seq.{length-take-le}
 use lib.Ieee.{Float}
-use Rattle.answers.specs.Outcome.{Outcome, gives, answerOf}
+use Rattle.answers.specs.Outcome.{Outcome, answerOf}
 use Rattle.answers.specs.declared.Answer.{Answer}
 use Rattle.answers.specs.declared.Refusal.{Refusal}
 use Rattle.grid.specs.Sides.{InRange}
@@ -28,10 +28,10 @@ use Rattle.plans.specs.Accepted.{refusalOn}
 use Rattle.plans.proofs.RefusalLaws.{accepted-by}
 use Rattle.plans.proofs.InputLaws.{within-range, within-cells, decided-by, accepted-within, fluvial-iterations}
 use Rattle.erosion.specs.Reached.{ranBy}
-use Rattle.erosion.specs.Ending.{accepted, refusedTo, Answered}
+use Rattle.erosion.specs.Ending.{refusedTo, Answered}
 use Rattle.erosion.specs.declared.Reached.{Reached}
 use Rattle.erosion.specs.declared.RunAnswer.{RunAnswer}
-use Rattle.erosion.proofs.EndingLaws.{ending-refused, ending-ran, done-accepts, accepts-all}
+use Rattle.erosion.proofs.EndingLaws.{ending-refused, ending-ran, done-accepts, done-keeps}
 use Rattle.fluvial_loop.specs.Loops.{planOf, courseBy}
 use Rattle.fluvial_loop.specs.declared.FluvialPlan.{FluvialPlan}
 use Rattle.fluvial_grid.specs.Grids.{scratchOf, Erodes}
@@ -92,14 +92,8 @@ module _ (w h : ℕ) (conf : FluvialSettings) (stop : ℕ) (map small eroded cop
   }
 
   module _ {early : Answer} (f : answerOf early ≡ outcome) (e : early ≡ Answer.Done) where
-    accepts : outcome ≡ gives tt
-    accepts = done-accepts f e
-
-    not-refused : accepted outcome ≡ false → ⊥
-    not-refused = accepts-all accepts
-
     pub run-accepted : Input.Accepted w h (badFluvial conf) map (shortestOf lengths)
-    run-accepted = accepted-by w h (badFluvial conf) map _ accepts
+    run-accepted = accepted-by w h (badFluvial conf) map _ (done-accepts f e)
 
     module _ {work : Sides} (g : work ≡ workSize w h (conf .«work_res»)) where
       pub run-within : Within w h (work .w) (work .h)
@@ -158,13 +152,13 @@ module _ (w h : ℕ) (conf : FluvialSettings) (stop : ℕ) (map small eroded cop
             → FluvialRun w h conf stop map small eroded copy area order recv queue status a map′ small′ eroded′ copy′ area′ order′ recv′ queue′ status′
         run-done {r} {a} map′ small′ eroded′ copy′ area′ order′ recv′ queue′ status′ s t =
             record {
-              ended = ending-ran r a outcome map map′ (runBy w h conf stop ours map) s (t ∙ whole-is) accepts;
-              small-kept = λ z. absurd (not-refused z);
-              eroded-kept = λ z. absurd (not-refused z);
-              copy-kept = λ z. absurd (not-refused z);
-              area-kept = λ z. absurd (not-refused z);
-              order-kept = λ z. absurd (not-refused z);
-              recv-kept = λ z. absurd (not-refused z);
-              queue-kept = λ z. absurd (not-refused z);
-              status-kept = λ z. absurd (not-refused z);
+              ended = ending-ran r a outcome map map′ (runBy w h conf stop ours map) s (t ∙ whole-is) (done-accepts f e);
+              small-kept = done-keeps f e;
+              eroded-kept = done-keeps f e;
+              copy-kept = done-keeps f e;
+              area-kept = done-keeps f e;
+              order-kept = done-keeps f e;
+              recv-kept = done-keeps f e;
+              queue-kept = done-keeps f e;
+              status-kept = done-keeps f e;
             }

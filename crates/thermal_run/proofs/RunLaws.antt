@@ -7,7 +7,7 @@ use native.Mathlib.Omega.{arith}
 use lib.ListN.{length}
 use lib.Dec.{eqb}
 use lib.Ieee.{Float}
-use Rattle.answers.specs.Outcome.{Outcome, gives, answerOf}
+use Rattle.answers.specs.Outcome.{Outcome, answerOf}
 use Rattle.answers.specs.declared.Answer.{Answer}
 use Rattle.answers.specs.declared.Refusal.{Refusal}
 use Rattle.grid.specs.declared.Sides.{Sides}
@@ -23,10 +23,10 @@ use Rattle.plans.specs.Accepted.{refusalOn, Accepted}
 use Rattle.plans.proofs.RefusalLaws.{accepted-by}
 use Rattle.plans.proofs.InputLaws.{within-range, within-cells, own-cells, decided-by, accepted-within, thermal-iterations}
 use Rattle.erosion.specs.Reached.{ranBy}
-use Rattle.erosion.specs.Ending.{accepted, refusedTo, Numbered, Answered}
+use Rattle.erosion.specs.Ending.{refusedTo, Numbered, Answered}
 use Rattle.erosion.specs.declared.Reached.{Reached}
 use Rattle.erosion.specs.declared.RunAnswer.{RunAnswer}
-use Rattle.erosion.proofs.EndingLaws.{done-accepts, accepts-all, ending-refused, ending-ran}
+use Rattle.erosion.proofs.EndingLaws.{done-accepts, done-keeps, ending-refused, ending-ran}
 use Rattle.erosion.proofs.WholeLaws.{wholeRun, whole-run, run-numbered}
 use Rattle.thermal_run.specs.ThermalRun.{inputRefusal, ThermalRun, Slides, Reduces, Erodes}
 
@@ -80,14 +80,8 @@ module _ (w h : ℕ) (conf : ThermalSettings) (stop : ℕ) (map small eroded cop
   }
 
   module _ {early : Answer} (f : answerOf early ≡ outcome) (e : early ≡ Answer.Done) where
-    accepts : outcome ≡ gives tt
-    accepts = done-accepts f e
-
-    not-refused : accepted outcome ≡ false → ⊥
-    not-refused = accepts-all accepts
-
     pub run-accepted : Accepted w h (badThermal conf) map (min (length small) (min (length eroded) (length copy)))
-    run-accepted = accepted-by w h (badThermal conf) map _ accepts
+    run-accepted = accepted-by w h (badThermal conf) map _ (done-accepts f e)
 
     module _ {work : Sides} (g : work ≡ workSize w h (conf .«work_res»)) where
       pub run-within : Within w h (work .w) (work .h)
@@ -124,8 +118,8 @@ module _ (w h : ℕ) (conf : ThermalSettings) (stop : ℕ) (map small eroded cop
               → ThermalRun w h conf stop map small eroded copy a map′ small′ eroded′ copy′
           run-done {r} {a} map′ small′ eroded′ copy′ s t =
               record {
-                ended = ending-ran r a outcome map map′ (thermalRun w h conf stop map) s (t ∙ whole-is) accepts;
-                small-kept = λ z. absurd (not-refused z);
-                eroded-kept = λ z. absurd (not-refused z);
-                copy-kept = λ z. absurd (not-refused z);
+                ended = ending-ran r a outcome map map′ (thermalRun w h conf stop map) s (t ∙ whole-is) (done-accepts f e);
+                small-kept = done-keeps f e;
+                eroded-kept = done-keeps f e;
+                copy-kept = done-keeps f e;
               }
