@@ -1,5 +1,5 @@
-//! The first part of the list of replay_passes: incision along lent receivers and lists.
-use crate::list::{call::INCISE, List};
+//! The third part of the list: incision along lent receivers and lists.
+use crate::list::{self, call::INCISE, result, word, List, Slices};
 use crate::random::Random;
 use crate::rules::passes::incise as ask_incise;
 use crate::rules::Sides;
@@ -22,17 +22,14 @@ struct Task {
 }
 
 fn incise(l: &mut List, t: &Task) {
-    l.ask(&[INCISE]);
-    l.ask(&words(t.size));
-    l.ask_floats(&[t.s.k, t.s.uplift, t.s.water_level, FILL]);
-    l.ask(&[t.out, t.area, t.h.len(), t.recv.len(), t.list.len()].map(|n| n as u32));
-    l.ask_floats(&t.h);
-    l.ask(&t.recv);
-    l.ask(&t.list);
     let mut out = vec![FILL; t.out];
+    let floats = Slices::of([&t.h, &out, &vec![FILL; t.area]]);
+    let lent = Slices { cells: [t.recv.clone(), t.list.clone()], ..floats };
     let a = ask_incise(t.size, &t.h, &t.s, &t.recv, &t.list, &mut out, t.area);
-    l.answer("incise", &a);
-    l.give_result(&a, &out);
+    l.ended("incise", &a);
+    let settings = [t.s.k, t.s.uplift, t.s.water_level];
+    let task = list::Task { lent, ..list::Task::of(INCISE, &words(t.size), &settings) };
+    l.plain(&task, word(&a, |_| 0), &Slices::of([&[], result(&a, &out)]));
 }
 
 /// The neighbours of a cell.

@@ -1,5 +1,5 @@
-//! The oracle: the published Rust source behind document 01's refusals. `oracle lists CRATES` writes the replay lists into
-//! the crates folder, `oracle verify CRATES` says whether the files there are those lists, and `oracle powf` counts the
+//! The oracle: the published Rust source behind document 01's refusals. `oracle list CRATES` writes the replay list into
+//! the crates folder, `oracle verify CRATES` says whether the files there are that list, and `oracle powf` counts the
 //! floats on which `powf` with 0.5 is not the square root. `oracle relief` answers the stream on standard input as document 01's program does.
 mod counts;
 mod incisions;
@@ -23,38 +23,29 @@ use std::io::{Read, Write};
 use std::path::Path;
 use std::process::ExitCode;
 
-/// One seed for all lists.
+/// One seed for all parts of the list.
 const SEED: u64 = 7_616_167;
 
 fn main() -> ExitCode {
     let args: Vec<String> = std::env::args().skip(1).collect();
     let words: Vec<&str> = args.iter().map(String::as_str).collect();
-    let lists = || {
-        [
-            list::of("replay_maps", SEED, [maps::list, numbers::list]),
-            list::of("replay_passes", SEED, [passes::list, routes::list]),
-            list::of("replay_runs", SEED, [runs::list, streams::list]),
-        ]
-    };
+    let list = || list::of(SEED, &[maps::list, numbers::list, passes::list, routes::list, runs::list, streams::list]);
     match words.as_slice() {
-        ["lists", crates] => {
-            for l in lists() {
-                if let Err(e) = l.write(Path::new(crates)) {
-                    eprintln!("cannot write below {crates}: {e}");
-                    return ExitCode::FAILURE;
-                }
-                print!("{}", l.summary());
+        ["list", crates] => {
+            let l = list();
+            if let Err(e) = l.write(Path::new(crates)) {
+                eprintln!("cannot write below {crates}: {e}");
+                return ExitCode::FAILURE;
             }
+            print!("{}", l.summary());
             ExitCode::SUCCESS
         }
         ["verify", crates] => {
-            for l in lists() {
-                if !matches!(l.stands(Path::new(crates)), Ok(true)) {
-                    eprintln!("the files below {crates} are not the lists that the oracle makes");
-                    return ExitCode::FAILURE;
-                }
+            if !matches!(list().stands(Path::new(crates)), Ok(true)) {
+                eprintln!("the files below {crates} are not the list that the oracle makes");
+                return ExitCode::FAILURE;
             }
-            println!("the lists stand as the oracle makes them");
+            println!("the list stands as the oracle makes it");
             ExitCode::SUCCESS
         }
         ["relief"] => {
@@ -74,7 +65,7 @@ fn main() -> ExitCode {
             ExitCode::SUCCESS
         }
         _ => {
-            eprintln!("usage: oracle lists CRATES | oracle verify CRATES | oracle powf");
+            eprintln!("usage: oracle list CRATES | oracle verify CRATES | oracle powf");
             ExitCode::FAILURE
         }
     }

@@ -1,5 +1,5 @@
-//! The first part of the list of replay_maps: extent and normalisation of a map, block average, bilinear sample and sum.
-use crate::list::{call, List};
+//! The first part of the list: extent and normalisation of a map, block average, bilinear sample and sum.
+use crate::list::{bits, call, word, List, Slices, Task};
 use crate::random::Random;
 use crate::rules::{self, Sides};
 use crate::terrain::fault::{COORDINATE, HEIGHT, LENGTH, OTHER_LENGTH, REDUCED, SIDE};
@@ -13,21 +13,20 @@ pub fn list(l: &mut List, r: &mut Random) {
 }
 
 fn get_min_max(l: &mut List, v: &[f32]) {
-    l.ask(&[call::GET_MIN_MAX, v.len() as u32]);
-    l.ask_floats(v);
     let a = rules::get_min_max(v);
-    l.answer("get_min_max", &a);
-    let (min, max) = a.unwrap_or((0.0, 0.0));
-    l.give_floats(&[min, max]);
+    l.ended("get_min_max", &a);
+    let lent = Slices::of([v]);
+    let least = Task { lent, ..Task::of(call::LEAST, &[], &[]) };
+    l.plain(&least, word(&a, |x| bits(x.0)), &Slices::default());
+    l.plain(&Task { call: call::GREATEST, ..least }, word(&a, |x| bits(x.1)), &Slices::default());
 }
 
 fn normalize(l: &mut List, v: &[f32], lo: f32, hi: f32) {
-    l.ask(&[call::NORMALIZE, lo.to_bits(), hi.to_bits(), v.len() as u32]);
-    l.ask_floats(v);
     let mut out = v.to_vec();
     let a = rules::normalize(&mut out, lo, hi);
-    l.answer("normalize", &a);
-    l.give_floats(&out);
+    l.ended("normalize", &a);
+    let t = Task { lent: Slices::of([v]), ..Task::of(call::NORMALIZE, &[], &[lo, hi]) };
+    l.plain(&t, word(&a, |_| 0), &Slices::of([&out]));
 }
 
 fn extents(l: &mut List, r: &mut Random) {
@@ -77,38 +76,28 @@ fn reduced(r: &mut Random, size: Sides) -> Sides {
 }
 
 fn downsample(l: &mut List, src: &[f32], size: Sides, len: usize, small: Sides) {
-    l.ask(&[call::DOWNSAMPLE]);
-    l.ask(&words(size));
-    l.ask(&words(small));
-    l.ask(&[FILL.to_bits(), len as u32, src.len() as u32]);
-    l.ask_floats(src);
     let mut dst = vec![FILL; len];
+    let lent = Slices::of([src, &dst]);
     let a = rules::downsample(src, size, &mut dst, small);
-    l.answer("downsample", &a);
-    l.give_floats(&dst);
+    l.ended("downsample", &a);
+    let t = Task { lent, ..Task::of(call::DOWNSAMPLE, &[words(size), words(small)].concat(), &[]) };
+    l.plain(&t, word(&a, |_| 0), &Slices::of([&[], &dst]));
 }
 
 fn add_upsampled(l: &mut List, map: &[f32], size: Sides, delta: &[f32], small: Sides) {
-    l.ask(&[call::ADD_UPSAMPLED]);
-    l.ask(&words(size));
-    l.ask(&words(small));
-    l.ask(&[map.len() as u32, delta.len() as u32]);
-    l.ask_floats(map);
-    l.ask_floats(delta);
     let mut out = map.to_vec();
     let a = rules::add_upsampled(&mut out, size, delta, small);
-    l.answer("add_upsampled", &a);
-    l.give_floats(&out);
+    l.ended("add_upsampled", &a);
+    let lent = Slices::of([map, delta]);
+    let t = Task { lent, ..Task::of(call::ADD_UPSAMPLED, &[words(size), words(small)].concat(), &[]) };
+    l.plain(&t, word(&a, |_| 0), &Slices::of([&out]));
 }
 
 fn bilinear(l: &mut List, v: &[f32], x: f32, y: f32, size: Sides) {
-    l.ask(&[call::BILINEAR]);
-    l.ask(&words(size));
-    l.ask(&[x.to_bits(), y.to_bits(), v.len() as u32]);
-    l.ask_floats(v);
     let a = rules::bilinear(v, x, y, size);
-    l.answer("bilinear", &a);
-    l.give_floats(&[a.unwrap_or(0.0)]);
+    l.ended("bilinear", &a);
+    let t = Task { lent: Slices::of([v]), ..Task::of(call::BILINEAR, &words(size), &[x, y]) };
+    l.plain(&t, word(&a, |x| bits(*x)), &Slices::default());
 }
 
 /// each set of faults is tried so often

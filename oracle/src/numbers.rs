@@ -1,5 +1,5 @@
-//! The second part of the list of replay_maps: the square root, the working sides, the stop marks.
-use crate::list::{call, List};
+//! The second part of the list: the square root, the working sides, the stop marks.
+use crate::list::{bits, call, word, List, Slices, Task};
 use crate::random::Random;
 use crate::rules;
 use crate::source::Record;
@@ -10,11 +10,11 @@ pub fn list(l: &mut List, r: &mut Random) {
     reports(l, r);
 }
 
-fn root(l: &mut List, bits: u32) {
-    l.ask(&[call::ROOT, bits]);
-    let a = rules::root(f32::from_bits(bits));
-    l.answer("root", &a);
-    l.give_floats(&[a.unwrap_or(0.0)]);
+fn root(l: &mut List, operand: u32) {
+    let x = f32::from_bits(operand);
+    let a = rules::root(x);
+    l.ended("root", &a);
+    l.plain(&Task::of(call::ROOT, &[], &[x]), word(&a, |r| bits(*r)), &Slices::default());
 }
 
 fn roots(l: &mut List, r: &mut Random) {
@@ -57,11 +57,10 @@ fn roots(l: &mut List, r: &mut Random) {
 }
 
 fn work_size(l: &mut List, w: u32, h: u32, res: u32) {
-    l.ask(&[call::WORK_SIZE, w, h, res]);
     let a = rules::work_size((w as usize, h as usize), res);
-    l.answer("work_size", &a);
-    let (ww, wh) = a.unwrap_or((0, 0));
-    l.give(&[ww as u32, wh as u32]);
+    l.ended("work_size", &a);
+    let sides = word(&a, |s| (s.0 * 0x1_0000 + s.1) as u32);
+    l.plain(&Task::of(call::WORK_SIZE, &[w, h, res], &[]), sides, &Slices::default());
 }
 
 /// Whether the exact side × res / longest, rounded half away from zero, is another number than the binary32 one.
@@ -115,12 +114,10 @@ fn work_sizes(l: &mut List, r: &mut Random) {
 }
 
 fn report(l: &mut List, m: Record, p: f32, stop: u32) -> Record {
-    l.ask(&[call::REPORT, m.last.to_bits(), m.asked, m.stopped as u32, p.to_bits(), stop]);
     let (a, next) = rules::report(m, p, stop);
-    l.answer("report", &a);
-    l.give(&[a.unwrap_or(false) as u32]);
-    l.give_floats(&[next.last]);
-    l.give(&[next.asked, next.stopped as u32]);
+    l.ended("report", &a);
+    let t = Task { record: m, ..Task::of(call::REPORT, &[0, 0, stop], &[p]) };
+    l.task(&t, word(&a, |go| *go as u32), next, &Slices::default());
     next
 }
 

@@ -1,4 +1,4 @@
-//! The first parts of the list of replay_passes: incision and talus as direct calls.
+//! The third part of the list: incision and talus as direct calls.
 use crate::incisions::incisions;
 use crate::list::List;
 use crate::random::Random;

@@ -1,4 +1,4 @@
-//! A small generator of pseudo-random numbers (SplitMix64), so that the lists are the same on every machine.
+//! A small generator of pseudo-random numbers (SplitMix64), so that the list is the same on every machine.
 pub struct Random {
     state: u64,
 }

@@ -1,12 +1,12 @@
-//! The last part of the list of replay_passes: the network of a map, answered by the source's `FlowNet::route` itself.
-use crate::list::{call::ROUTE, List};
+//! The fourth part of the list: the network of a map, answered by the source's `FlowNet::route` itself.
+use crate::list::{call::ROUTE, scratch_numbers, word, List, Slices, Task};
 use crate::random::Random;
 use crate::rules::passes::{route as ask_route, RouteRoom};
 use crate::rules::Sides;
 use crate::terrain::fault::{HEIGHT, LENGTH, ROOM, SETTING, SIDE};
 use crate::terrain::{
-    bad_length, bad_sides, faults, grid, map, not_finite, relief, some_spoilt, spoilt, water, words, FILL, KINDS,
-    RELIEFS, TINY,
+    bad_length, bad_sides, faults, grid, map, not_finite, relief, some_spoilt, spoilt, water, FILL, KINDS, RELIEFS,
+    TINY,
 };
 
 pub fn list(l: &mut List, r: &mut Random) {
@@ -16,28 +16,22 @@ pub fn list(l: &mut List, r: &mut Random) {
 }
 
 fn route(l: &mut List, size: Sides, h: &[f32], water_level: f32, room: RouteRoom) {
-    let lens = [room.order, room.recv, room.spill, room.area, room.queue, room.status];
-    l.ask(&[ROUTE]);
-    l.ask(&words(size));
-    l.ask(&[water_level.to_bits(), FILL.to_bits()]);
-    l.ask(&lens.map(|n| n as u32));
-    l.ask(&[h.len() as u32]);
-    l.ask_floats(h);
+    let lent = Slices {
+        floats: [h.to_vec(), vec![FILL; room.spill], vec![FILL; room.area]],
+        cells: [room.order, room.recv].map(|n| vec![FILL.to_bits(); n]),
+    };
+    let numbers = scratch_numbers(size, [0; 3], &[room.queue, room.status]);
     let a = ask_route(size, h, water_level, room);
-    l.answer("route", &a);
-    match a {
-        Ok(net) => {
-            l.give(&net.order);
-            l.give(&net.recv);
-            l.give_floats(&net.spill);
-            l.give_floats(&net.area);
-        }
+    l.ended("route", &a);
+    let told = word(&a, |_| 0);
+    let shown = match a {
+        Ok(net) => Slices { floats: [Vec::new(), net.spill, net.area], cells: [net.order, net.recv] },
         Err(_) => {
-            for n in &lens[..4] {
-                l.give(&vec![FILL.to_bits(); *n]);
-            }
+            let [_, spill, area] = lent.floats.clone();
+            Slices { floats: [Vec::new(), spill, area], cells: lent.cells.clone() }
         }
-    }
+    };
+    l.plain(&Task { lent, ..Task::of(ROUTE, &numbers, &[water_level]) }, told, &shown);
 }
 
 /// Result slices of n cells, scratch of that or a little more.

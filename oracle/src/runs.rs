@@ -1,7 +1,8 @@
-//! The first part of the list of replay_runs: whole fluvial and thermal runs.
+//! The fifth part of the list: whole fluvial and thermal runs.
 use crate::list::{
+    self,
     call::{FLUVIAL, THERMAL},
-    List,
+    List, Slices,
 };
 use crate::random::Random;
 use crate::rules::runs::{gen_fluvial_erosion, gen_thermal_erosion, Run};
@@ -9,8 +10,8 @@ use crate::rules::Sides;
 use crate::source::erosion::Settings;
 use crate::terrain::fault::{HEIGHT, LENGTH, ROOM, SETTING, SIDE};
 use crate::terrain::{
-    bad_length, bad_sides, faults, grid, not_finite, outside, relief, spoilt, water, words, EXTREME, FILL, KINDS,
-    RELIEFS, TINY,
+    bad_length, bad_sides, faults, grid, not_finite, outside, relief, spoilt, water, EXTREME, FILL, KINDS, RELIEFS,
+    TINY,
 };
 
 /// how many scratch slices a run is lent: four of floats and four of whole numbers, or three of floats
@@ -44,30 +45,29 @@ impl Task {
     }
 }
 
+/// The end of a run in one word, 16 bits each: number, incisions, passes, questions. A refusal that carries a place has no counts.
+fn word(ended: &Run) -> u64 {
+    let (number, place) = ended.answer.as_ref().map_or_else(|r| (r.number, r.place), |_| (0, 0));
+    let c = &ended.counts;
+    let upper = number << 16 | c.incisions & 0xffff;
+    let lower = (c.passes << 16 | c.questions & 0xffff).wrapping_add(place);
+    u64::from(upper) << 32 | u64::from(lower)
+}
+
 fn run(l: &mut List, t: &Task) -> Run {
     let s = &t.s;
-    l.ask(&[t.call]);
-    l.ask(&words(t.size));
-    if t.call == FLUVIAL {
-        l.ask_floats(&[s.water_level, s.strength, s.talus, s.uplift]);
-    } else {
-        l.ask_floats(&[s.water_level, s.talus, s.strength]);
-    }
-    l.ask(&[s.iterations, s.work_res, t.stop, FILL.to_bits()]);
-    for n in &t.room {
-        l.ask(&[*n as u32]);
-    }
-    l.ask(&[t.map.len() as u32]);
-    l.ask_floats(&t.map);
     let mut map = t.map.clone();
-    let (name, ended) = if t.call == FLUVIAL {
-        ("gen_fluvial_erosion", gen_fluvial_erosion(t.size, &mut map, s, t.stop, &t.room))
+    let (name, floats, ended) = if t.call == FLUVIAL {
+        let ended = gen_fluvial_erosion(t.size, &mut map, s, t.stop, &t.room);
+        ("gen_fluvial_erosion", [s.water_level, s.strength, s.talus, s.uplift, FILL], ended)
     } else {
-        ("gen_thermal_erosion", gen_thermal_erosion(t.size, &mut map, s, t.stop, &t.room))
+        let ended = gen_thermal_erosion(t.size, &mut map, s, t.stop, &t.room);
+        ("gen_thermal_erosion", [s.water_level, s.talus, s.strength, 0.0, FILL], ended)
     };
-    l.answer(name, &ended.answer);
-    l.give(&[ended.counts.incisions, ended.counts.passes, ended.counts.questions]);
-    l.give_floats(&map);
+    let numbers = list::scratch_numbers(t.size, [t.stop, s.iterations, s.work_res], &t.room);
+    l.ended(name, &ended.answer);
+    let task = list::Task { lent: Slices::of([&t.map]), ..list::Task::of(t.call, &numbers, &floats) };
+    l.plain(&task, word(&ended), &Slices::of([&map]));
     if let Some(place) = ended.ran_off {
         l.note(name, place);
     }

@@ -1,5 +1,5 @@
-//! The second part of the list of replay_passes: single talus passes with their stop marks.
-use crate::list::{call::SLIDE_PASS, List};
+//! The third part of the list, behind the incisions: single talus passes with their stop marks.
+use crate::list::{self, call::SLIDE_PASS, result, word, List, Slices};
 use crate::random::Random;
 use crate::rules::passes::slide_pass as ask_slide_pass;
 use crate::rules::Sides;
@@ -20,20 +20,15 @@ struct Task {
 
 /// The record after the call.
 fn slide_pass(l: &mut List, t: &Task) -> Record {
-    l.ask(&[SLIDE_PASS]);
-    l.ask(&words(t.size));
     let Pass { s, ends, r, stop } = t.p;
-    l.ask_floats(&[s.threshold, s.strength, s.water_level, ends.0, ends.1, r.last]);
-    l.ask(&[r.asked, r.stopped as u32, stop]);
-    l.ask_floats(&[FILL]);
-    l.ask(&[t.out as u32, t.h.len() as u32]);
-    l.ask_floats(&t.h);
     let mut out = vec![FILL; t.out];
+    let lent = Slices::of([&t.h, &out]);
     let (a, after) = ask_slide_pass(t.size, &t.h, &mut out, &t.p);
-    l.answer("slide_pass", &a);
-    l.give_floats(&[after.last]);
-    l.give(&[after.asked, after.stopped as u32]);
-    l.give_result(&a, &out);
+    l.ended("slide_pass", &a);
+    let [w, h] = words(t.size);
+    let floats = [s.threshold, s.strength, s.water_level, ends.0, ends.1];
+    let task = list::Task { record: r, lent, ..list::Task::of(SLIDE_PASS, &[w, h, stop], &floats) };
+    l.task(&task, word(&a, |_| 0), after, &Slices::of([&[], result(&a, &out)]));
     after
 }
 

@@ -1,4 +1,4 @@
-//! The second part of the list of replay_runs: streams, whole and damaged, with what `relief` prints.
+//! The last part of the list: streams, whole and damaged, with what `relief` prints.
 mod damage;
 
 use crate::list::{call, List};
@@ -43,7 +43,7 @@ fn asked(kind: Kind, size: Sides, s: Settings, map: Vec<f32>) -> Asked {
     Asked { kind, size, s, stop: 0, map }
 }
 
-/// A task of replay_runs as a stream.
+/// A run of the list as a stream.
 fn task(t: Task) -> Asked {
     let kind = if t.call == call::FLUVIAL { Kind::Fluvial } else { Kind::Thermal };
     Asked { kind, size: t.size, s: t.s, stop: t.stop, map: t.map }
@@ -59,9 +59,7 @@ fn call(kind: Kind) -> u32 {
 /// A stream of the list, counted by what it comes to.
 fn put(l: &mut List, bytes: &[u8]) -> Printed {
     let p = relief(bytes);
-    l.ask(&[call::RELIEF]);
-    l.ask_bytes(bytes);
-    l.give_bytes(&p.bytes);
+    l.stream(call::RELIEF, bytes, &p.bytes);
     let name = match &p.ran {
         Some((a, _)) if p.number == 0 || p.number > 9 => match (a.kind, a.is_reduced()) {
             (Kind::Fluvial, false) => "relief, fluvial run on the full grid",

@@ -1,18 +1,15 @@
 -- A loop that writes words one behind the other: its invariant, at the start, after one word and at the end.
-use Prim.Native.Nat.{ℕ, zero, suc, _+_, _*_, _/_, _%_, _≤_, _<_}
-use mathlib.Core.Path.{_≡_, refl, sym, ap, ap₂, _∙_}
-use mathlib.Core.List.{List, [], _∷_, _++_}
+use Prim.Native.Nat.{ℕ, zero, suc, _+_, _*_, _/_, _≤_, _<_}
+use mathlib.Core.Path.{_≡_, refl, sym, ap, _∙_}
+use mathlib.Core.List.{List, [], _++_}
 use native.Mathlib.Numerals.{add-one}
 use native.Mathlib.Omega.{arith}
 use borrow.Author.Tests.{lt-ltb, le-ltb}
 use lib.ListN.{length, length-append}
 use lib.Seq.{sets, length-sets, length-take-le}
-use Rattle.answers.specs.Outcome.{numberOf, placeOf}
-use Rattle.answers.specs.declared.Answer.{Answer}
-use Rattle.answers.specs.declared.Refusal.{Refusal}
 use Rattle.stream_bytes.specs.Bytes.{number4, bytes4}
 use Rattle.stream_bytes.proofs.PutLaws.{sets-next}
-use Rattle.words.specs.Words.{Part, wordAt, wordBytes, answerWords}
+use Rattle.words.specs.Words.{Part, wordAt, wordBytes}
 
 -- a length within a list
 pub part : {A : Type 0} (n : ℕ) (l : List A) → n ≤ length l → Part n l
@@ -67,10 +64,3 @@ pub into : (old : List ℕ) (k : ℕ) (f : ℕ → ℕ) {r : ℕ} {new : List �
 into old k f {r} {new} h e g =
     let s : length new ≡ length old = ap length g ∙ length-sets old 0 (wordBytes r f) in
     (part (4 * r) new (omega arith), (ap (λ (z : ℕ). 4 * z) e, g ∙ ap (λ (z : ℕ). sets old 0 (wordBytes z f)) e))
-
--- the words of both kinds of answer
-pub answer-done : {a : Answer} → a ≡ Answer.Done → (0 ∷ 0 ∷ []) ≡ answerWords a
-answer-done e = sym (ap answerWords e)
-
-pub answer-refused : {a : Answer} {r : Refusal} → a ≡ Answer.Refused r → {n p : ℕ} → n ≡ numberOf r → p ≡ placeOf r → (n ∷ p % 0x1_0000_0000 ∷ []) ≡ answerWords a
-answer-refused e f g = ap₂ (λ (n p : ℕ). n ∷ p % 0x1_0000_0000 ∷ []) f g ∙ sym (ap answerWords e)

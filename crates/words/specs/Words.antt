@@ -1,14 +1,11 @@
 -- Words stand as document 01's stream has its numbers of four bytes, low byte first; a float is its bits.
-use Prim.Native.Nat.{ℕ, zero, suc, _+_, _*_, _/_, _%_, _≤_, min}
+use Prim.Native.Nat.{ℕ, zero, suc, _+_, _*_, _/_, _≤_, min}
 use mathlib.Core.Path.{_≡_}
 use mathlib.Core.Bool.{cond}
-use mathlib.Core.List.{List, [], _∷_, _++_}
+use mathlib.Core.List.{List, [], _++_}
 use lib.Dec.{ltb}
 use lib.ListN.{length, getD, take}
 use lib.Ieee.{Float, nan, binary32, ofBits, toBits}
-use Rattle.answers.specs.Outcome.{numberIn, placeIn, answerOf}
-use Rattle.answers.specs.declared.Answer.{Answer}
-use Rattle.generators.specs.declared.Progress.{Progress}
 use Rattle.stream_bytes.specs.Bytes.{number4, bytes4}
 
 -- n counts values at the front of a list; the second part follows from the first, and both are what a part of a slice asks
@@ -38,11 +35,3 @@ wordBytes (suc n) f = wordBytes n f ++ bytes4 (f n)
 -- how many words of a list fit into the bytes
 abbrev pub fitting : {A : Type 0} → List A → List ℕ → ℕ
 fitting v b = min (length v) (length b / 4)
-
--- the number of an answer and the place that it carries
-abbrev pub answerWords : Answer → List ℕ
-answerWords a = numberIn (answerOf a) ∷ placeIn (answerOf a) % 0x1_0000_0000 ∷ []
-
--- the bits of the last p, the questions asked, and 1 for a stopped record
-abbrev pub progressWords : Progress → List ℕ
-progressWords m = toBits binary32 (m .last) ∷ m .asked ∷ cond (m .stopped) 1 0 ∷ []

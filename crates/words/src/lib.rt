@@ -1,21 +1,16 @@
-// Words, numbers of four bytes that stand low byte first: slices and answers to bytes and back, and room for the slices of the replay lists.
-use answers::Answer;
-use answers::number;
-use answers::place;
+// Words, numbers of four bytes that stand low byte first: slices to bytes and back, and room for the slices of the replay list.
 use floats::from_bits;
 use floats::to_bits;
-use generators::Progress;
 use stream_bytes::put_u32;
 use stream_bytes::read_u32;
 ghost use mathlib.Core.Path.{_≡_};
 ghost use Prim.Native.Nat.{_+_, _*_, _/_, _%_, _≤_, min};
-ghost use mathlib.Core.Bool.{cond};
 ghost use lib.ListN.{length, replicate};
 ghost use lib.Seq.{sets};
 ghost use Rattle.lists.specs.Loops.{tabulate};
-ghost use Rattle.words.specs.Words.{wordAt, floatAt, bitsAt, cellAt, wordBytes, fitting, answerWords, progressWords, Part};
+ghost use Rattle.words.specs.Words.{wordAt, floatAt, bitsAt, cellAt, wordBytes, fitting, Part};
 
-// 10,500 values, as many as the longest slice of the lists has, each x.
+// 10,500 values, as many as the longest slice of the list has, each x.
 pub fn float_room(x: f32) -> [f32; 10500]
     ensures { λ r. ⌜ 10500 ≡ length r ⌝ }
     ensures { λ r. ⌜ r ≡ replicate 10500 x ⌝ }
@@ -35,6 +30,13 @@ pub fn state_room(x: u8) -> [u8; 10500]
     ensures { λ r. ⌜ r ≡ replicate 10500 x ⌝ }
 {
     [x; 10500]
+}
+
+// A word as a length.
+pub fn wide(x: u32) -> usize
+    ensures { λ r. ⌜ r ≡ x ⌝ }
+{
+    x as usize
 }
 
 // The lesser number.
@@ -151,33 +153,9 @@ pub fn cells_into(v: &[u32], out: &mut [u8]) -> usize
     4 * n
 }
 
-// The words that every answer begins with: the refusal's number, 0 if none, and the place that it carries.
-pub fn answer_words(a: Answer) -> [u32; 2]
-    ensures { λ r. ⌜ r ≡ answerWords a ⌝ }
-{
-    match a {
-        Answer::Done => [0, 0],
-        Answer::Refused(r) => [number(r), (place(r) % 0x1_0000_0000) as u32],
-    }
-}
-
 // The low word of a length.
 pub fn low_word(x: usize) -> u32
     ensures { λ r. ⌜ r ≡ x % 0x1_0000_0000 ⌝ }
 {
     (x % 0x1_0000_0000) as u32
-}
-
-// The word of a truth.
-fn flag_word(x: bool) -> u32
-    ensures { λ r. ⌜ r ≡ cond x 1 0 ⌝ }
-{
-    if x { 1 } else { 0 }
-}
-
-// The words of a record of stop marks.
-pub fn progress_words(m: Progress) -> [u32; 3]
-    ensures { λ r. ⌜ r ≡ progressWords m ⌝ }
-{
-    [to_bits(m.last), m.asked, flag_word(m.stopped)]
 }

@@ -1,7 +1,7 @@
 -- The turns that are left fall; nothing has to hold from turn to turn.
 use borrow.Author.Needs.{needs}
-use Rattle.replay_passes.proofs.main.Statement.{statement}
-use Rattle.replay_passes.proofs.main.Tie as tie
+use Rattle.replay.proofs.main.Statement.{statement}
+use Rattle.replay.proofs.main.Tie as tie
 
 pub main-spec : {M : Type 1} → statement M
 main-spec =

@@ -1,0 +1,2 @@
+-- Calls with scratch of their own.
+pub mod Asked

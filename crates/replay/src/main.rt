@@ -1,0 +1,219 @@
+// Replays the oracle's list: reads tasks, makes the calls, writes the answers, which the file stdout fixes. oracle/README.md has the words of
+// each task and answer. A task is the number of a call, 26 numbers, 6 floats and the values of five slices: three of floats, two of cells.
+use floats::to_bits;
+use harness::harness_incise;
+use harness::harness_report;
+use harness::harness_slide_pass;
+use harness_calls::harness_add_upsampled;
+use harness_calls::harness_bilinear;
+use harness_calls::harness_downsample;
+use harness_calls::harness_greatest;
+use harness_calls::harness_least;
+use harness_calls::harness_normalize;
+use layout_calls::milofavurn_square_root;
+use layout_calls::milofavurn_working_sides;
+use output::Written;
+use own_scratch::fluvial_asked;
+use own_scratch::route_asked;
+use own_scratch::thermal_asked;
+use words::bytes_held;
+use words::cell_room;
+use words::cells_held;
+use words::float_room;
+use words::floats_held;
+use words::wide;
+
+// The next word of the input, 0 once it has ended.
+fn word() -> u32 {
+    let mut b = [0u8; 4];
+    io::read_full(0, &mut b);
+    words::word_at(&b, 0)
+}
+
+fn read_floats(v: &mut [f32]) {
+    let mut space = io::large_buffer();
+    let n = bytes_held(4 * v.len(), &space);
+    let bytes = &mut space[..n];
+    io::read_full(0, bytes);
+    words::floats_from(bytes, v);
+}
+
+fn read_cells(v: &mut [u32]) {
+    let mut space = io::large_buffer();
+    let n = bytes_held(4 * v.len(), &space);
+    let bytes = &mut space[..n];
+    io::read_full(0, bytes);
+    words::cells_from(bytes, v);
+}
+
+// Writes the first values of a slice, as many as a task asks for.
+fn put_floats(v: &[f32], shown: u32) {
+    let k = floats_held(shown, v);
+    let mut space = io::large_buffer();
+    let n = words::floats_into(&v[..k], &mut space);
+    io::write_all(1, &space[..n]);
+}
+
+fn put_cells(v: &[u32], shown: u32) {
+    let k = cells_held(shown, v);
+    let mut space = io::large_buffer();
+    let n = words::cells_into(&v[..k], &mut space);
+    io::write_all(1, &space[..n]);
+}
+
+// An answer: the call's word, and a record of stop marks.
+fn told(word: u64, last: f32, asked: u32, stopped: u32) -> [u32; 5] {
+    let low = (word % 0x1_0000_0000) as u32;
+    let high = (word / 0x1_0000_0000) as u32;
+    [low, high, to_bits(last), asked, stopped]
+}
+
+// The answer of a call that takes no record: the task's own comes back.
+fn plain(word: u64, n: &[u32; 26], f: &[f32; 6]) -> [u32; 5] {
+    told(word, f[5], n[14], n[15])
+}
+
+fn flag(x: bool) -> u32 {
+    if x { 1 } else { 0 }
+}
+
+fn report(n: &[u32; 26], f: &[f32; 6]) -> [u32; 5] {
+    let mut last = f[5];
+    let mut asked = n[14];
+    let mut stopped = n[15] == 1;
+    let word = harness_report(&mut last, &mut asked, &mut stopped, f[0], n[2]);
+    told(word, last, asked, flag(stopped))
+}
+
+fn slide_pass(n: &[u32; 26], f: &[f32; 6], map: &[f32], out: &mut [f32]) -> [u32; 5] {
+    let mut last = f[5];
+    let mut asked = n[14];
+    let mut stopped = n[15] == 1;
+    let word = harness_slide_pass(
+        wide(n[0]),
+        wide(n[1]),
+        map,
+        out,
+        f[0],
+        f[1],
+        f[2],
+        f[3],
+        f[4],
+        &mut last,
+        &mut asked,
+        &mut stopped,
+        n[2],
+    );
+    told(word, last, asked, flag(stopped))
+}
+
+// The call of a task on its slices.
+fn perform(
+    call: u32,
+    n: &[u32; 26],
+    f: &[f32; 6],
+    a: &mut [f32],
+    b: &mut [f32],
+    c: &mut [f32],
+    d: &mut [u32],
+    e: &mut [u32],
+) -> [u32; 5] {
+    let w = wide(n[0]);
+    let h = wide(n[1]);
+    match call {
+        1 => plain(harness_least(a), n, f),
+        2 => plain(harness_greatest(a), n, f),
+        3 => plain(harness_normalize(a, f[0], f[1]), n, f),
+        4 => plain(harness_downsample(a, w, h, b, wide(n[2]), wide(n[3])), n, f),
+        5 => plain(
+            harness_add_upsampled(a, w, h, b, wide(n[2]), wide(n[3])),
+            n,
+            f,
+        ),
+        6 => plain(harness_bilinear(a, f[0], f[1], w, h), n, f),
+        7 => plain(milofavurn_square_root(f[0]), n, f),
+        8 => plain(milofavurn_working_sides(w, h, n[2]), n, f),
+        9 => report(n, f),
+        10 => plain(harness_incise(w, h, a, f[0], f[1], f[2], d, e, b, c), n, f),
+        11 => slide_pass(n, f, a, b),
+        12 => plain(route_asked(w, h, n, f, a, d, e, b, c), n, f),
+        13 => plain(fluvial_asked(w, h, n, f, a), n, f),
+        _ => plain(thermal_asked(w, h, n, f, a), n, f),
+    }
+}
+
+// A task but for its stream: reads it, makes its call, and writes the answer and those values of the slices that it asks for.
+fn replay_call(call: u32) {
+    let mut n = [0u32; 26];
+    read_cells(&mut n);
+    let mut f = [0.0f32; 6];
+    read_floats(&mut f);
+    let mut a_room = float_room(0.0);
+    let a_n = floats_held(n[16], &a_room);
+    let a = &mut a_room[..a_n];
+    read_floats(a);
+    let mut b_room = float_room(0.0);
+    let b_n = floats_held(n[17], &b_room);
+    let b = &mut b_room[..b_n];
+    read_floats(b);
+    let mut c_room = float_room(0.0);
+    let c_n = floats_held(n[18], &c_room);
+    let c = &mut c_room[..c_n];
+    read_floats(c);
+    let mut d_room = cell_room(0);
+    let d_n = cells_held(n[19], &d_room);
+    let d = &mut d_room[..d_n];
+    read_cells(d);
+    let mut e_room = cell_room(0);
+    let e_n = cells_held(n[20], &e_room);
+    let e = &mut e_room[..e_n];
+    read_cells(e);
+    put_cells(&perform(call, &n, &f, a, b, c, d, e), 5);
+    put_floats(a, n[21]);
+    put_floats(b, n[22]);
+    put_floats(c, n[23]);
+    put_cells(d, n[24]);
+    put_cells(e, n[25]);
+}
+
+// The output has room, so the writer does not refuse; the list has no output without a byte.
+fn put_relief(bytes: &[u8]) {
+    let mut out = io::large_buffer();
+    let written = stream_run::relief(bytes, &mut out);
+    match written {
+        Written::Bytes(n) => {
+            let n = bytes_held(n, &out);
+            put_cells(&[words::low_word(n)], 1);
+            io::write_all(1, &out[..n]);
+        }
+        Written::Refused(_) => put_cells(&[0], 1),
+    }
+}
+
+// A stream of at most 65,536 bytes.
+fn replay_relief() {
+    let mut space = io::large_buffer();
+    let n = bytes_held(wide(word()), &space);
+    let bytes = &mut space[..n];
+    io::read_full(0, bytes);
+    put_relief(bytes);
+}
+
+// Replays one task. Answers false at the end of the list.
+fn replay_task() -> bool {
+    let call = word();
+    match call {
+        1..=14 => replay_call(call),
+        15 => replay_relief(),
+        _ => return false,
+    }
+    true
+}
+
+// A loop has to end, and nothing says that the input does: the turns count down from a number that no list uses up.
+fn main() {
+    let mut turns = u64::MAX;
+    while turns > 0 && replay_task() {
+        turns -= 1;
+    }
+}
