@@ -30,20 +30,27 @@ fn word() -> u32 {
     words::word_at(&b, 0)
 }
 
-fn read_floats(v: &mut [f32]) {
+// Reads a slice of so many values into the front of a room.
+fn read_floats<'a>(room: &'a mut [f32], n: u32) -> &'a mut [f32] {
+    let k = floats_held(n, room);
+    let v = &mut room[..k];
     let mut space = io::large_buffer();
-    let n = bytes_held(4 * v.len(), &space);
-    let bytes = &mut space[..n];
+    let m = bytes_held(4 * v.len(), &space);
+    let bytes = &mut space[..m];
     io::read_full(0, bytes);
     words::floats_from(bytes, v);
+    v
 }
 
-fn read_cells(v: &mut [u32]) {
+fn read_cells<'a>(room: &'a mut [u32], n: u32) -> &'a mut [u32] {
+    let k = cells_held(n, room);
+    let v = &mut room[..k];
     let mut space = io::large_buffer();
-    let n = bytes_held(4 * v.len(), &space);
-    let bytes = &mut space[..n];
+    let m = bytes_held(4 * v.len(), &space);
+    let bytes = &mut space[..m];
     io::read_full(0, bytes);
     words::cells_from(bytes, v);
+    v
 }
 
 // Writes the first values of a slice, as many as a task asks for.
@@ -120,16 +127,14 @@ fn perform(
 ) -> [u32; 5] {
     let w = wide(n[0]);
     let h = wide(n[1]);
+    let dw = wide(n[2]);
+    let dh = wide(n[3]);
     match call {
         1 => plain(harness_least(a), n, f),
         2 => plain(harness_greatest(a), n, f),
         3 => plain(harness_normalize(a, f[0], f[1]), n, f),
-        4 => plain(harness_downsample(a, w, h, b, wide(n[2]), wide(n[3])), n, f),
-        5 => plain(
-            harness_add_upsampled(a, w, h, b, wide(n[2]), wide(n[3])),
-            n,
-            f,
-        ),
+        4 => plain(harness_downsample(a, w, h, b, dw, dh), n, f),
+        5 => plain(harness_add_upsampled(a, w, h, b, dw, dh), n, f),
         6 => plain(harness_bilinear(a, f[0], f[1], w, h), n, f),
         7 => plain(milofavurn_square_root(f[0]), n, f),
         8 => plain(milofavurn_working_sides(w, h, n[2]), n, f),
@@ -145,29 +150,19 @@ fn perform(
 // A task but for its stream: reads it, makes its call, and writes the answer and those values of the slices that it asks for.
 fn replay_call(call: u32) {
     let mut n = [0u32; 26];
-    read_cells(&mut n);
+    read_cells(&mut n, 26);
     let mut f = [0.0f32; 6];
-    read_floats(&mut f);
+    read_floats(&mut f, 6);
     let mut a_room = float_room(0.0);
-    let a_n = floats_held(n[16], &a_room);
-    let a = &mut a_room[..a_n];
-    read_floats(a);
+    let a = read_floats(&mut a_room, n[16]);
     let mut b_room = float_room(0.0);
-    let b_n = floats_held(n[17], &b_room);
-    let b = &mut b_room[..b_n];
-    read_floats(b);
+    let b = read_floats(&mut b_room, n[17]);
     let mut c_room = float_room(0.0);
-    let c_n = floats_held(n[18], &c_room);
-    let c = &mut c_room[..c_n];
-    read_floats(c);
+    let c = read_floats(&mut c_room, n[18]);
     let mut d_room = cell_room(0);
-    let d_n = cells_held(n[19], &d_room);
-    let d = &mut d_room[..d_n];
-    read_cells(d);
+    let d = read_cells(&mut d_room, n[19]);
     let mut e_room = cell_room(0);
-    let e_n = cells_held(n[20], &e_room);
-    let e = &mut e_room[..e_n];
-    read_cells(e);
+    let e = read_cells(&mut e_room, n[20]);
     put_cells(&perform(call, &n, &f, a, b, c, d, e), 5);
     put_floats(a, n[21]);
     put_floats(b, n[22]);
