@@ -9,8 +9,7 @@ use lib.ListN.{getD}
 use lib.Dec.{eqb, leb, ltb}
 use borrow.Author.Tests.{lt-ltb, le-ltb, ltb-true, ltb-false, eqb-false, ne-eqb, leb-true, le-leb, lt-leb}
 use Rattle.lists.proofs.TestLaws.{both}
-use Rattle.lists.specs.Loops.{turns}
-use Rattle.lists.proofs.TurnLaws.{turns-none, turns-more}
+use Rattle.lists.proofs.LoopLaws.{all-pass}
 use Rattle.grid.specs.Sides.{InRange, cellOf}
 use Rattle.grid.proofs.SidesLaws.{cell-lt, cells-bound}
 use Rattle.lists.specs.Firsts.{First}
@@ -92,43 +91,16 @@ inner-at {w} {h} {y} sides inner i l =
     let here = inner-places w h (1 + i) y (omega arith) (omega arith) (inner .1) (inner .2) in
     record { wide = sides .wide; few = cells-bound w h (sides .wide) (sides .high); above = omega (arith, first); last = here .1 }
 
-pub record Passing (w : ℕ) (recv : List ℕ) (y i : ℕ) (good : Bool) : Type 0 where
-  pub place : i ≤ w - 2
-  pub state : good ≡ turns i (λ j b. b && besideInner w (1 + j + y * w) (getD recv (1 + j + y * w) 0)) true
-
+-- the test of the row's i-th inner cell, as the code works it out
 module _ (w : ℕ) (recv : List ℕ) (y : ℕ) where
-  pub passing-none : Passing w recv y 0 true
-  passing-none = record { place = omega arith; state = sym (turns-none (λ j b. b && besideInner w (1 + j + y * w) (getD recv (1 + j + y * w) 0)) true) }
+  abbrev pub passing : ℕ → Bool → Bool
+  passing i good = good && besideInner w (1 + i + y * w) (getD recv (1 + i + y * w) 0)
 
-  pub passing-more : {h i : ℕ} {good next : Bool} → InnerAt w h y i → Passing w recv y i good → i < w - 2
-      → next ≡ besideInner w (y * w - w + i + (w + 1)) (getD recv (1 + i + y * w) 0) → Passing w recv y (i + 1) (good && next)
-  passing-more {h} {i} {good} {next} a s l e =
+  pub passing-is : {h i : ℕ} (good : Bool) {next : Bool} → InnerAt w h y i → next ≡ besideInner w (y * w - w + i + (w + 1)) (getD recv (1 + i + y * w) 0)
+      → (good && next) ≡ passing i good
+  passing-is {h} {i} good a e =
       let cell : y * w - w + i + (w + 1) ≡ 1 + i + y * w = omega (arith, a .above) in
-      record {
-        place = omega arith;
-        state =
-            ap (λ (b : Bool). good && b) (e ∙ ap (λ (k : ℕ). besideInner w k (getD recv (1 + i + y * w) 0)) cell)
-            ∙ ap (λ (b : Bool). b && besideInner w (1 + i + y * w) (getD recv (1 + i + y * w) 0)) (s .state)
-            ∙ sym (turns-more (λ j b. b && besideInner w (1 + j + y * w) (getD recv (1 + j + y * w) 0)) i true);
-      }
-
-  pub passing-done : {i : ℕ} {good : Bool} → Passing w recv y i good → w - 2 ≤ i → good ≡ innerPass w recv y
-  unfolding innerPass
-  passing-done {i} s l =
-      let same : i ≡ w - 2 = omega (arith, s .place) in
-      s .state ∙ ap (λ (k : ℕ). turns k (λ j b. b && besideInner w (1 + j + y * w) (getD recv (1 + j + y * w) 0)) true) same
-
--- every one of them passes
-all-pass : (n : ℕ) (f : ℕ → Bool) → turns n (λ i b. b && f i) true ≡ true → (i : ℕ) → i < n → f i ≡ true
-unfolding turns
-all-pass zero f e i l = absurd (omega arith)
-all-pass (suc n) f e i l =
-    let parts = both (turns n (λ i b. b && f i) true) (f n) e in
-    go (ℕ-discrete i n) (parts .1) (all-pass n f (parts .0) i)
-  where
-    go : Dec (i ≡ n) → f n ≡ true → (i < n → f i ≡ true) → f i ≡ true
-    go (yes q) s h = ap f q ∙ s
-    go (no q) s h = h (omega arith)
+      ap (λ (b : Bool). good && b) (e ∙ ap (λ (k : ℕ). besideInner w k (getD recv (1 + i + y * w) 0)) cell)
 
 module _ (w h : ℕ) (recv : List ℕ) (y : ℕ) (row : y < h) where
   -- a row that passes has no bad receiver

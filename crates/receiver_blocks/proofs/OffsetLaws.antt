@@ -1,6 +1,6 @@
 -- The fold over the eight neighbours of an inner cell by their offsets is the fold by the neighbours themselves.
 use Prim.Native.Nat.{ℕ, _+_, _-_, _*_, _^_, _≤_, _<_}
-use mathlib.Core.Path.{_≡_, refl, sym, ap, _∙_, subst}
+use mathlib.Core.Path.{_≡_, refl, sym, ap, ap₂, _∙_, subst}
 use mathlib.Core.Logic.{_⊎_}
 use mathlib.Core.Bool.{Bool, true, false, _&&_, cond}
 use mathlib.Core.List.{List}
@@ -11,8 +11,7 @@ use lib.ListN.{length, getD}
 use lib.Ieee.{Float, nan, lt}
 use borrow.Author.Tests.{eq-eqb, ne-eqb}
 use native.Mathlib.Decide.{ℕ-discrete}
-use Rattle.lists.specs.Loops.{turns}
-use Rattle.lists.proofs.TurnLaws.{turns-none, turns-more, turns-hold}
+use Rattle.lists.proofs.TurnLaws.{turns-hold}
 use Rattle.lists.proofs.TableLaws.{length-tabulate}
 use Rattle.grid.specs.Sides.{columnOf, rowOf}
 use Rattle.grid.specs.Directions.{neighbourAt, Adjacent}
@@ -138,28 +137,10 @@ module _ (w h : ℕ) (spill : List Float) (c f : ℕ) (long : length spill ≡ w
           let back : p .lead .cell ≡ c + steepestFrom w h spill c (finderAs w spill c f) .cell - (w + 1) = omega (arith, p .same .cell) in
           subst (Received w h spill c f) (sym (e ∙ rw (ne-eqb f c other) (sym back))) (leading-done w h spill c f 8 (p .lead) other (omega arith) (omega arith) (p .leads))
 
--- the loop over the directions
-module _ (w h : ℕ) (spill : List Float) (c : ℕ) (start : Best) where
-  abbrev against : ℕ → Best → Best
+-- the loop over the directions: the neighbour in direction i + 1 against the best so far, as the code works it out
+module _ (w h : ℕ) (spill : List Float) (c : ℕ) where
+  abbrev pub against : ℕ → Best → Best
   against i = comparedAs spill c (i + 1) (neighbourAt w h c (i + 1)) (offsetOf w (i + 1))
 
-  pub record Steepening (d : ℕ) (best : Best) : Type 0 where
-    pub place : d ≤ 8
-    pub is : best ≡ turns d against start
-
-  pub steepening-none : Steepening 0 start
-  steepening-none = record { place = omega arith; is = sym (turns-none against start) }
-
-  pub steepening-more :
-      (d m o : ℕ) (best r : Best) → Steepening d best → d < 8 → m ≡ neighbourAt w h c (d + 1) → o ≡ offsetOf w (d + 1) → r ≡ comparedAs spill c (d + 1) m o best
-      → Steepening (d + 1) r
-  steepening-more d m o best r p l e f g = record {
-    place = omega arith;
-    is =
-        g ∙ ap (λ (m : ℕ). comparedAs spill c (d + 1) m o best) e ∙ ap (λ (o : ℕ). comparedAs spill c (d + 1) (neighbourAt w h c (d + 1)) o best) f
-        ∙ ap (against d) (p .is) ∙ sym (turns-more against d start);
-  }
-
-  pub steepening-done : (d : ℕ) (best : Best) → Steepening d best → 8 ≤ d → best .cell ≡ steepestFrom w h spill c start .cell
-  unfolding steepestFrom
-  steepening-done d best p l = let all : d ≡ 8 = omega (arith, p .place) in ap (λ (b : Best). b .cell) (p .is ∙ ap (λ (n : ℕ). turns n against start) all)
+  pub against-is : (d m o : ℕ) (best r : Best) → m ≡ neighbourAt w h c (d + 1) → o ≡ offsetOf w (d + 1) → r ≡ comparedAs spill c (d + 1) m o best → r ≡ against d best
+  against-is d m o best r e f g = g ∙ ap₂ (λ (m o : ℕ). comparedAs spill c (d + 1) m o best) e f

@@ -1,12 +1,13 @@
--- A row as a run of cells.
-use Prim.Native.Nat.{ℕ, _+_, _*_, _<_}
-use mathlib.Core.Path.{_≡_, refl, sym, ap, _∙_}
+-- Cells of a row, and the loops over them.
+use Prim.Native.Nat.{ℕ, _+_, _*_, _≤_, _<_}
+use mathlib.Core.Path.{_≡_, refl, _∙_}
 use mathlib.Core.List.{List}
 use native.Mathlib.Omega.{arith}
+use lib.ListN.{length}
 use lib.Ieee.{Float}
-use Rattle.lists.proofs.TurnLaws.{turns-none, turns-more}
+use Rattle.lists.specs.Loops.{turns}
+use Rattle.lists.proofs.LoopLaws.{Turning, turning-none, turning-more, turning-done}
 use Rattle.grid.proofs.SidesLaws.{cell-lt}
-use Rattle.talus.specs.Talus.{slideCell, slideCells}
 use Rattle.talus.specs.Places.{CellAt, InRow}
 
 -- column x + i of a row
@@ -21,16 +22,17 @@ row-cell-at i a l =
 pub row-cell-below : {w h cells y x n : ℕ} (i : ℕ) → InRow w h cells y x n → i < n → x + i + y * w < cells
 row-cell-below {w} {h} {cells} {y} {x} i a l = omega (arith, cell-lt w (x + i) y (omega arith) h (a .row))
 
-module _ (w h : ℕ) (ts hs : List Float) (strength water : Float) (y x : ℕ) (out : List Float) where
-  pub cells-none : out ≡ slideCells w h ts hs strength water y x 0 out
-  unfolding slideCells
-  cells-none = sym (turns-none (λ i. slideCell w h ts hs strength water (x + i + y * w)) out)
+-- the heights after i of n cells, as many as before
+pub record Passing (f : ℕ → List Float → List Float) (n i : ℕ) (out s : List Float) : Type 0 where
+  pub long : length s ≡ length out
+  pub turning : Turning f n i out s
 
-  pub cells-more : (i : ℕ) (s r : List Float)
-      → s ≡ slideCells w h ts hs strength water y x i out
-      → r ≡ slideCell w h ts hs strength water (x + i + y * w) s
-      → r ≡ slideCells w h ts hs strength water y x (i + 1) out
-  unfolding slideCells
-  cells-more i s r e f =
-      f ∙ ap (slideCell w h ts hs strength water (x + i + y * w)) e
-      ∙ sym (turns-more (λ i. slideCell w h ts hs strength water (x + i + y * w)) i out)
+module _ {f : ℕ → List Float → List Float} {n : ℕ} {out : List Float} where
+  pub passing-none : Passing f n 0 out out
+  passing-none = record { long = refl; turning = turning-none }
+
+  pub passing-more : {i : ℕ} {s r : List Float} → Passing f n i out s → i < n → length r ≡ length s → r ≡ f i s → Passing f n (i + 1) out r
+  passing-more p l k e = record { long = k ∙ p .long; turning = turning-more (p .turning) l e }
+
+  pub passing-done : {i : ℕ} {s : List Float} → Passing f n i out s → n ≤ i → s ≡ turns n f out
+  passing-done p l = turning-done (p .turning) l

@@ -1,12 +1,12 @@
 -- One direction of a cell, by the cell m that lies there.
 use Prim.Native.Nat.{ℕ, suc, _+_, _-_, _*_, _≤_, _<_}
-use mathlib.Core.Path.{_≡_, sym, ap, _∙_}
+use mathlib.Core.Path.{_≡_, ap, _∙_, subst}
 use mathlib.Core.List.{List}
 use native.Mathlib.Omega.{arith}
 use borrow.Author.Tests.{lt-ltb, le-ltb}
 use lib.Ieee.{Float}
 use Rattle.lists.specs.Loops.{turns}
-use Rattle.lists.proofs.TurnLaws.{turns-none, turns-more}
+use Rattle.lists.proofs.LoopLaws.{Turning, turning-none, turning-more, turning-done}
 use Rattle.grid.specs.Directions.{neighbourOf, neighbourAt}
 use Rattle.grid.proofs.SidesLaws.{cell-lt, column-cell, row-cell}
 use Rattle.talus.specs.Talus.{shedTo, shedStep, gainTo, gainStep}
@@ -46,26 +46,20 @@ module _ (w h n : ℕ) (ts hs : List Float) (c d m : ℕ) (cells : n ≡ w * h) 
 -- the state of a loop over the eight directions that has done those below d
 pub record Around {S : Type 0} (f : ℕ → S → S) (start : S) (d : ℕ) (s : S) : Type 0 where
   pub first : 1 ≤ d
-  pub last : d ≤ 9
-  pub state : s ≡ turns (d - 1) (λ i. f (suc i)) start
+  pub turning : Turning (λ i. f (suc i)) 8 (d - 1) start s
 
 module _ {S : Type 0} (f : ℕ → S → S) (start : S) where
   pub around-none : Around f start 1 start
-  around-none = record { first = omega arith; last = omega arith; state = sym (turns-none (λ i. f (suc i)) start) }
+  around-none = record { first = omega arith; turning = turning-none }
 
   pub around-more : (d : ℕ) (s r : S) → Around f start d s → d < 9 → r ≡ f d s → Around f start (d + 1) r
   around-more d s r a l e =
-      let now : suc (d - 1) ≡ d = omega arith in
-      let next : (d - 1) + 1 ≡ (d + 1) - 1 = omega arith in
+      let now : d ≡ suc (d - 1) = omega (arith, a .first) in
+      let next : (d - 1) + 1 ≡ (d + 1) - 1 = omega (arith, a .first) in
       record {
         first = omega arith;
-        last = omega arith;
-        state =
-            e ∙ ap (f d) (a .state) ∙ ap (λ (k : ℕ). f k (turns (d - 1) (λ i. f (suc i)) start)) (sym now)
-            ∙ sym (turns-more (λ i. f (suc i)) (d - 1) start) ∙ ap (λ (k : ℕ). turns k (λ i. f (suc i)) start) next;
+        turning = subst (λ (k : ℕ). Turning (λ i. f (suc i)) 8 k start r) next (turning-more (a .turning) (omega arith) (e ∙ ap (λ (k : ℕ). f k s) now));
       }
 
   pub around-done : (d : ℕ) (s : S) → Around f start d s → 9 ≤ d → s ≡ turns 8 (λ i. f (suc i)) start
-  around-done d s a l =
-      let all : d - 1 ≡ 8 = omega arith in
-      a .state ∙ ap (λ (k : ℕ). turns k (λ i. f (suc i)) start) all
+  around-done d s a l = turning-done (a .turning) (omega arith)

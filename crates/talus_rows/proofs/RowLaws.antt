@@ -1,6 +1,6 @@
 -- A row as runs of cells.
 use Prim.Native.Nat.{ℕ, zero, suc, _+_, _-_, _*_, _≤_}
-use mathlib.Core.Path.{_≡_, sym, ap, ap₂, _∙_}
+use mathlib.Core.Path.{_≡_, refl, sym, ap, ap₂, _∙_}
 use mathlib.Core.List.{List}
 use native.Mathlib.Omega.{arith}
 use lib.Ieee.{Float}
@@ -16,6 +16,10 @@ row-cells w h ts hs strength water y out =
     turns-same _ _ out w (λ i t l. let e : 0 + i + y * w ≡ i + y * w = omega arith in ap (λ (c : ℕ). slideCell w h ts hs strength water c t) e)
 
 module _ (w h : ℕ) (ts hs : List Float) (strength water : Float) (y : ℕ) (out : List Float) where
+  pub cells-none : (x : ℕ) → out ≡ slideCells w h ts hs strength water y x 0 out
+  unfolding slideCells turns
+  cells-none x = refl
+
   -- two runs of cells, the second from where the first ends
   cells-join : (x a b : ℕ) → slideCells w h ts hs strength water y (x + a) b (slideCells w h ts hs strength water y x a out) ≡ slideCells w h ts hs strength water y x (a + b) out
   unfolding slideCells turns

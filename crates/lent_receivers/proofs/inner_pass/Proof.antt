@@ -1,11 +1,14 @@
 use Prim.Native.Nat.{_-_}
 use native.Mathlib.Omega.{arith}
-use Rattle.lent_receivers.proofs.RowLaws.{InnerAt, inner-at, Passing, passing-none, passing-more, passing-done}
+use mathlib.Core.Bool.{true}
+use Rattle.lists.proofs.LoopLaws.{Turning, turning-none, turning-more, turning-done}
+use Rattle.lent_receivers.specs.Receivers.{innerPass}
+use Rattle.lent_receivers.proofs.RowLaws.{InnerAt, inner-at, passing, passing-is}
 use Rattle.lent_receivers.proofs.inner_pass.Statement.{statement}
 use Rattle.lent_receivers.proofs.inner_pass.Tie as tie
 
 abbrev Inv-loop : tie.InvT-loop
-Inv-loop recv y w n above good₀ i₀ good i = Passing w recv y i good
+Inv-loop recv y w n above good₀ i₀ good i = Turning (passing w recv y) (w - 2) i true good
 
 abbrev μ-loop : tie.MeasureT-loop
 μ-loop recv y w n above good₀ i₀ good i = (w - 2) - i
@@ -35,7 +38,7 @@ cast-above c = omega (arith, first c)
 
 -- src/lib.rt:90:5
 loop-holds : tie.Need-loop-holds Inv-loop μ-loop
-loop-holds c = passing-none _ _ _
+loop-holds c = turning-none
 
 -- src/lib.rt:91:35
 add-beside : tie.Need-add-beside Inv-loop μ-loop
@@ -83,11 +86,12 @@ loop-less c = omega (arith, c .before .before .loop-test .taken)
 
 -- src/lib.rt:90:5
 loop-again : tie.Need-loop-again Inv-loop μ-loop
-loop-again c = passing-more _ _ _ (here (c .before .before)) (c .before .before .before .loop .inv) (c .before .before .loop-test .taken) (c .beside .ensures)
+loop-again c = turning-more (c .before .before .before .loop .inv) (c .before .before .loop-test .taken) (passing-is _ (c .before .before .before .before .before .args .recv .now) _ (c .before .before .before .loop .good) (here (c .before .before)) (c .beside .ensures))
 
 -- src/lib.rt:79:1
 returns : tie.Need-returns Inv-loop μ-loop
-returns c = passing-done _ _ _ (c .before .loop .inv) (c .loop-test .left)
+unfolding innerPass
+returns c = turning-done (c .before .loop .inv) (c .loop-test .left)
 
 pub inner-pass-spec : {M : Type 1} → statement M
 inner-pass-spec =

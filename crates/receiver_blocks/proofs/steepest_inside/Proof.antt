@@ -1,18 +1,22 @@
 use Prim.Native.Nat.{_+_, _-_}
 use native.Mathlib.Omega.{arith}
+use mathlib.Core.Path.{ap}
+use Rattle.lists.proofs.LoopLaws.{Turning, turning-none, turning-more, turning-done}
 use Rattle.inner_cells.proofs.InnerLaws.{inner-below, offset-read}
-use Rattle.receiver_blocks.proofs.OffsetLaws.{inner-inside, Steepening, steepening-none, steepening-more, steepening-done}
+use Rattle.network.specs.declared.Best.{Best}
+use Rattle.receiver_blocks.specs.Runs.{steepestFrom}
+use Rattle.receiver_blocks.proofs.OffsetLaws.{inner-inside, against, against-is}
 use Rattle.receiver_blocks.proofs.steepest_inside.Statement.{statement}
 use Rattle.receiver_blocks.proofs.steepest_inside.Tie as tie
 
 abbrev Inv-loop : tie.InvT-loop
-Inv-loop size os short spill c b₀ d₀ b d = Steepening (size .w) (size .h) spill c b₀ d b
+Inv-loop size os short spill c b₀ d₀ b d = Turning (against (size .w) (size .h) spill c) 8 d b₀ b
 
 abbrev μ-loop : tie.MeasureT-loop
 μ-loop size os short spill c b₀ d₀ b d = 8 - d
 
 loop-holds : tie.Need-loop-holds Inv-loop μ-loop
-loop-holds c = steepening-none _ _ _ _ _
+loop-holds c = turning-none
 
 add-beside : tie.Need-add-beside Inv-loop μ-loop
 add-beside c = omega arith
@@ -42,10 +46,11 @@ loop-less : tie.Need-loop-less Inv-loop μ-loop
 loop-less c = omega (arith, c .before .before .before .loop-test .taken)
 
 loop-again : tie.Need-loop-again Inv-loop μ-loop
-loop-again c = steepening-more _ _ _ _ _ (c .before .before .before .before .loop .d) _ _ _ _ (c .before .before .before .before .loop .inv) (c .before .before .before .loop-test .taken) (c .before .before .beside .ensures) (offset-read _ _ (c .before .before .before .before .before .before .pre .1 .1 .0) (c .before .before .before .before .loop .d + 1) (omega (arith, c .before .before .before .loop-test .taken))) (c .compare .ensures)
+loop-again c = turning-more (c .before .before .before .before .loop .inv) (c .before .before .before .loop-test .taken) (against-is _ _ (c .before .before .before .before .before .before .args .spill .now) _ (c .before .before .before .before .loop .d) _ _ (c .before .before .before .before .loop .b) _ (c .before .before .beside .ensures) (offset-read _ _ (c .before .before .before .before .before .before .pre .1 .1 .0) (c .before .before .before .before .loop .d + 1) (omega (arith, c .before .before .before .loop-test .taken))) (c .compare .ensures))
 
 returns : tie.Need-returns Inv-loop μ-loop
-returns c = steepening-done _ _ _ _ _ _ _ (c .before .loop .inv) (c .loop-test .left)
+unfolding steepestFrom
+returns c = ap (λ (b : Best). b .cell) (turning-done (c .before .loop .inv) (c .loop-test .left))
 
 pub steepest-inside-spec : {M : Type 1} → statement M
 steepest-inside-spec =

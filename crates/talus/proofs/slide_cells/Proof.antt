@@ -1,20 +1,19 @@
-use Prim.Native.Nat.{_-_, _≤_}
-use mathlib.Core.Path.{_≡_, refl, _∙_}
+use Prim.Native.Nat.{_+_, _-_, _*_}
+use mathlib.Core.Path.{_∙_}
 use native.Mathlib.Omega.{arith}
-use lib.ListN.{length}
-use Rattle.talus.specs.Talus.{slideCells}
-use Rattle.talus.proofs.RowLaws.{row-cell-at, row-cell-below, cells-none, cells-more}
+use Rattle.talus.specs.Talus.{slideCell, slideCells}
+use Rattle.talus.proofs.RowLaws.{row-cell-at, row-cell-below, Passing, passing-none, passing-more, passing-done}
 use Rattle.talus.proofs.slide_cells.Statement.{statement}
 use Rattle.talus.proofs.slide_cells.Tie as tie
 
 abbrev Inv-loop : tie.InvT-loop
-Inv-loop size ts hmap out₀ strength water y x n w i₀ out i = (out ≡ slideCells (size .w) (size .h) ts hmap strength water y x i out₀) × ((i ≤ n) × (length out ≡ length out₀))
+Inv-loop size ts hmap out₀ strength water y x n w i₀ out i = Passing (λ k. slideCell (size .w) (size .h) ts hmap strength water (x + k + y * size .w)) n i out₀ out
 
 abbrev μ-loop : tie.MeasureT-loop
 μ-loop size ts hmap out₀ strength water y x n w i₀ out i = n - i
 
 loop-holds : tie.Need-loop-holds Inv-loop μ-loop
-loop-holds c = (cells-none _ _ _ _ _ _ _ _ _, (omega arith, refl))
+loop-holds c = passing-none
 
 add-slide-cell : tie.Need-add-slide-cell Inv-loop μ-loop
 add-slide-cell c = omega (arith, row-cell-below (c .before .before .loop .i) (c .before .before .before .before .before .pre .0) (c .before .loop-test .taken))
@@ -29,7 +28,7 @@ add-slide-cell-3 : tie.Need-add-slide-cell-3 Inv-loop μ-loop
 add-slide-cell-3 c = omega (arith, row-cell-below (c .before .before .loop .i) (c .before .before .before .before .before .pre .0) (c .before .loop-test .taken))
 
 slide-cell-requires : tie.Need-slide-cell-requires Inv-loop μ-loop
-slide-cell-requires c κs = (row-cell-at (c .before .before .loop .i) (c .before .before .before .before .before .pre .0) (c .before .loop-test .taken), c .before .before .loop .inv .1 .1 ∙ c .before .before .before .before .before .pre .1)
+slide-cell-requires c κs = (row-cell-at (c .before .before .loop .i) (c .before .before .before .before .before .pre .0) (c .before .loop-test .taken), c .before .before .loop .inv .long ∙ c .before .before .before .before .before .pre .1)
 
 add-i : tie.Need-add-i Inv-loop μ-loop
 add-i c = omega (arith, c .before .before .before .before .before .before .before .before .pre .0)
@@ -38,13 +37,14 @@ loop-less : tie.Need-loop-less Inv-loop μ-loop
 loop-less c = omega arith
 
 loop-again : tie.Need-loop-again Inv-loop μ-loop
-loop-again c = (cells-more _ _ _ _ _ _ _ _ _ (c .before .before .before .before .before .loop .i) _ _ (c .before .before .before .before .before .loop .inv .0) (c .before .before .slide-cell .ensures), (omega arith, c .before .before .slide-cell .kept .1 .1 .1 .0 ∙ c .before .before .before .before .before .loop .inv .1 .1))
+loop-again c = passing-more (c .before .before .before .before .before .loop .inv) (c .before .before .before .before .loop-test .taken) (c .before .before .slide-cell .kept .1 .1 .1 .0) (c .before .before .slide-cell .ensures)
 
 same-length : tie.Need-same-length Inv-loop μ-loop
-same-length c = c .before .loop .inv .1 .1
+same-length c = c .before .loop .inv .long
 
 returns : tie.Need-returns Inv-loop μ-loop
-returns c = let e : c .before .loop .i ≡ c .before .before .before .before .args .n = omega arith in cc
+unfolding slideCells
+returns c = passing-done (c .before .loop .inv) (c .loop-test .left)
 
 pub slide-cells-spec : {M : Type 1} → statement M
 slide-cells-spec =

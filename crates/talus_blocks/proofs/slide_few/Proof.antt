@@ -3,8 +3,8 @@ use mathlib.Core.Path.{_∙_}
 use native.Mathlib.Omega.{arith}
 use lib.ListN.{length}
 use Rattle.talus.specs.Talus.{slideCell, slideCells}
-use Rattle.talus.proofs.RowLaws.{row-cell-below}
-use Rattle.talus_directions.proofs.PassLaws.{Passing, passing-none, passing-more, passing-done, inner-column}
+use Rattle.talus.proofs.RowLaws.{row-cell-below, Passing, passing-none, passing-more, passing-done}
+use Rattle.talus_directions.proofs.PassLaws.{inner-column}
 use Rattle.talus_blocks.proofs.slide_few.Statement.{statement}
 use Rattle.talus_blocks.proofs.slide_few.Tie as tie
 

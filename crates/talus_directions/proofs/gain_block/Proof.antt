@@ -3,9 +3,9 @@ use native.Mathlib.Omega.{arith}
 use borrow.Author.Needs.{needs}
 use lib.ListN.{length, length-set}
 use Rattle.inner_cells.proofs.InnerLaws.{inner-below}
-use Rattle.talus.proofs.RowLaws.{row-cell-below}
+use Rattle.talus.proofs.RowLaws.{row-cell-below, Passing, passing-none, passing-more, passing-done}
 use Rattle.talus_directions.specs.Parts.{gainOf, gainsToward}
-use Rattle.talus_directions.proofs.PassLaws.{Passing, passing-none, passing-more, passing-done, gain-more, inner-column}
+use Rattle.talus_directions.proofs.PassLaws.{gain-more, inner-column}
 use Rattle.talus_directions.proofs.gain_block.Statement.{statement}
 use Rattle.talus_directions.proofs.gain_block.Tie as tie
 

@@ -3,9 +3,8 @@ use mathlib.Core.Path.{ap}
 use native.Mathlib.Omega.{arith}
 use borrow.Author.Needs.{needs}
 use lib.ListN.{length, set, length-set}
-use Rattle.talus.proofs.RowLaws.{row-cell-below}
+use Rattle.talus.proofs.RowLaws.{row-cell-below, Passing, passing-none, passing-more, passing-done}
 use Rattle.talus_directions.specs.Parts.{lossOf, losses}
-use Rattle.talus_directions.proofs.PassLaws.{Passing, passing-none, passing-more, passing-done}
 use Rattle.talus_directions.proofs.lose_block.Statement.{statement}
 use Rattle.talus_directions.proofs.lose_block.Tie as tie
 

@@ -4,9 +4,8 @@ use native.Mathlib.Omega.{arith}
 use borrow.Author.Needs.{needs}
 use lib.ListN.{length}
 use Rattle.talus.specs.Talus.{slideCells}
-use Rattle.talus.proofs.RowLaws.{cells-none}
 use Rattle.talus_rows.proofs.PartLaws.{inner-part}
-use Rattle.talus_rows.proofs.RowLaws.{cells-end, cells-block}
+use Rattle.talus_rows.proofs.RowLaws.{cells-none, cells-end, cells-block}
 use Rattle.talus_rows.proofs.slide_inner_cells.Statement.{statement}
 use Rattle.talus_rows.proofs.slide_inner_cells.Tie as tie
 

@@ -1,0 +1,36 @@
+-- A counting loop by the state that its turns make: at the start, after one turn more and at the end. And a loop that tests all numbers below n.
+use Prim.Native.Nat.{ℕ, zero, suc, _+_, _≤_, _<_}
+use native.Mathlib.Omega.{arith}
+use native.Mathlib.Decide.{ℕ-discrete}
+use mathlib.Core.Path.{_≡_, sym, ap, _∙_}
+use mathlib.Core.Bool.{Bool, true, _&&_}
+use Rattle.lists.specs.Loops.{turns}
+use Rattle.lists.proofs.TestLaws.{both}
+use Rattle.lists.proofs.TurnLaws.{turns-none, turns-more}
+
+-- s is the state after i of n turns of f
+pub record Turning {S : Type 0} (f : ℕ → S → S) (n i : ℕ) (start s : S) : Type 0 where
+  pub place : i ≤ n
+  pub state : s ≡ turns i f start
+
+module _ {S : Type 0} {f : ℕ → S → S} {n : ℕ} {start : S} where
+  pub turning-none : Turning f n 0 start start
+  turning-none = record { place = omega arith; state = sym (turns-none f start) }
+
+  pub turning-more : {i : ℕ} {s r : S} → Turning f n i start s → i < n → r ≡ f i s → Turning f n (i + 1) start r
+  turning-more {i} p l e = record { place = omega arith; state = e ∙ ap (f i) (p .state) ∙ sym (turns-more f i start) }
+
+  pub turning-done : {i : ℕ} {s : S} → Turning f n i start s → n ≤ i → s ≡ turns n f start
+  turning-done {i} p l = let same : i ≡ n = omega (arith, p .place) in p .state ∙ ap (λ (k : ℕ). turns k f start) same
+
+-- every number passes
+pub all-pass : (n : ℕ) (f : ℕ → Bool) → turns n (λ i good. good && f i) true ≡ true → (i : ℕ) → i < n → f i ≡ true
+unfolding turns
+all-pass zero f e i l = absurd (omega arith)
+all-pass (suc n) f e i l =
+    let parts = both (turns n (λ i good. good && f i) true) (f n) e in
+    go (ℕ-discrete i n) (parts .1) (all-pass n f (parts .0) i)
+  where
+    go : Dec (i ≡ n) → f n ≡ true → (i < n → f i ≡ true) → f i ≡ true
+    go (yes q) s h = ap f q ∙ s
+    go (no q) s h = h (omega arith)
