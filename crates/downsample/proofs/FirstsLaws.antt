@@ -9,14 +9,14 @@ use lib.Arith.{digits-div, digits-mod}
 use lib.Ieee.{Float, binary32, div}
 use borrow.Rule.Slice.PartMut.{putMid}
 use Rattle.float_order.specs.Whole.{whole}
-use Rattle.lists.proofs.TableLaws.{tabulate-same}
-use Rattle.lists.proofs.FillLaws.{Filling}
+use Rattle.lists.proofs.TableLaws.{tabulate-same, filled-at}
+use Rattle.lists.proofs.FillLaws.{Filling, stored}
 use Rattle.resample.specs.WorkSize.{Within}
 use Rattle.resample.specs.Places.{Block}
 use Rattle.resample.specs.Blocks.{firstOf, blockSum, averageOf}
 use Rattle.resample.proofs.BlockLaws.{run-of, average-by}
 use Rattle.resample.proofs.FillLaws.{averageAt}
-use Rattle.resample.proofs.RowFillLaws.{filled-at, stored, stored-row}
+use Rattle.resample.proofs.RowFillLaws.{stored-row}
 use Rattle.downsample.specs.Firsts.{firstsOf, averagesOf}
 
 module _ (side reduced : ℕ) where

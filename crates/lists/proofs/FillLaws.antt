@@ -5,7 +5,7 @@ use mathlib.Core.List.{List}
 use native.Mathlib.Omega.{arith}
 use lib.ListN.{length, getD, set}
 use Rattle.lists.specs.Loops.{tabulate}
-use Rattle.lists.proofs.TableLaws.{filled, filled-none, filled-length, filled-more, filled-done, filled-ahead, tabulate-getD}
+use Rattle.lists.proofs.TableLaws.{filled, filled-none, filled-length, filled-more, filled-done, filled-at, filled-ahead, tabulate-getD}
 
 -- the list `old` after i stores is `new`
 pub record Filling {A : Type 0} (f : ℕ → A) (i : ℕ) (old new : List A) : Type 0 where
@@ -28,6 +28,13 @@ module _ {A : Type 0} {f : ℕ → A} {i : ℕ} {old new : List A} (p : Filling 
   -- the next place still holds what it held
   pub filling-next : (d : A) → getD new i d ≡ getD old i d
   filling-next d = ap (λ (l : List A). getD l i d) (p .held) ∙ filled-ahead f i i old d (omega arith)
+
+  pub filling-at : (k : ℕ) (d : A) → k < i → getD new k d ≡ f k
+  filling-at k d l = ap (λ (t : List A). getD t k d) (p .held) ∙ filled-at f i old k d l
+
+  -- a loop that has stored n values
+  pub stored : {n : ℕ} → i ≤ n → n ≤ i → new ≡ filled f n old
+  stored {n} a b = let same : i ≡ n = omega arith in p .held ∙ ap (λ (k : ℕ). filled f k old) same
 
   pub filling-done : (n : ℕ) → length old ≡ n → n ≤ i → new ≡ tabulate n f
   filling-done n e l =

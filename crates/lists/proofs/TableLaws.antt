@@ -50,6 +50,11 @@ module _ {A : Type 0} (f : ℕ → A) where
   pub filled-done : (n : ℕ) (old : List A) → length old ≡ n → filled n old ≡ tabulate n f
   filled-done n old e = ap (λ (l : List A). tabulate n f ++ l) (drop-of-length-le old (le-of-eq e)) ∙ append-nil (tabulate n f)
 
+  -- what the loop has stored is read
+  pub filled-at : (n : ℕ) (old : List A) (i : ℕ) (d : A) → i < n → getD (filled n old) i d ≡ f i
+  filled-at n old i d l =
+      List·getD-append (tabulate n f) (drop n old) d i (subst (λ (k : ℕ). i < k) (sym (length-tabulate n)) l) ∙ getD-tabulate n i d l
+
   -- what the loop has not reached yet is as it was
   pub filled-ahead : (i j : ℕ) (old : List A) (d : A) → i ≤ j → getD (filled i old) j d ≡ getD old j d
   filled-ahead i j old d h =

@@ -6,10 +6,10 @@ use mathlib.Core.Bool.{cond}
 use mathlib.Core.List.{List, _++_}
 use native.Mathlib.Omega.{arith}
 use lib.Dec.{eqb}
-use lib.ListN.{length, getD, set, drop, List·getD-append}
+use lib.ListN.{length, getD, set, drop}
 use lib.Ieee.{Float, nan}
 use Rattle.lists.specs.Loops.{tabulate}
-use Rattle.lists.proofs.TableLaws.{length-tabulate, getD-tabulate, filled, filled-length}
+use Rattle.lists.proofs.TableLaws.{filled-length, filled-at}
 use Rattle.lists.proofs.FillLaws.{Filling, filling-next}
 use Rattle.grid.specs.Directions.{Adjacent}
 use Rattle.inner_cells.specs.Inner.{InnerRun}
@@ -17,15 +17,6 @@ use Rattle.network.specs.Passes.{Received}
 use Rattle.receiver_blocks.specs.Runs.{finderAs, steepestFrom, steepestAt, NearFinders, Begun, RunReceived}
 use Rattle.receiver_blocks.proofs.OffsetLaws.{inner-inside, offset-enough, offset-below, offset-received}
 use Rattle.receiver_blocks.proofs.RunLaws.{run-more}
-
--- a place that the loop has passed
-pub filled-behind : {A : Type 0} (f : ℕ → A) (n i : ℕ) (old : List A) (d : A) → i < n → getD (filled f n old) i d ≡ f i
-filled-behind f n i old d l =
-    List·getD-append (tabulate n f) (drop n old) d i (subst (λ (k : ℕ). i < k) (sym (length-tabulate f n)) l) ∙ getD-tabulate f n i d l
-
--- the first n places
-pub filled-end : {A : Type 0} {f : ℕ → A} {i : ℕ} {old new : List A} (n : ℕ) → Filling f i old new → i ≤ n → n ≤ i → new ≡ tabulate n f ++ drop n old
-filled-end {f = f} {i = i} {old = old} n p a b = let e : i ≡ n = omega arith in p .held ∙ ap (λ (k : ℕ). filled f k old) e
 
 -- the lists keep their lengths
 pub begun-long :
@@ -46,10 +37,10 @@ module _ (w h : ℕ) (spill : List Float) (recv : List ℕ) (c n : ℕ) {cells c
       Begun w spill recv c n cells slopes cells′ slopes′ → cells″ ≡ tabulate n (steepestAt w h spill c cells′ slopes′) ++ drop n cells′ → (i : ℕ) → i < n
       → getD cells″ i 0 ≡ steepestFrom w h spill (c + i) (finderAs w spill (c + i) (getD recv (c + i) 0)) .cell
   block-offset b e i l =
-      ap (λ (t : List ℕ). getD t i 0) e ∙ filled-behind (steepestAt w h spill c cells′ slopes′) n i cells′ 0 l
+      ap (λ (t : List ℕ). getD t i 0) e ∙ filled-at (steepestAt w h spill c cells′ slopes′) n cells′ i 0 l
       ∙ ap₂ (λ (k : ℕ) (s : Float). steepestFrom w h spill (c + i) (record { cell = k; slope = s }) .cell)
-      (ap (λ (t : List ℕ). getD t i 0) (b .offsets) ∙ filled-behind (λ i. finderAs w spill (c + i) (getD recv (c + i) 0) .cell) n i cells 0 l)
-      (ap (λ (t : List Float). getD t i nan) (b .downs) ∙ filled-behind (λ i. finderAs w spill (c + i) (getD recv (c + i) 0) .slope) n i slopes nan l)
+      (ap (λ (t : List ℕ). getD t i 0) (b .offsets) ∙ filled-at (λ i. finderAs w spill (c + i) (getD recv (c + i) 0) .cell) n cells i 0 l)
+      (ap (λ (t : List Float). getD t i nan) (b .downs) ∙ filled-at (λ i. finderAs w spill (c + i) (getD recv (c + i) 0) .slope) n slopes i nan l)
 
 -- the receiver of cell c + i, whose offset o the block has found
 module _

@@ -1,28 +1,16 @@
--- A loop that fills a list from the front: what is read from it, and a map filled row by row.
-use Prim.Native.Nat.{ℕ, zero, suc, _+_, _-_, _*_, _≤_, _<_}
+-- A map filled row by row.
+use Prim.Native.Nat.{ℕ, zero, suc, _+_, _-_, _*_, _≤_}
 use mathlib.Core.Path.{_≡_, sym, ap, ap₂, _∙_, subst}
 use mathlib.Core.List.{List, [], _∷_, _++_, append-assoc, append-nil}
 use native.Mathlib.Nat.{mul-comm, mul-le-mul-right}
 use native.Mathlib.Omega.{arith}
-use lib.ListN.{length, getD, take, drop, List·getD-append}
+use lib.ListN.{length, take, drop}
 use lib.Seq.{take-at, drop-at, drop-drop}
 use lib.Ieee.{Float}
 use borrow.Rule.Slice.PartMut.{putMid, post-is}
 use Rattle.lists.specs.Loops.{tabulate}
-use Rattle.lists.proofs.TableLaws.{length-tabulate, getD-tabulate, filled}
+use Rattle.lists.proofs.TableLaws.{length-tabulate}
 use Rattle.lists.proofs.FillLaws.{Filling, filling-none, filling-done}
-
--- what a loop has stored is read
-pub filled-at : {A : Type 0} (f : ℕ → A) (n : ℕ) (old : List A) (i : ℕ) (d : A) → i < n → getD (filled f n old) i d ≡ f i
-filled-at f n old i d l =
-    List·getD-append (tabulate n f) (drop n old) d i (subst (λ (k : ℕ). i < k) (sym (length-tabulate f n)) l) ∙ getD-tabulate f n i d l
-
-pub filling-at : {A : Type 0} {f : ℕ → A} {n : ℕ} {old new : List A} → Filling f n old new → (i : ℕ) (d : A) → i < n → getD new i d ≡ f i
-filling-at {A} {f} {n} {old} p i d l = ap (λ (t : List A). getD t i d) (p .held) ∙ filled-at f n old i d l
-
--- a loop that has stored n values
-pub stored : {A : Type 0} {f : ℕ → A} {i n : ℕ} {old new : List A} → Filling f i old new → i ≤ n → n ≤ i → new ≡ filled f n old
-stored {A} {f} {i} {n} {old} p a b = let same : i ≡ n = omega arith in p .held ∙ ap (λ (k : ℕ). filled f k old) same
 
 -- f 0 … f (a + b - 1) in two parts
 tabulate-add : {A : Type 0} (f : ℕ → A) (a b : ℕ) → tabulate (a + b) f ≡ tabulate a f ++ tabulate b (λ x. f (a + x))

@@ -6,9 +6,8 @@ use native.Mathlib.Omega.{arith}
 use lib.ListN.{length, getD}
 use lib.Ieee.{Float, nan}
 use Rattle.floats.specs.Stand.{fractOf, indexOf}
-use Rattle.lists.proofs.FillLaws.{Filling, filling-length}
+use Rattle.lists.proofs.FillLaws.{Filling, filling-length, filling-at}
 use Rattle.grid.specs.Directions.{Place}
-use Rattle.resample.proofs.RowFillLaws.{filling-at}
 use Rattle.bilinear.specs.Places.{Grid}
 use Rattle.bilinear.specs.Samples.{asSource, acrossOf}
 use Rattle.bilinear.proofs.CornerLaws.{place-in}

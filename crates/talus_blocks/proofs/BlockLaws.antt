@@ -6,56 +6,19 @@ use mathlib.Core.List.{List}
 use native.Mathlib.Numerals.{add-one}
 use native.Mathlib.Omega.{arith}
 use native.Mathlib.Decide.{ℕ-discrete}
-use lib.ListN.{length, getD, set, length-set}
-use lib.Seq.{getD-set-same, getD-set-other}
+use lib.ListN.{getD, set}
 use lib.Ieee.{Float, nan, binary32, ofBits, sub, lt, le}
 use Rattle.lists.proofs.TurnLaws.{turns-keep}
+use Rattle.lists.proofs.FillLaws.{Filling, filling-at}
 use Rattle.talus.specs.Talus.{shedOf, gainsOf, slideCell, slideCells}
 use Rattle.talus.proofs.CellLaws.{slide-under, slide-still, slide-moved}
 use Rattle.talus_blocks.specs.Blocks.{shedTotal, movedFrom, Sheds, shedders}
 
--- those of the first i cells of n stand in two lists of 64
-pub record Shedding (w h : ℕ) (ts hs : List Float) (strength water : Float) (y x n i : ℕ) (totals moved : List Float) : Type 0 where
-  pub place : i ≤ n
-  pub totals-long : length totals ≡ 64
-  pub moved-long : length moved ≡ 64
-  pub known : Sheds w h ts hs strength water y x i totals moved
-
--- a list of 64 values of cells, after one store more
-stored : (f : ℕ → Float) (l : List Float) (i : ℕ) (v : Float) → length l ≡ 64 → i < 64 → v ≡ f i → ((j : ℕ) → j < i → getD l j nan ≡ f j)
-    → (j : ℕ) → j < i + 1 → getD (set l i v) j nan ≡ f j
-stored f l i v long few e h j k = go (ℕ-discrete j i)
-  where
-    go : Dec (j ≡ i) → getD (set l i v) j nan ≡ f j
-    go (yes q) = rw q (getD-set-same l i v nan (omega arith) ∙ e)
-    go (no q) = getD-set-other l i j v nan q ∙ h j (omega arith)
-
-module _ (w h : ℕ) (ts hs : List Float) (strength water : Float) (y x : ℕ) where
-  pub sheds-none : (totals moved : List Float) → Sheds w h ts hs strength water y x 0 totals moved
-  sheds-none totals moved = record { total = λ j l. absurd (omega arith); loss = λ j l. absurd (omega arith) }
-
-  pub shedding-more : {n i : ℕ} {totals moved : List Float} {t m : Float} → Shedding w h ts hs strength water y x n i totals moved → i < n → n ≤ 64
-      → t ≡ shedTotal w h ts hs water (x + i + y * w) → m ≡ movedFrom w h ts hs strength (x + i + y * w)
-      → Shedding w h ts hs strength water y x n (i + 1) (set totals i t) (set moved i m)
-  shedding-more {n} {i} {totals} {moved} {t} {m} a l few e f =
-      record {
-        place = omega arith;
-        totals-long = length-set totals i t ∙ a .totals-long;
-        moved-long = length-set moved i m ∙ a .moved-long;
-        known =
-            record {
-              total = stored (λ j. shedTotal w h ts hs water (x + j + y * w)) totals i t (a .totals-long) (omega arith) e (a .known .total);
-              loss = stored (λ j. movedFrom w h ts hs strength (x + j + y * w)) moved i m (a .moved-long) (omega arith) f (a .known .loss);
-            };
-      }
-
-  pub shedding-done : {n i : ℕ} {totals moved : List Float} → Shedding w h ts hs strength water y x n i totals moved → n ≤ i
-      → Sheds w h ts hs strength water y x n totals moved
-  shedding-done a l =
-      record {
-        total = λ j k. a .known .total j (omega arith);
-        loss = λ j k. a .known .loss j (omega arith);
-      }
+-- what the loop over n cells has stored
+pub sheds-done : (w h : ℕ) (ts hs : List Float) (strength water : Float) (y x n i : ℕ) {totals totals′ moved moved′ : List Float}
+    → Filling (λ j. shedTotal w h ts hs water (x + j + y * w)) i totals totals′ → Filling (λ j. movedFrom w h ts hs strength (x + j + y * w)) i moved moved′ → n ≤ i
+    → Sheds w h ts hs strength water y x n totals′ moved′
+sheds-done w h ts hs strength water y x n i p q l = record { total = λ j k. filling-at p j nan (omega arith); loss = λ j k. filling-at q j nan (omega arith) }
 
 zero-still : le (ofBits binary32 0) (ofBits binary32 0) ≡ true
 unfolding le ofBits

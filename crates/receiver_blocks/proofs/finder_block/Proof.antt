@@ -3,13 +3,12 @@ use native.Mathlib.Omega.{arith}
 use mathlib.Core.Path.{_≡_, refl}
 use mathlib.Core.Logic.{_⊎_}
 use lib.ListN.{getD}
-use Rattle.lists.proofs.FillLaws.{Filling, filling-none, filling-more}
+use Rattle.lists.proofs.FillLaws.{Filling, filling-none, filling-more, stored}
 use Rattle.grid.specs.Directions.{Adjacent}
 use Rattle.inner_cells.specs.Inner.{Inner}
 use Rattle.network.proofs.ReceiverLaws.{near-inside}
 use Rattle.receiver_blocks.specs.Runs.{finderAs}
 use Rattle.receiver_blocks.proofs.OffsetLaws.{inner-inside, inner-wide, inner-few, finder-near, finder-back, finder-ahead}
-use Rattle.receiver_blocks.proofs.BlockLaws.{filled-end}
 use Rattle.receiver_blocks.proofs.finder_block.Statement.{statement}
 use Rattle.receiver_blocks.proofs.finder_block.Tie as tie
 
@@ -84,7 +83,7 @@ loop-again : tie.Need-loop-again Inv-loop μ-loop
 loop-again c = (omega (arith, c .before .before .loop-test .taken), (filling-more (c .before .before .before .loop .inv .1 .0) refl (omega (arith, c .before .before .loop-test .taken, c .before .before .before .before .before .before .pre .1 .1 .1 .1 .1)), filling-more (c .before .before .before .loop .inv .1 .1) (c .finder-slope .ensures) (omega (arith, c .before .before .loop-test .taken, c .before .before .before .before .before .before .pre .1 .1 .1 .1 .1))))
 
 returns : tie.Need-returns Inv-loop μ-loop
-returns c = record { offsets = filled-end _ (c .before .loop .inv .1 .0) (c .before .loop .inv .0) (c .loop-test .left); downs = filled-end _ (c .before .loop .inv .1 .1) (c .before .loop .inv .0) (c .loop-test .left) }
+returns c = record { offsets = stored (c .before .loop .inv .1 .0) (c .before .loop .inv .0) (c .loop-test .left); downs = stored (c .before .loop .inv .1 .1) (c .before .loop .inv .0) (c .loop-test .left) }
 
 pub finder-block-spec : {M : Type 1} → statement M
 finder-block-spec =

@@ -1,10 +1,10 @@
 use Prim.Native.Nat.{_+_, _-_, _≤_, _<_}
 use native.Mathlib.Omega.{arith}
-use Rattle.lists.proofs.FillLaws.{Filling, filling-none, filling-more}
+use Rattle.lists.proofs.FillLaws.{Filling, filling-none, filling-more, stored}
 use Rattle.inner_cells.specs.Inner.{Inner}
 use Rattle.receiver_blocks.specs.Runs.{steepestAt}
 use Rattle.receiver_blocks.proofs.OffsetLaws.{inner-inside, inner-few}
-use Rattle.receiver_blocks.proofs.BlockLaws.{filled-end, steepest-next}
+use Rattle.receiver_blocks.proofs.BlockLaws.{steepest-next}
 use Rattle.receiver_blocks.proofs.steepest_block.Statement.{statement}
 use Rattle.receiver_blocks.proofs.steepest_block.Tie as tie
 
@@ -58,7 +58,7 @@ loop-again : tie.Need-loop-again Inv-loop μ-loop
 loop-again c = (omega (arith, c .before .before .before .loop-test .taken), filling-more (c .before .before .before .before .loop .inv .1) (steepest-next _ _ _ _ _ (c .before .before .before .before .before .before .args .slopes .now) (c .before .before .before .before .loop .i) (c .before .before .before .before .loop .inv .1) (c .steepest-inside .ensures)) (omega (arith, few (c .before .before .before), c .before .before .before .before .before .before .pre .1 .1 .1 .1 .1)))
 
 returns : tie.Need-returns Inv-loop μ-loop
-returns c = filled-end _ (c .before .loop .inv .1) (c .before .loop .inv .0) (c .loop-test .left)
+returns c = stored (c .before .loop .inv .1) (c .before .loop .inv .0) (c .loop-test .left)
 
 pub steepest-block-spec : {M : Type 1} → statement M
 steepest-block-spec =

@@ -1,19 +1,21 @@
-use Prim.Native.Nat.{_+_, _-_, _*_, _<_}
+use Prim.Native.Nat.{_+_, _-_, _*_, _≤_, _<_}
 use mathlib.Core.Path.{ap, _∙_}
 use mathlib.Core.Bool.{cond}
 use native.Mathlib.Omega.{arith}
 use borrow.Author.Needs.{needs}
 use lib.ListN.{length, getD}
 use lib.Ieee.{nan, binary32, ofBits, mul, lt}
+use Rattle.lists.proofs.FillLaws.{Filling, filling-none, filling-more}
 use Rattle.talus.specs.declared.Shed.{Shed}
 use Rattle.talus.proofs.RowLaws.{row-cell-below}
 use Rattle.talus_directions.proofs.PassLaws.{inner-column}
-use Rattle.talus_blocks.proofs.BlockLaws.{Shedding, sheds-none, shedding-more, shedding-done}
+use Rattle.talus_blocks.specs.Blocks.{shedTotal, movedFrom}
+use Rattle.talus_blocks.proofs.BlockLaws.{sheds-done}
 use Rattle.talus_blocks.proofs.shed_block.Statement.{statement}
 use Rattle.talus_blocks.proofs.shed_block.Tie as tie
 
 abbrev Inv-loop : tie.InvT-loop
-Inv-loop size os ts hmap strength water y x n totals₀ moved₀ w i₀ totals moved i = Shedding (size .w) (size .h) ts hmap strength water y x n i totals moved
+Inv-loop size os ts hmap strength water y x n totals₀ moved₀ w i₀ totals moved i = (i ≤ n) × (Filling (λ j. shedTotal (size .w) (size .h) ts hmap water (x + j + y * size .w)) i totals₀ totals × Filling (λ j. movedFrom (size .w) (size .h) ts hmap strength (x + j + y * size .w)) i moved₀ moved)
 
 abbrev μ-loop : tie.MeasureT-loop
 μ-loop size os ts hmap strength water y x n totals₀ moved₀ w i₀ totals moved i = n - i
@@ -26,7 +28,7 @@ few : (c : tie.In-loop Inv-loop μ-loop) → c .before .loop .i < 64
 few c = omega (arith, c .loop-test .taken, c .before .before .before .pre .1 .1 .0)
 
 loop-holds : tie.Need-loop-holds Inv-loop μ-loop
-loop-holds c = record { place = omega arith; totals-long = c .before .pre .1 .1 .1 .0; moved-long = c .before .pre .1 .1 .1 .1; known = sheds-none _ _ _ _ _ _ _ _ _ _ }
+loop-holds c = (omega arith, (filling-none, filling-none))
 
 add-c : tie.Need-add-c Inv-loop μ-loop
 add-c c = omega (arith, below c)
@@ -68,10 +70,10 @@ loop-less : tie.Need-loop-less Inv-loop μ-loop
 loop-less c = omega (arith, c .before .before .before .before .loop-test .taken)
 
 loop-again : tie.Need-loop-again Inv-loop μ-loop
-loop-again c = shedding-more _ _ _ _ _ _ _ _ (c .before .before .before .before .before .loop .inv) (c .before .before .before .before .loop-test .taken) (c .before .before .before .before .before .before .before .pre .1 .1 .0) (c .before .dry-total .ensures ∙ ap (λ (s : Shed). cond (lt (getD (c .before .before .before .before .before .before .before .args .hmap .now) (c .before .before .before .before .before .before .before .args .x + c .before .before .before .before .before .loop .i + c .before .before .before .before .before .before .before .args .y * c .before .before .before .before .before .before .before .args .size .w) nan) (c .before .before .before .before .before .before .before .args .water)) (ofBits binary32 0) (s .total)) (c .before .before .before .shed-inside .ensures)) (ap (λ (s : Shed). mul binary32 (c .before .before .before .before .before .before .before .args .strength) (s .greatest)) (c .before .before .before .shed-inside .ensures))
+loop-again c = (omega (arith, c .before .before .before .before .loop-test .taken), (filling-more (c .before .before .before .before .before .loop .inv .1 .0) (c .before .dry-total .ensures ∙ ap (λ (s : Shed). cond (lt (getD (c .before .before .before .before .before .before .before .args .hmap .now) (c .before .before .before .before .before .before .before .args .x + c .before .before .before .before .before .loop .i + c .before .before .before .before .before .before .before .args .y * c .before .before .before .before .before .before .before .args .size .w) nan) (c .before .before .before .before .before .before .before .args .water)) (ofBits binary32 0) (s .total)) (c .before .before .before .shed-inside .ensures)) (omega (arith, few (c .before .before .before .before), c .before .before .before .before .before .before .before .pre .1 .1 .1 .0)), filling-more (c .before .before .before .before .before .loop .inv .1 .1) (ap (λ (s : Shed). mul binary32 (c .before .before .before .before .before .before .before .args .strength) (s .greatest)) (c .before .before .before .shed-inside .ensures)) (omega (arith, few (c .before .before .before .before), c .before .before .before .before .before .before .before .pre .1 .1 .1 .1))))
 
 returns : tie.Need-returns Inv-loop μ-loop
-returns c = shedding-done _ _ _ _ _ _ _ _ (c .before .loop .inv) (c .loop-test .left)
+returns c = sheds-done _ _ _ _ _ _ _ _ _ (c .before .loop .i) (c .before .loop .inv .1 .0) (c .before .loop .inv .1 .1) (c .loop-test .left)
 
 pub shed-block-spec : {M : Type 1} → statement M
 shed-block-spec =
