@@ -7,13 +7,14 @@ use mathlib.Core.Bool.{Bool, true, false, not, cond}
 use mathlib.Core.List.{List, _∷_, _++_}
 use lib.ListN.{length, getD, set, take, drop}
 use lib.Seq.{getD-set-same, getD-set-other, split-at, drop-cons, drop-length}
-use lib.Dec.{T, eqb, le→leb}
+use lib.Dec.{T, eqb}
 use lib.IntN.{pos}
 use lib.Ieee.{Float, nan, binary32, ofBits, toBits, isNan, inFloat}
 use borrow.Author.Tests.{eqb-true, eqb-false}
 use Rattle.lists.specs.Loops.{tabulate}
 use Rattle.lists.proofs.TableLaws.{tabulate-same, tabulate-getD, length-tabulate, getD-tabulate}
 use Rattle.floats.proofs.BitsLaws.{plain-bits, bits-back}
+use Rattle.floats.proofs.WholeLaws.{float-in}
 use Rattle.float_order.specs.Whole.{whole}
 use Rattle.drainage.specs.Ways.{times, countBelow, WorkList, areasAlong}
 use Rattle.drainage.proofs.CountLaws.{count-le, count-one}
@@ -36,10 +37,7 @@ module _ {x : Float} (w : Word x) where
 
   -- its area is a whole number that binary32 has
   pub word-float : T (inFloat binary32 (pos (toBits binary32 x / 16)))
-  unfolding inFloat
-  word-float =
-      let l : toBits binary32 x / 16 ≤ 2 ^ 24 = omega (arith, word-small) in
-      le→leb _ _ l
+  word-float = float-in (toBits binary32 x / 16) (omega (arith, word-small))
 
 module _ {w cells : ℕ} {recv : List ℕ} (net : Network w recv cells) where
   step : {c : ℕ} → c < length recv → Step w c (getD recv c 0) (stepOf w c (getD recv c 0))

@@ -7,8 +7,9 @@ use mathlib.Core.List.{List}
 use lib.IntN.{pos}
 use lib.ListN.{length, getD, set, drop, length-set}
 use lib.Seq.{drop-cons, drop-length}
-use lib.Dec.{T, le→leb}
+use lib.Dec.{T}
 use lib.Ieee.{Float, nan, binary32, div, inFloat, ofInt}
+use Rattle.floats.proofs.WholeLaws.{float-in}
 use Rattle.grid.specs.Sides.{InRange}
 use Rattle.grid.proofs.SidesLaws.{cells-bound, some-column}
 use Rattle.drainage.specs.Ground.{Ground, gridGround}
@@ -127,8 +128,7 @@ incised-along {w} {h} recv list {p} areas hs drains long few a b s l =
 
 -- a grid's number of cells is a float
 pub cells-float : {w h : ℕ} → InRange w h → T (inFloat binary32 (pos (w * h)))
-unfolding inFloat
-cells-float {w} {h} r = le→leb _ _ (cells-bound w h (r .wide) (r .high))
+cells-float {w} {h} r = float-in (w * h) (cells-bound w h (r .wide) (r .high))
 
 -- the areas along the list are whole numbers
 pub whole-areas : {w h n : ℕ} {recv list : List ℕ} {area : List Float} → Drains w h recv list → n ≡ w * h → area ≡ areasAlong n recv list → WholeAreas area

@@ -8,6 +8,7 @@ use lib.Dec.{T, le→leb}
 use lib.IntN.{pos}
 use lib.Ieee.{Float, nan, binary32, ofBits, mul, div, inFloat, inUnsigned, toUnsigned}
 use lib.Ieee.Back.{unsigned-back}
+use Rattle.floats.proofs.WholeLaws.{float-in}
 use Rattle.lists.specs.Loops.{tabulate}
 use Rattle.lists.proofs.TableLaws.{length-tabulate, getD-tabulate, filled, filled-more}
 use Rattle.lists.proofs.FillLaws.{Filling, filling-done}
@@ -18,8 +19,7 @@ use Rattle.rates.specs.Rate.{rateOf, ratesOf, ratesOver, WholeArea}
 
 -- a number of the table is a float
 pub place-float : (i : ℕ) → i < 1024 → T (inFloat binary32 (pos i))
-unfolding inFloat
-place-float i l = let bound : i ≤ 2 ^ 24 = omega arith in le→leb _ _ bound
+place-float i l = float-in i (omega arith)
 
 -- the number of a whole area, by a cast
 module _ {area : Float} (a : WholeArea area) where

@@ -1,6 +1,7 @@
 // Words, numbers of four bytes that stand low byte first: slices to bytes and back, and room for the slices of the replay list.
 use floats::from_bits;
 use floats::to_bits;
+use grid::least;
 use stream_bytes::put_u32;
 use stream_bytes::read_u32;
 ghost use mathlib.Core.Path.{_≡_};
@@ -37,15 +38,6 @@ pub fn wide(x: u32) -> usize
     ensures { λ r. ⌜ r ≡ x ⌝ }
 {
     x as usize
-}
-
-// The lesser number.
-fn least(a: usize, b: usize) -> usize
-    ensures { λ r. ⌜ r ≤ a ⌝ }
-    ensures { λ r. ⌜ r ≤ b ⌝ }
-    ensures { λ r. ⌜ r ≡ min a b ⌝ }
-{
-    if a < b { a } else { b }
 }
 
 // n, at most the length of a room. The first fact is what a part of the room with that length asks.
