@@ -17,11 +17,6 @@ held k r room full p = sym (p .0 .1) ∙ p .1 ∙ ap (min k) (sym full)
 pub by-three : {X : Type 0} {x : X} (end : ℕ → ℕ → ℕ → X) {a b c a′ b′ c′ : ℕ} → a ≡ a′ → b ≡ b′ → c ≡ c′ → x ≡ end a b c → x ≡ end a′ b′ c′
 by-three end p q s e = rw (p, q, s) at e
 
-pub by-four :
-    {X : Type 0} {x : X} (end : ℕ → ℕ → ℕ → ℕ → X) {a b c d a′ b′ c′ d′ : ℕ}
-    → a ≡ a′ → b ≡ b′ → c ≡ c′ → d ≡ d′ → x ≡ end a b c d → x ≡ end a′ b′ c′ d′
-by-four end p q s t e = rw (p, q, s, t) at e
-
 pub route-held :
     {w h : ℕ} {hs : List Float} {water : Float} {order recv : List ℕ} {spill area : List Float} {queue status : List ℕ} {r : Answer}
     {order′ recv′ : List ℕ} {spill′ area′ : List Float} {queue′ status′ : List ℕ} {q s : ℕ}

@@ -1,1 +1,2 @@
-mod HeldLaws
+-- Laws of the definitions in specs/.
+pub mod HeldLaws

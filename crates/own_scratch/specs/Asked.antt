@@ -8,51 +8,27 @@ use lib.ListN.{length, getD}
 use lib.Ieee.{Float, nan}
 use Rattle.answers.specs.Outcome.{Outcome, answerOf}
 use Rattle.answers.specs.declared.Answer.{Answer}
-use Rattle.runs.specs.Run.{ours, runBy, thermalRun}
-use Rattle.runs.specs.declared.FluvialSettings.{FluvialSettings}
+use Rattle.runs.specs.Run.{thermalRun}
 use Rattle.runs.specs.declared.ThermalSettings.{ThermalSettings}
 use Rattle.erosion.specs.Ending.{Ending, endingOf, endedWith}
 use Rattle.erosion.specs.declared.RunAnswer.{RunAnswer}
 use Rattle.flow.specs.Route.{routeAnswer, accepted, orderOf, receiversOf, floodOf, areasOf}
 use Rattle.flow.specs.declared.Lent.{Lent}
 use Rattle.harness_calls.specs.Word.{Exported}
-use Rattle.fluvial_run.specs.FluvialRun as F
 use Rattle.thermal_run.specs.ThermalRun as T
 
 -- the length of a scratch slice that number i asks for, at most that of a room
 abbrev pub asked : List ℕ → ℕ → ℕ
 asked n i = min (getD n i 0) 10500
 
-abbrev pub fluvialAsked : List ℕ → List Float → FluvialSettings
-fluvialAsked n f =
-    record {
-      «water_level» = getD f 0 nan;
-      strength = getD f 1 nan;
-      talus = getD f 2 nan;
-      uplift = getD f 3 nan;
-      iterations = getD n 3 0;
-      «work_res» = getD n 4 0;
-    }
-
 abbrev pub thermalAsked : List ℕ → List Float → ThermalSettings
 thermalAsked n f =
     record { «water_level» = getD f 0 nan; talus = getD f 1 nan; strength = getD f 2 nan; iterations = getD n 3 0; «work_res» = getD n 4 0 }
 
--- the end of the run that a task asks for, with scratch of so many values
-abbrev pub fluvialEnd : ℕ → ℕ → List ℕ → List Float → List Float → ℕ → ℕ → ℕ → ℕ → ℕ → ℕ → ℕ → ℕ → Ending
-fluvialEnd w h n f map small eroded copy area order recv queue status =
-    endingOf
-    (F.inputRefusal w h (fluvialAsked n f) map
-    (record { small = small; eroded = eroded; copy = copy; area = area; order = order; recv = recv; queue = queue; status = status }))
-    map (runBy w h (fluvialAsked n f) (getD n 2 0) ours map)
-
+-- the settings and the end of the thermal run that a task asks for, with scratch of so many values
 abbrev pub thermalEnd : ℕ → ℕ → List ℕ → List Float → List Float → ℕ → ℕ → ℕ → Ending
 thermalEnd w h n f map small eroded copy =
     endingOf (T.inputRefusal w h (thermalAsked n f) map small eroded copy) map (thermalRun w h (thermalAsked n f) (getD n 2 0) map)
-
-abbrev pub FluvialEnded : ℕ → ℕ → List ℕ → List Float → List Float → List Float → ℕ → ℕ → ℕ → ℕ → RunAnswer → Type 0
-FluvialEnded w h n f map map′ order recv queue status r =
-    endedWith r map′ ≡ fluvialEnd w h n f map (asked n 5) (asked n 6) (asked n 7) (asked n 8) order recv queue status
 
 abbrev pub ThermalEnded : ℕ → ℕ → List ℕ → List Float → List Float → List Float → RunAnswer → Type 0
 ThermalEnded w h n f map map′ r = endedWith r map′ ≡ thermalEnd w h n f map (asked n 5) (asked n 6) (asked n 7)

@@ -1,6 +1,7 @@
 // Replays the oracle's list: reads tasks, makes the calls, writes the answers, which the file stdout fixes. oracle/README.md has the words of
 // each task and answer. A task is the number of a call, 26 numbers, 6 floats and the values of five slices: three of floats, two of cells.
 use floats::to_bits;
+use fluvial_scratch::fluvial_asked;
 use harness::harness_incise;
 use harness::harness_report;
 use harness::harness_slide_pass;
@@ -13,7 +14,6 @@ use harness_calls::harness_normalize;
 use layout_calls::milofavurn_square_root;
 use layout_calls::milofavurn_working_sides;
 use output::Written;
-use own_scratch::fluvial_asked;
 use own_scratch::route_asked;
 use own_scratch::thermal_asked;
 use words::bytes_held;
@@ -114,6 +114,53 @@ fn slide_pass(n: &[u32; 26], f: &[f32; 6], map: &[f32], out: &mut [f32]) -> [u32
     told(word, last, asked, flag(stopped))
 }
 
+// The calls on numbers and on maps.
+fn on_maps(call: u32, n: &[u32; 26], f: &[f32; 6], a: &mut [f32], b: &mut [f32]) -> u64 {
+    let w = wide(n[0]);
+    let h = wide(n[1]);
+    let dw = wide(n[2]);
+    let dh = wide(n[3]);
+    match call {
+        1 => harness_least(a),
+        2 => harness_greatest(a),
+        3 => harness_normalize(a, f[0], f[1]),
+        4 => harness_downsample(a, w, h, b, dw, dh),
+        5 => harness_add_upsampled(a, w, h, b, dw, dh),
+        6 => harness_bilinear(a, f[0], f[1], w, h),
+        7 => milofavurn_square_root(f[0]),
+        _ => milofavurn_working_sides(w, h, n[2]),
+    }
+}
+
+// Whole runs.
+fn on_runs(call: u32, n: &[u32; 26], f: &[f32; 6], a: &mut [f32]) -> u64 {
+    let w = wide(n[0]);
+    let h = wide(n[1]);
+    match call {
+        13 => fluvial_asked(w, h, n, f, a),
+        _ => thermal_asked(w, h, n, f, a),
+    }
+}
+
+// Routing and incision.
+fn on_networks(
+    call: u32,
+    n: &[u32; 26],
+    f: &[f32; 6],
+    a: &[f32],
+    b: &mut [f32],
+    c: &mut [f32],
+    d: &mut [u32],
+    e: &mut [u32],
+) -> u64 {
+    let w = wide(n[0]);
+    let h = wide(n[1]);
+    match call {
+        10 => harness_incise(w, h, a, f[0], f[1], f[2], d, e, b, c),
+        _ => route_asked(w, h, n, f, a, d, e, b, c),
+    }
+}
+
 // The call of a task on its slices.
 fn perform(
     call: u32,
@@ -125,29 +172,37 @@ fn perform(
     d: &mut [u32],
     e: &mut [u32],
 ) -> [u32; 5] {
-    let w = wide(n[0]);
-    let h = wide(n[1]);
-    let dw = wide(n[2]);
-    let dh = wide(n[3]);
     match call {
-        1 => plain(harness_least(a), n, f),
-        2 => plain(harness_greatest(a), n, f),
-        3 => plain(harness_normalize(a, f[0], f[1]), n, f),
-        4 => plain(harness_downsample(a, w, h, b, dw, dh), n, f),
-        5 => plain(harness_add_upsampled(a, w, h, b, dw, dh), n, f),
-        6 => plain(harness_bilinear(a, f[0], f[1], w, h), n, f),
-        7 => plain(milofavurn_square_root(f[0]), n, f),
-        8 => plain(milofavurn_working_sides(w, h, n[2]), n, f),
+        1..=8 => plain(on_maps(call, n, f, a, b), n, f),
         9 => report(n, f),
-        10 => plain(harness_incise(w, h, a, f[0], f[1], f[2], d, e, b, c), n, f),
         11 => slide_pass(n, f, a, b),
-        12 => plain(route_asked(w, h, n, f, a, d, e, b, c), n, f),
-        13 => plain(fluvial_asked(w, h, n, f, a), n, f),
-        _ => plain(thermal_asked(w, h, n, f, a), n, f),
+        13..=14 => plain(on_runs(call, n, f, a), n, f),
+        _ => plain(on_networks(call, n, f, a, b, c, d, e), n, f),
     }
 }
 
-// A task but for its stream: reads it, makes its call, and writes the answer and those values of the slices that it asks for.
+// The rest of a task once its floats are read: reads its cells, makes its call, and writes the answer and those values of the slices that it asks for.
+fn replay_cells(
+    call: u32,
+    n: &[u32; 26],
+    f: &[f32; 6],
+    a: &mut [f32],
+    b: &mut [f32],
+    c: &mut [f32],
+) {
+    let mut d_room = cell_room(0);
+    let d = read_cells(&mut d_room, n[19]);
+    let mut e_room = cell_room(0);
+    let e = read_cells(&mut e_room, n[20]);
+    put_cells(&perform(call, n, f, a, b, c, d, e), 5);
+    put_floats(a, n[21]);
+    put_floats(b, n[22]);
+    put_floats(c, n[23]);
+    put_cells(d, n[24]);
+    put_cells(e, n[25]);
+}
+
+// A task but for its stream.
 fn replay_call(call: u32) {
     let mut n = [0u32; 26];
     read_cells(&mut n, 26);
@@ -159,16 +214,7 @@ fn replay_call(call: u32) {
     let b = read_floats(&mut b_room, n[17]);
     let mut c_room = float_room(0.0);
     let c = read_floats(&mut c_room, n[18]);
-    let mut d_room = cell_room(0);
-    let d = read_cells(&mut d_room, n[19]);
-    let mut e_room = cell_room(0);
-    let e = read_cells(&mut e_room, n[20]);
-    put_cells(&perform(call, &n, &f, a, b, c, d, e), 5);
-    put_floats(a, n[21]);
-    put_floats(b, n[22]);
-    put_floats(c, n[23]);
-    put_cells(d, n[24]);
-    put_cells(e, n[25]);
+    replay_cells(call, &n, &f, a, b, c);
 }
 
 // The output has room, so the writer does not refuse; the list has no output without a byte.

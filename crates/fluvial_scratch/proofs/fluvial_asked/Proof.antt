@@ -1,10 +1,12 @@
 use Prim.Native.Nat.{ℕ, min}
 use mathlib.Core.Path.{ap, _∙_}
-use Rattle.own_scratch.specs.Asked.{asked, fluvialEnd}
-use Rattle.own_scratch.proofs.HeldLaws.{held, by-four}
+use Rattle.own_scratch.specs.Asked.{asked}
+use Rattle.fluvial_scratch.specs.Fluvial.{fluvialEnd}
+use Rattle.own_scratch.proofs.HeldLaws.{held}
+use Rattle.fluvial_scratch.proofs.LengthLaws.{by-four}
 use borrow.Author.Needs.{needs}
-use Rattle.own_scratch.proofs.fluvial_asked.Statement.{statement}
-use Rattle.own_scratch.proofs.fluvial_asked.Tie as tie
+use Rattle.fluvial_scratch.proofs.fluvial_asked.Statement.{statement}
+use Rattle.fluvial_scratch.proofs.fluvial_asked.Tie as tie
 
 element-copy-out-cell-room : tie.Need-element-copy-out-cell-room
 element-copy-out-cell-room c = search needs

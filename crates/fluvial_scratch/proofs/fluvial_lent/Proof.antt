@@ -1,10 +1,11 @@
 use Prim.Native.Nat.{ℕ}
 use lib.ListN.{length}
-use Rattle.own_scratch.specs.Asked.{fluvialEnd}
-use Rattle.own_scratch.proofs.HeldLaws.{held, by-four}
+use Rattle.fluvial_scratch.specs.Fluvial.{fluvialEnd}
+use Rattle.own_scratch.proofs.HeldLaws.{held}
+use Rattle.fluvial_scratch.proofs.LengthLaws.{by-four}
 use borrow.Author.Needs.{needs}
-use Rattle.own_scratch.proofs.fluvial_lent.Statement.{statement}
-use Rattle.own_scratch.proofs.fluvial_lent.Tie as tie
+use Rattle.fluvial_scratch.proofs.fluvial_lent.Statement.{statement}
+use Rattle.fluvial_scratch.proofs.fluvial_lent.Tie as tie
 
 element-copy-out-float-room : tie.Need-element-copy-out-float-room
 element-copy-out-float-room c = search needs

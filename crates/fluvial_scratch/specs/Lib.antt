@@ -1,0 +1,2 @@
+-- The fluvial run that a task of the replay list asks for.
+pub mod Fluvial
