@@ -20,7 +20,7 @@ fn aslant(i: u32, r: u32, width: u32) -> bool
 }
 
 // The distance between a cell and its receiver, on three columns or more with no branch to be foreseen.
-pub fn distance(ds: &[f32; 5], i: u32, r: u32, width: u32) -> f32
+fn distance(ds: &[f32; 5], i: u32, r: u32, width: u32) -> f32
     requires { ⌜ now ds ≡ distanceTable ⌝ }
     requires { ⌜ Near width i r ⌝ }
     requires { ⌜ (i < 4096 * 4096) × (r < 4096 * 4096) ⌝ }

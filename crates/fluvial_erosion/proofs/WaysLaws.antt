@@ -1,10 +1,13 @@
 -- The settled heights of ways down are those that the incision along the list leaves.
-use Prim.Native.Nat.{ℕ, _*_, _<_}
+use Prim.Native.Nat.{ℕ, _*_, _≤_, _<_}
+use native.Mathlib.Omega.{arith}
+use native.Mathlib.Nat.{mul-le-mul}
 use mathlib.Core.Path.{_≡_, sym, ap, _∙_, subst}
 use mathlib.Core.List.{List}
 use lib.IntN.{pos}
 use lib.ListN.{length, getD}
 use lib.Ieee.{Float, nan, binary32, ofInt}
+use Rattle.grid.specs.Sides.{InRange}
 use Rattle.drainage.specs.Ground.{gridGround}
 use Rattle.drainage.specs.Ways.{WorkList}
 use Rattle.ways.proofs.DistanceLaws.{distance-is}
@@ -26,14 +29,19 @@ use Rattle.fluvial_erosion.proofs.CellLaws.{steps-of}
 abbrev pub onGrid : ℕ → ℕ → FluvialParams → Incision
 onGrid w h p = record { width = w; cells = ofInt binary32 (pos (w * h)); k = p .k; uplift = p .uplift; water = p .«water_level» }
 
+-- a grid of so many cells, with 4,096 rows at most, is three columns wide
+many-columns : {w h : ℕ} → InRange w h → 1048576 < w * h → 3 ≤ w
+many-columns {w} {h} s many = let m : w * h ≤ w * 4096 = mul-le-mul {n₂ = w} {m₂ = 4096} (omega arith) (s .high) in omega arith
+
 module _ {w h : ℕ} {recv list : List ℕ} (drains : Drains w h recv list) where
   work : WorkList (length recv) recv list
   work = subst (λ (n : ℕ). WorkList n recv list) (sym (drains .along .receivers)) (drains .work)
 
-  pub ways-of : {hs out : ℕ} {areas : List Float} → Lengths (w * h) hs out (length areas) → WholeAreas areas → Ways w recv hs areas out
-  ways-of l whole =
+  pub ways-of : {hs out : ℕ} {areas : List Float} → Lengths (w * h) hs out (length areas) → WholeAreas areas → 1048576 < w * h → Ways w recv hs areas out
+  ways-of l whole many =
       let e : w * h ≡ length recv = sym (drains .along .receivers) in
       record {
+        wide = many-columns (drains .sides) many;
         steps = steps-of drains (sym e);
         ordered = record { list = list; work = work };
         heights = l .heights ∙ e;

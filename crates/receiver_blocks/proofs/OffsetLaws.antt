@@ -21,7 +21,7 @@ use Rattle.inner_cells.proofs.InnerLaws.{inner-cell, inner-offset, offset-fits,
 use Rattle.drainage.specs.Ground.{distances}
 use Rattle.ways.specs.Apart.{apart}
 use Rattle.steps.specs.Step.{Near, distanceTable, placeOf}
-use Rattle.steps.proofs.PlaceLaws.{near-of, gap-bound, place-holds}
+use Rattle.steps.proofs.PlaceLaws.{near-of, gap-bound, place-read}
 use Rattle.network.specs.declared.Best.{Best}
 use Rattle.network.specs.Passes.{slopeDown, comparedAs, Received}
 use Rattle.network.proofs.ReceiverLaws.{Leading, leading-none, leading-more, leading-done, received-own, compared-inside}
@@ -55,7 +55,7 @@ pub slope-read :
     (w : ℕ) (spill : List Float) (c f : ℕ) → Near w c f → 3 ≤ w → (ds : List Float) (place : ℕ) → ds ≡ distanceTable → place ≡ placeOf w c f
     → slopeDown spill c f (getD ds place nan) ≡ slopeDown spill c f (apart w c f)
 slope-read w spill c f near wide ds place e p =
-    ap (slopeDown spill c f) (ap (λ (t : List Float). getD t place nan) e ∙ ap (λ (k : ℕ). getD distanceTable k nan) p ∙ place-holds near wide .1)
+    ap (slopeDown spill c f) (place-read near wide ds place e p)
 
 -- the offsets in fewer bits
 pub offsets-long : (w : ℕ) (os : List ℕ) → os ≡ offsetsOf w → 9 ≡ length os

@@ -116,6 +116,10 @@ module _ {w i r : ℕ} (near : Near w i r) where
   unfolding placeOf
   place-holds l = wide l (gap-wide l)
 
+  -- as the code reads it
+  pub place-read : 3 ≤ w → (ds : List Float) (place : ℕ) → ds ≡ distanceTable → place ≡ placeOf w i r → getD ds place nan ≡ apart w i r
+  place-read l ds place e p = ap (λ (t : List Float). getD t place nan) e ∙ ap (λ (k : ℕ). getD distanceTable k nan) p ∙ place-holds l .1
+
 -- ---- the two ends of `step_place`
 module _ (w i r g : ℕ) (e : g ≡ gap i r) where
   pub place-level : g < 2 → g ≡ placeOf w i r

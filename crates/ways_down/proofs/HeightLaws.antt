@@ -65,4 +65,4 @@ module _ (by : Incision) (hs areas : List Float) (recv : List ℕ) where
 module _ {w n l : ℕ} {recv : List ℕ} {areas : List Float} (ways : Ways w recv n areas l) where
   -- the result slice has its length still
   pub ways-still : {k : ℕ} → k ≡ length recv → Ways w recv n areas k
-  ways-still e = record { steps = ways .steps; ordered = ways .ordered; heights = ways .heights; areas = ways .areas; wholes = ways .wholes; result = e }
+  ways-still e = record { wide = ways .wide; steps = ways .steps; ordered = ways .ordered; heights = ways .heights; areas = ways .areas; wholes = ways .wholes; result = e }

@@ -1,6 +1,6 @@
 -- A walk down from a cell and back up, as the heights in the making show it. A NaN stands for a height that is not made yet: no incision of finite
 -- heights makes one. While a walk is on its way, the place of a cell that it came to holds the number of the cell that it came from.
-use Prim.Native.Nat.{ℕ, _<_}
+use Prim.Native.Nat.{ℕ, _≤_, _<_}
 use mathlib.Core.Path.{_≡_}
 use mathlib.Core.Bool.{Bool, true, _||_, cond}
 use mathlib.Core.List.{List, [], _∷_}
@@ -25,8 +25,9 @@ pub record Ordered (recv : List ℕ) : Type 0 where
   pub list : List ℕ
   pub work : WorkList (length recv) recv list
 
--- such receivers on a grid of w columns, with areas that are whole numbers, and with heights and results of as many cells
+-- such receivers on a grid of w columns, three or more, with areas that are whole numbers, and with heights and results of as many cells
 pub record Ways (w : ℕ) (recv : List ℕ) (hmap : ℕ) (area : List Float) (out : ℕ) : Type 0 where
+  pub wide : 3 ≤ w
   pub steps : Steps w (length recv) recv
   pub ordered : Ordered recv
   pub heights : hmap ≡ length recv

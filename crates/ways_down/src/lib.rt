@@ -1,16 +1,18 @@
 // Incision of all cells by their ways down: for each cell in number order, the way down is followed to the first cell that is made, and every cell of
 // it is incised on the way back up. A way stays near its cell in memory, where a list that is ordered by height does not.
 use cuts::cut;
-use cuts::distance;
 use cuts::drains_to;
 use rates::rate_at;
 use rates::table;
 use steps::distances;
+use steps::step_place;
 use ways::fill;
 ghost use mathlib.Core.Path.{_≡_};
 ghost use Prim.Native.Nat.{_+_, _*_, _≤_, _<_};
 ghost use lib.ListN.{length, getD, set};
 ghost use lib.Ieee.{nan};
+ghost use Rattle.ways.specs.Apart.{apart};
+ghost use Rattle.steps.specs.Step.{distanceTable, Near};
 ghost use Rattle.ways_down.specs.Settled.{cutDown, settledHeight, settledHeights};
 ghost use Rattle.ways_down.specs.Walk.{isMade, endsAt, Ordered, Ways, Tables, Upto, Descended, Ascent};
 
@@ -29,6 +31,17 @@ struct Stop {
     steps: usize,
 }
 
+// The distance from cell c to its receiver r on three columns or more, read from a table: which it is cannot be foreseen, and a choice would be a branch.
+fn distance_to(ds: &[f32; 5], c: usize, r: usize, width: usize) -> f32
+    requires { ⌜ now ds ≡ distanceTable ⌝ }
+    requires { ⌜ Near width c r ⌝ }
+    requires { ⌜ 3 ≤ width ⌝ }
+    ensures { λ d. ⌜ d ≡ apart width c r ⌝ }
+{
+    let place = step_place(c, r, width);
+    ds[place]
+}
+
 // Incises cell c of `hmap` into `out`, which has the new height of its receiver. Every rate of a whole area below 1,024 is in the table.
 fn settle_cell(
     by: Incision,
@@ -45,10 +58,8 @@ fn settle_cell(
     requires { ⌜ c < length (now recv) ⌝ }
     ensures { λ _. ⌜ now (out .exit) ≡ set (now (out .entry)) c (cutDown by (now (area .entry)) (now (recv .entry)) c (getD (now (hmap .entry)) c nan) (getD (now (out .entry)) (getD (now (recv .entry)) c 0) nan)) ⌝ }
 {
-    let r = recv[c];
-    let coef = rate_at(rates, 1024, area[c], by.cells, by.k)
-        / distance(ds, c as u32, r, by.width as u32);
-    let below = r as usize;
+    let below = recv[c] as usize;
+    let coef = rate_at(rates, 1024, area[c], by.cells, by.k) / distance_to(ds, c, below, by.width);
     let down = drains_to(c, below, out[below], by.water);
     out[c] = cut(hmap[c], by.uplift, by.water, coef, down);
 }

@@ -15,7 +15,7 @@ int-to-float-t11 c = cells-float (c .before .before .before .before .before .bef
 
 -- src/lib.rt:92:9
 incise-ways-requires : tie.Need-incise-ways-requires
-incise-ways-requires c κs = let p = c .before .before .before .before .before .before .before .before .before .pre in ways-of (p .0) (p .1 .0) (p .1 .1)
+incise-ways-requires c κs = let p = c .before .before .before .before .before .before .before .before .before .pre in ways-of (p .0) (p .1 .0) (p .1 .1) (c .before .before .if1 .taken)
 
 -- src/lib.rt:93:9
 same-length : tie.Need-same-length
