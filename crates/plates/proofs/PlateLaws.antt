@@ -20,8 +20,8 @@ use Rattle.resample.specs.WorkSize.{workSize, scaledSide}
 use Rattle.resample.specs.Blocks.{rowSum, blockSum, averageOf, downsampled}
 use Rattle.bilinear.specs.Samples.{bilinearOf}
 use Rattle.upsample.specs.Samples.{addedOf}
-use Rattle.plates.specs.Plates.{OnTheWall}
+use Rattle.plates.specs.Plates.{AllPlates}
 
-pub on-the-wall : OnTheWall
+pub all-plates : AllPlates
 unfolding ofBits toBits ofInt round add sub mul div lt le toUnsigned turns tabulate wholeBy neighbourOf firstNotFinite allFinite rootOf nearestRoot wholeRoot digits reportOf start step leastWaiting pushAll floodAfter receivers receiverOf steepestOf directionTo areasAlong times firstFailing goodReceiver goodEntry incisedBy inciseAlong shedStep shedOf gainStep gainsOf slideCell slideRow rowsOf workSize scaledSide rowSum blockSum averageOf downsampled bilinearOf addedOf
-on-the-wall = (refl, (refl, (refl, (refl, (refl, (refl, (refl, (refl, (refl, (refl, (refl, (refl, (refl, tt)))))))))))))
+all-plates = (refl, (refl, (refl, (refl, (refl, (refl, (refl, (refl, (refl, (refl, (refl, (refl, (refl, tt)))))))))))))

@@ -118,5 +118,5 @@ plates =
     ∷ []
 
 -- All 13 hold. Proved in proofs/PlateLaws.antt.
-abbrev pub OnTheWall : Type 0
-OnTheWall = AllHold plates
+abbrev pub AllPlates : Type 0
+AllPlates = AllHold plates

@@ -1,7 +1,7 @@
-// Shows what `relief` did to a grid: numbers before and after, and both as shaded plates in one PGM picture.
+// Shows what `relief` did to a grid: numbers before and after, and both shaded in one PGM picture.
 //
-//     plate make SIDE            writes a sample stream: an island of SIDE × SIDE cells with rolling hills
-//     plate show IN OUT PICTURE  IN is the stream that went into relief, OUT what came out of it
+//     picture make SIDE            writes a sample stream: an island of SIDE × SIDE cells with rolling hills
+//     picture show IN OUT PICTURE  IN is the stream that went into relief, OUT what came out of it
 use std::io::Write;
 use std::process::exit;
 
@@ -12,7 +12,7 @@ struct Grid {
 }
 
 fn fail(why: &str) -> ! {
-    eprintln!("plate: {why}");
+    eprintln!("picture: {why}");
     exit(1)
 }
 
@@ -153,6 +153,6 @@ fn main() {
     match words[..] {
         ["make", side] => make(side.parse().unwrap_or_else(|_| fail("SIDE is a number"))),
         ["show", input, output, path] => show(input, output, path),
-        _ => fail("plate make SIDE, or plate show IN OUT PICTURE"),
+        _ => fail("picture make SIDE, or picture show IN OUT PICTURE"),
     }
 }
