@@ -130,8 +130,6 @@ fn route(side: usize, kind: &str, h: &[f32]) {
 }
 
 /// One incision along the flood's network with the source's k for strength 0.6: areas along the list, a copy of the heights, the cut.
-/// The library's call also checks the lent receivers and the list, and every height before and after; `incise_into` is the incision
-/// without those checks, as a run does it.
 fn incise(side: usize, kind: &str, h: &[f32]) {
     let size = (side, side);
     let s = Incision { k: 8.0 * 0.6 * (side as f32 / 512.0), uplift: 0.0, water_level: WATER };
@@ -149,7 +147,8 @@ fn incise(side: usize, kind: &str, h: &[f32]) {
     let mut checked = || assert!(calls::incise(size, h, &s, lent, &mut ours, &mut area) == 0);
     row("incise", side, kind, &mut checked, &mut source);
     let called = ours.clone();
-    let mut unchecked = || calls::incise_into(size, h, &s, lent, &mut ours, &mut area);
+    let accepted = calls::Accepted::of(size, h, &s, lent).expect("incise accepts the flood's network");
+    let mut unchecked = || accepted.incise_into(h, &s, &mut ours, &mut area);
     row("incise_into", side, kind, &mut unchecked, &mut source);
     same_floats("heights", &called, &theirs);
     same_floats("heights", &ours, &theirs);

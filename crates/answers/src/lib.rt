@@ -1,4 +1,4 @@
-// What every public call answers: a value, or one of document 01's refusals. specs/Outcome.antt gives each case the paper's
+// What every public call answers: a value, or one of document 01's refusals. specs/Outcome.antt gives each case document 01's
 // number and the values that it carries.
 ghost use mathlib.Core.Path.{_≡_};
 ghost use Rattle.answers.specs.Outcome.{outsideOf, numberIn, placeIn, numberOf, placeOf, answerOf};

@@ -10,7 +10,7 @@ ghost use Rattle.drainage.specs.Ways.{WorkList, areasAlong};
 ghost use Rattle.steps.specs.Step.{Near, Steps};
 ghost use Rattle.area_words.specs.Words.{stepOf, wordOf, areaIn, passedOn, Network, Passing, Words};
 
-// The step from cell i to its receiver r, below 16: the columns from the one to the west, and 4 for each row from the one to the north.
+// The step from cell i to its receiver r, below 16: r's column counted from the one west of i, plus 4 times its row counted from the one north of i.
 fn step_of(i: u32, r: u32, width: u32) -> u32
     requires { ⌜ Near width i r ⌝ }
     requires { ⌜ (3 ≤ width) × (i < 4096 * 4096) × (r < 4096 * 4096) ⌝ }

@@ -1,3 +1,4 @@
+-- Laws of the definitions in specs/.
 pub mod ValueLaws
 pub mod SizeLaws
 pub mod OrderLaws

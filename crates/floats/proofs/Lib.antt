@@ -1,3 +1,4 @@
+-- Laws of the definitions in specs/.
 pub mod FiniteLaws
 pub mod ValueLaws
 pub mod WholeLaws

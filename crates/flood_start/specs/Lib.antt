@@ -1,2 +1,2 @@
--- The flood on slices.
+-- How slices stand for the flood, and its first state.
 pub mod Slices

@@ -33,8 +33,8 @@ pub struct FluvialParams {
     pub water_level: f32,
 }
 
-// The heights of `hmap` in `out`, incised along the list by areas that are given, each a number of cells. `out` holds the coefficients of the cells at first, and the new
-// height of each as soon as it is incised, so that it is only `hmap` and `out` that are read at random.
+// The heights of `hmap` in `out`, incised along the list by areas that are given, each a number of cells. `out` holds the
+// coefficient of each cell until its new height takes that place.
 fn incise_listed(
     size: Sides,
     hmap: &[f32],

@@ -1,3 +1,4 @@
+-- Laws of the definitions in specs/.
 pub mod SidesLaws
 pub mod ShiftedLaws
 pub mod NeighbourLaws

@@ -73,7 +73,7 @@ pub extern "C" fn harness_incise(
     word(fluvial_erosion::incise(size, hmap, params, recv, order, out, area))
 }
 
-// The incision alone, as a run does it with the network of its own routing: nothing is checked, so the caller owes what the checks would find.
+// The incision alone, as a run does it with the network of its own routing, for the bench: nothing is checked, so it is asked for networks that `incise` has accepted.
 #[no_mangle]
 pub extern "C" fn harness_incise_into(
     w: usize,

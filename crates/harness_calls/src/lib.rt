@@ -67,7 +67,7 @@ fn end_word(v: &[f32], greatest: bool) -> u64
     extent_word(generators::get_min_max(v), greatest)
 }
 
-// Of min.
+// `get_min_max`: the bits of min.
 #[no_mangle]
 pub extern "C" fn harness_least(v: &[f32]) -> u64
     ensures { λ w. ⌜ w ≡ wordOf leastBits (getMinMaxAnswer (now (v .entry))) ⌝ }
@@ -75,7 +75,7 @@ pub extern "C" fn harness_least(v: &[f32]) -> u64
     end_word(v, false)
 }
 
-// Of max.
+// `get_min_max`: the bits of max.
 #[no_mangle]
 pub extern "C" fn harness_greatest(v: &[f32]) -> u64
     ensures { λ w. ⌜ w ≡ wordOf greatestBits (getMinMaxAnswer (now (v .entry))) ⌝ }

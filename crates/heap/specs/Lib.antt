@@ -1,2 +1,2 @@
--- The queue of the flood: a heap of cells on a slice.
+-- A heap of cells on a slice.
 pub mod Queue

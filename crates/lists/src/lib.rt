@@ -1,1 +1,1 @@
-// Lists as loops make them: a list by its indexes, and a state after a number of turns. Definitions and laws alone; no function stands here.
+// Lists as loops make them, the state after a number of turns, the first number that a test fails of, and laws of tests. No function stands here.

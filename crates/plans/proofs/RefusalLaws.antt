@@ -1,4 +1,4 @@
--- What a whole run refuses is what Refusals.antt says, and what an accepted input is known by.
+-- What a whole run refuses is what crates/runs/specs/Refusals.antt says, and what an accepted input is known by.
 use Prim.Native.Nat.{ℕ, _*_}
 use mathlib.Core.Path.{_≡_, refl}
 use mathlib.Core.Bool.{Bool, not, _||_, or-false}

@@ -19,7 +19,7 @@ refusalOn w h bad map scratch =
     (cond (not (eqb (length map) (w * h)) || ltb scratch (w * h)) (refused 3)
     (cond bad (refused 4) (cond (allFinite map) (gives tt) (refusedAt 5 (firstNotFinite map)))))
 
--- With scratch enough a whole run refuses just what Refusals.antt says, of which demand 3 speaks.
+-- With scratch enough a whole run refuses just what crates/runs/specs/Refusals.antt says, of which demand 3 speaks.
 abbrev pub SameRefusal : Type 0
 SameRefusal = (w h : ℕ) (bad : Bool) (map : List Float) (scratch : ℕ) → w * h ≤ scratch → numberIn (refusalOn w h bad map scratch) ≡ refusalBy w h bad map
 

@@ -93,7 +93,7 @@ fn receive_row(
     receive_cells(size, spill, recv, y, 1 + n, w - (1 + n));
 }
 
-// Receivers in the place of finders: D8 on the spill heights, row by row.
+// Receivers in the place of finders, row by row: the steepest of the eight neighbours by spill height.
 pub fn steepest_receivers(g: Sides, spill: &[f32], recv: &mut [u32])
     requires { ⌜ InRange (g .w) (g .h) ⌝ }
     requires { ⌜ length (now spill) ≡ g .w * g .h ⌝ }

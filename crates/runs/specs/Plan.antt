@@ -26,7 +26,7 @@ thresholdOf talus scale =
 abbrev pub passesOf : ℕ → Float → ℕ
 passesOf iterations scale = max (toUnsigned 64 (ceilOf (mul binary32 (ofInt binary32 (pos iterations)) scale))) 1
 
--- What a run does on its working grid: `iterations` times an incision, where `incision` says so, and then `passes` talus passes.
+-- What a fluvial run does on its working grid: `iterations` times an incision by `cuts` and then `passes` talus passes by `slides`.
 pub record Plan : Type 0 where
   pub iterations : ℕ
   pub passes : ℕ

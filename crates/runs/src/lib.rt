@@ -1,5 +1,5 @@
-// Whole runs as definitions and theorems: plans, the run as the iteration of one step on a state, and the run by other work lists. No function
-// stands here; the crate erosion computes what specs/ defines.
+// Whole runs as definitions and theorems: plans, the run as the iteration of one step on a state, and the run by other work lists. Only the
+// two structs of settings stand here; plans, erosion, thermal_run and fluvial_run compute what specs/ defines.
 
 // The settings of gen_fluvial_erosion: the source's FluvialErosionConf with the water level.
 pub struct FluvialSettings {

@@ -1,6 +1,5 @@
-// The queue of the flood: the cells sorted by their own heights, which a scan goes through, and a heap of the waiting cells that the scan has
-// passed, those that were raised. A waiting cell that the scan has not passed leaves at its own height, where it stands in the list. Where the
-// list is not sorted the scan begins at its end, and every waiting cell stands in the heap.
+// The queue of the flood: a scan of the cells sorted by their own heights, at which those that were not raised leave, and a heap of the waiting cells
+// that the scan has passed. Where the list is not sorted the scan begins at its end, and every waiting cell stands in the heap.
 use heap::place;
 use heap::pop;
 use heap::push;

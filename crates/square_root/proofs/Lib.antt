@@ -1,3 +1,4 @@
+-- Laws of the definitions in specs/.
 pub mod WholeLaws
 pub mod NewtonLaws
 pub mod BitsLaws

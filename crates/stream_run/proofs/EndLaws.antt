@@ -1,4 +1,4 @@
--- The ways through a stream's run, and that the writer behind it writes the bytes of the definition.
+-- The ways through a stream's run: what each part asks, and what its end shows.
 use Prim.Native.Nat.{ℕ, _*_, _≤_, _<_}
 use mathlib.Core.Path.{_≡_, refl, sym, ap, subst, _∙_}
 use mathlib.Core.Bool.{true}

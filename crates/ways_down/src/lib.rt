@@ -64,8 +64,7 @@ fn settle_cell(
     out[c] = cut(hmap[c], by.uplift, by.water, coef, down);
 }
 
-// Whether a height is made: every number is below 1 or not below 1/2, and a NaN is neither. (`height == height` would say the same, but the compiler
-// takes a NaN for so unlikely that it lays the walk aside.)
+// Whether a height is made: every number is below 1 or not below 1/2, and a NaN is neither (docs/DECISIONS.md: why not `height == height`).
 fn is_made(height: f32) -> bool
     ensures { λ r. ⌜ r ≡ isMade height ⌝ }
 {
@@ -106,7 +105,7 @@ fn walk_down(recv: &[u32], out: &mut [f32], i: usize) -> Stop
     }
 }
 
-// Walks back up to cell i, and incises each cell on the way: at one place of the loop, so that it is compiled into it.
+// Walks back up to cell i, and incises each cell on the way; `settle_cell` is called at one place, so that it is inlined.
 fn walk_up(
     by: Incision,
     ds: &[f32; 5],

@@ -140,11 +140,25 @@ pub fn incise(size: Sides, hmap: &[f32], s: &Incision, lent: Lent, out: &mut [f3
     incise!(exported::harness_incise, size, hmap, s, lent, out, area)
 }
 
-/// The incision alone, as a run does it: receivers and list are those of a routing, and every slice holds the grid's cells.
-pub fn incise_into(size: Sides, hmap: &[f32], s: &Incision, lent: Lent, out: &mut [f32], area: &mut [f32]) {
-    let n = size.0 * size.1;
-    assert!([hmap.len(), lent.recv.len(), lent.list.len(), out.len(), area.len()] == [n; 5]);
-    incise!(exported::harness_incise_into, size, hmap, s, lent, out, area)
+/// A network that `incise` has accepted: what `incise_into` asks of receivers and list, and does not test.
+pub struct Accepted<'a> {
+    size: Sides,
+    lent: Lent<'a>,
+}
+
+impl<'a> Accepted<'a> {
+    /// The lent network, if `incise` accepts it with these heights and settings.
+    pub fn of(size: Sides, hmap: &[f32], s: &Incision, lent: Lent<'a>) -> Option<Accepted<'a>> {
+        let (mut out, mut area) = (vec![0.0; hmap.len()], vec![0.0; hmap.len()]);
+        (incise(size, hmap, s, lent, &mut out, &mut area) == 0).then_some(Accepted { size, lent })
+    }
+
+    /// The incision alone, as a run does it; every slice holds the grid's cells.
+    pub fn incise_into(&self, hmap: &[f32], s: &Incision, out: &mut [f32], area: &mut [f32]) {
+        let n = self.size.0 * self.size.1;
+        assert!([hmap.len(), out.len(), area.len()] == [n; 3]);
+        incise!(exported::harness_incise_into, self.size, hmap, s, self.lent, out, area)
+    }
 }
 
 /// The root of x, of crates/layout_calls.
