@@ -4,6 +4,7 @@ use mathlib.Core.Path.{_≡_, refl, sym, ap, ap₂, _∙_, subst}
 use mathlib.Core.Logic.{inl, inr}
 use mathlib.Core.List.{List, [], _∷_, _++_, append-assoc, append-nil}
 use native.Mathlib.Nat.{eq-or-lt-of-le, le-of-suc-le-suc, le-of-eq}
+use native.Mathlib.Decide.{decLt}
 use native.Mathlib.Numerals.{add-one}
 use native.Mathlib.Omega.{arith}
 use lib.ListN.{length, getD, drop, set, length-append, length-drop, drop-of-length-le, List·getD-append}
@@ -63,6 +64,14 @@ module _ {A : Type 0} (f : ℕ → A) where
       ∙ getD-append-add (tabulate i f) (drop i old) (j - i) d
       ∙ getD-drop i old (j - i) d
       ∙ ap (λ (k : ℕ). getD old k d) (sym e)
+
+  -- a list that holds the first n values already is what the loop leaves of it
+  pub filled-already : (n : ℕ) (old : List A) (d : A) → n ≤ length old → ((i : ℕ) → i < n → getD old i d ≡ f i) → old ≡ filled n old
+  filled-already n old d h e = ext-getD d old (filled n old) (sym (filled-length n old h)) (λ i _. go i (decLt i n))
+    where
+      go : (i : ℕ) → Dec (i < n) → getD old i d ≡ getD (filled n old) i d
+      go i (yes l) = e i l ∙ sym (filled-at n old i d l)
+      go i (no l) = sym (filled-ahead n i old d (omega arith))
 
 pub tabulate-same : {A : Type 0} (f g : ℕ → A) (n : ℕ) → ((i : ℕ) → i < n → f i ≡ g i) → tabulate n f ≡ tabulate n g
 unfolding tabulate

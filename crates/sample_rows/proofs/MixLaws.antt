@@ -1,4 +1,4 @@
--- The arrays of columns, of ways and of mixes: how a loop fills them, and what is read from them.
+-- The arrays of columns, of ways and of mixes: what they hold once they are put there, and what is read from them.
 use Prim.Native.Nat.{ℕ, _≤_, _<_}
 use mathlib.Core.Path.{_≡_, sym, ap, ap₂, _∙_, subst}
 use mathlib.Core.List.{List}
@@ -6,12 +6,12 @@ use native.Mathlib.Omega.{arith}
 use lib.ListN.{length, getD}
 use lib.Ieee.{Float, nan}
 use Rattle.floats.specs.Stand.{fractOf, indexOf}
-use Rattle.lists.proofs.FillLaws.{Filling, filling-length, filling-at}
+use Rattle.lists.proofs.TableLaws.{filled-length, filled-at, filled-already}
 use Rattle.grid.specs.Directions.{Place}
 use Rattle.bilinear.specs.Places.{Grid}
 use Rattle.bilinear.specs.Samples.{asSource, acrossOf}
 use Rattle.bilinear.proofs.CornerLaws.{place-in}
-use Rattle.sample_rows.specs.Rows.{Sampled, centreOf, columnOf, wayOf, Columns, Mix, Mixes}
+use Rattle.sample_rows.specs.Rows.{Sampled, centreOf, columnOf, wayOf, Columns, ColumnsPut, mixAt, mixPut, Mix, Mixes, MixesPut}
 
 -- the columns of a grid and its rows, on a reduced grid
 pub all-columns : {w h len dw dh dlen : ℕ} → Grid w h len → Grid dw dh dlen → Sampled w dw w
@@ -29,27 +29,40 @@ module _ (w dw : ℕ) where
     pub way-is : {d : Float} → d ≡ fractOf u → d ≡ wayOf w dw x
     way-is f = f ∙ ap fractOf e
 
-  -- the arrays while they are filled
-  pub columns-done : {i : ℕ} {cs₀ cs : List ℕ} {ds₀ ds : List Float} → Filling (columnOf w dw) i cs₀ cs → Filling (wayOf w dw) i ds₀ ds → w ≤ i → Columns w dw cs ds
-  columns-done p q l = record { column = λ x h. filling-at p x 0 (omega arith); way = λ x h. filling-at q x nan (omega arith) }
+  -- the arrays that both were put into hold them
+  pub columns-put : {cs cs′ : List ℕ} {ds ds′ : List Float} → ColumnsPut w dw cs ds cs′ ds′ → Columns w dw cs′ ds′
+  columns-put {cs} {ds = ds} p = record {
+    column = λ x l. ap (λ (t : List ℕ). getD t x 0) (p .columns) ∙ filled-at (columnOf w dw) w cs x 0 l;
+    way = λ x l. ap (λ (t : List Float). getD t x nan) (p .ways) ∙ filled-at (wayOf w dw) w ds x nan l;
+  }
 
   module _ (x : ℕ) (l : x < w) {cs : List ℕ} {ds : List Float} (e : Columns w dw cs ds) where
     -- a place of the reduced grid
     pub place-read : {dh len y : ℕ} → Grid dw dh len → y < dh → Place dw dh (getD cs x 0) y
     place-read g m = place-in g (omega (arith, e .column x l, g .w-low)) m
 
-    pub across-read : (delta : List Float) (dh y south : ℕ) {r : Float} → r ≡ acrossOf asSource delta dw dh (getD cs x 0) (getD ds x nan) y south
-        → r ≡ acrossOf asSource delta dw dh (columnOf w dw x) (wayOf w dw x) y south
+    pub across-read : (delta : List Float) (dh y south : ℕ) {r : Float} → r ≡ acrossOf asSource delta dw dh (getD cs x 0) (getD ds x nan) y south → r ≡ mixAt delta dw dh w y south x
     across-read delta dh y south q = q ∙ ap₂ (λ (k : ℕ) (d : Float). acrossOf asSource delta dw dh k d y south) (e .column x l) (e .way x l)
 
--- the array while it is made: n columns are done
-abbrev pub Mixing : List Float → ℕ → ℕ → ℕ → ℕ → ℕ → ℕ → List Float → List Float → Type 0
-Mixing delta dw dh w y south n row₀ row = Filling (λ x. acrossOf asSource delta dw dh (columnOf w dw x) (wayOf w dw x) y south) n row₀ row
+-- an array that the mixes were put into holds them
+module _ (delta : List Float) (dw dh w y south : ℕ) (row : List Float) (l : w ≤ 4096) where
+  mix-put : {row′ : List Float} → row′ ≡ mixPut delta dw dh w y south row → length row ≡ 4096 → Mix delta dw dh w y south row′
+  mix-put e m = record {
+    at = λ x h. ap (λ (t : List Float). getD t x nan) e ∙ filled-at (mixAt delta dw dh w y south) w row x nan h;
+    long = ap length e ∙ filled-length (mixAt delta dw dh w y south) w row (omega arith) ∙ m;
+  }
 
-pub mixing-done : (delta : List Float) (dw dh w y south : ℕ) {n : ℕ} {row₀ row : List Float} → Mixing delta dw dh w y south n row₀ row
-    → length row₀ ≡ 4096 → w ≤ n → Mix delta dw dh w y south row
-mixing-done delta dw dh w y south m a l = record { at = λ x h. filling-at m x nan (omega arith); long = filling-length m ∙ a }
+  -- and one that holds them already is as if they were put into it
+  mix-held : Mix delta dw dh w y south row → row ≡ mixPut delta dw dh w y south row
+  mix-held m = filled-already (mixAt delta dw dh w y south) w row nan (omega (arith, m .long)) (m .at)
 
--- the arrays of one row are those of the same row
-pub mixes-same : {delta : List Float} {dw dh w held y : ℕ} {north south : List Float} → y ≡ held → Mixes delta dw dh w held north south → Mixes delta dw dh w y north south
-mixes-same {delta} {dw} {dh} {w} {held} {y} {north} {south} e m = subst (λ (k : ℕ). Mixes delta dw dh w k north south) (sym e) m
+module _ {delta : List Float} {dw dh w y : ℕ} {north south : List Float} (l : w ≤ 4096) where
+  pub mixes-put : {north′ south′ : List Float} → MixesPut delta dw dh w y north south north′ south′ → length north ≡ 4096 → length south ≡ 4096 → Mixes delta dw dh w y north′ south′
+  mixes-put p n s = record { northern = mix-put delta dw dh w y 0 north l (p .northern) n; southern = mix-put delta dw dh w y 1 south l (p .southern) s }
+
+  pub mixes-next : {held : ℕ} {north′ south′ : List Float} → Mixes delta dw dh w held north south → MixesPut delta dw dh w y north south north′ south′ → Mixes delta dw dh w y north′ south′
+  mixes-next m p = mixes-put p (m .northern .long) (m .southern .long)
+
+  -- the arrays of one row are those of the same row
+  pub mixes-held : {held : ℕ} → y ≡ held → Mixes delta dw dh w held north south → MixesPut delta dw dh w y north south north south
+  mixes-held {held} e m = rw e (record { northern = mix-held delta dw dh w held 0 north l (m .northern); southern = mix-held delta dw dh w held 1 south l (m .southern) })

@@ -1,11 +1,12 @@
 -- Samples row by row.
 use Prim.Native.Nat.{ℕ, _≤_, _<_}
 use mathlib.Core.Path.{_≡_}
-use mathlib.Core.List.{List}
-use lib.ListN.{length, getD}
+use mathlib.Core.List.{List, _++_}
+use lib.ListN.{length, getD, drop}
 use lib.Ieee.{Float, nan, binary32, ofBits, add, sub, mul, div}
 use Rattle.floats.specs.Stand.{maxOf, fractOf, indexOf}
 use Rattle.float_order.specs.Whole.{whole}
+use Rattle.lists.specs.Loops.{tabulate}
 use Rattle.bilinear.specs.Samples.{asSource, acrossOf}
 
 -- column (or row) x of a side, or the end past the last one, and a reduced side, each at most 4,096
@@ -32,12 +33,29 @@ pub record Columns (w dw : ℕ) (cs : List ℕ) (ds : List Float) : Type 0 where
   pub column : (x : ℕ) → x < w → getD cs x 0 ≡ columnOf w dw x
   pub way : (x : ℕ) → x < w → getD ds x nan ≡ wayOf w dw x
 
--- an array of 4,096 places that holds, for each of w columns, what lies there `south` rows south of row y of the reduced grid
+-- the arrays that both are put into, from the front: what stands behind is as it was
+pub record ColumnsPut (w dw : ℕ) (cs : List ℕ) (ds : List Float) (cs′ : List ℕ) (ds′ : List Float) : Type 0 where
+  pub columns : cs′ ≡ tabulate w (columnOf w dw) ++ drop w cs
+  pub ways : ds′ ≡ tabulate w (wayOf w dw) ++ drop w ds
+
+-- what lies at column x, `south` rows south of row y of the reduced grid
+abbrev pub mixAt : List Float → ℕ → ℕ → ℕ → ℕ → ℕ → ℕ → Float
+mixAt delta dw dh w y south x = acrossOf asSource delta dw dh (columnOf w dw x) (wayOf w dw x) y south
+
+-- an array of 4,096 places that holds it of each of w columns
 pub record Mix (delta : List Float) (dw dh w y south : ℕ) (row : List Float) : Type 0 where
-  pub at : (x : ℕ) → x < w → getD row x nan ≡ acrossOf asSource delta dw dh (columnOf w dw x) (wayOf w dw x) y south
+  pub at : (x : ℕ) → x < w → getD row x nan ≡ mixAt delta dw dh w y south x
   pub long : length row ≡ 4096
 
 -- those of row y and of the next
 pub record Mixes (delta : List Float) (dw dh w y : ℕ) (north south : List Float) : Type 0 where
   pub northern : Mix delta dw dh w y 0 north
   pub southern : Mix delta dw dh w y 1 south
+
+-- an array that it is put into, from the front, and the two of row y and of the next
+abbrev pub mixPut : List Float → ℕ → ℕ → ℕ → ℕ → ℕ → List Float → List Float
+mixPut delta dw dh w y south row = tabulate w (mixAt delta dw dh w y south) ++ drop w row
+
+pub record MixesPut (delta : List Float) (dw dh w y : ℕ) (north south north′ south′ : List Float) : Type 0 where
+  pub northern : north′ ≡ mixPut delta dw dh w y 0 north
+  pub southern : south′ ≡ mixPut delta dw dh w y 1 south

@@ -10,7 +10,7 @@ ghost use mathlib.Core.Path.{_≡_};
 ghost use Prim.Native.Nat.{_<_, _≤_};
 ghost use lib.ListN.{length};
 ghost use Rattle.bilinear.specs.Places.{Grid};
-ghost use Rattle.sample_rows.specs.Rows.{Sampled, centreOf, columnOf, wayOf, Columns, Mix, Mixes};
+ghost use Rattle.sample_rows.specs.Rows.{Sampled, centreOf, columnOf, wayOf, Columns, ColumnsPut, mixPut, Mixes, MixesPut};
 
 // Where the centre of column (or row) x of a side lies on the reduced one.
 fn centre(side: usize, reduced: usize, x: usize) -> f32
@@ -42,7 +42,7 @@ pub fn columns(w: usize, dw: usize, cs: &mut [usize; 4096], ds: &mut [f32; 4096]
     requires { ⌜ Sampled w dw w ⌝ }
     requires { ⌜ length (now cs) ≡ 4096 ⌝ }
     requires { ⌜ length (now ds) ≡ 4096 ⌝ }
-    ensures { λ _. ⌜ Columns w dw (now (cs .exit)) (now (ds .exit)) ⌝ }
+    ensures { λ _. ⌜ ColumnsPut w dw (now (cs .entry)) (now (ds .entry)) (now (cs .exit)) (now (ds .exit)) ⌝ }
 {
     let mut x: usize = 0;
     while x < w {
@@ -69,7 +69,7 @@ fn mix_row(
     requires { ⌜ y < dsize .h ⌝ }
     requires { ⌜ south ≤ 1 ⌝ }
     requires { ⌜ length (now row) ≡ 4096 ⌝ }
-    ensures { λ _. ⌜ Mix (now (delta .entry)) (dsize .w) (dsize .h) w y south (now (row .exit)) ⌝ }
+    ensures { λ _. ⌜ now (row .exit) ≡ mixPut (now (delta .entry)) (dsize .w) (dsize .h) w y south (now (row .entry)) ⌝ }
 {
     let mut x: usize = 0;
     while x < w {
@@ -95,7 +95,7 @@ pub fn mix_rows(
     requires { ⌜ y < dsize .h ⌝ }
     requires { ⌜ length (now north) ≡ 4096 ⌝ }
     requires { ⌜ length (now south) ≡ 4096 ⌝ }
-    ensures { λ _. ⌜ Mixes (now (delta .entry)) (dsize .w) (dsize .h) w y (now (north .exit)) (now (south .exit)) ⌝ }
+    ensures { λ _. ⌜ MixesPut (now (delta .entry)) (dsize .w) (dsize .h) w y (now (north .entry)) (now (south .entry)) (now (north .exit)) (now (south .exit)) ⌝ }
 {
     mix_row(delta, dsize, cs, ds, w, y, 0, north);
     mix_row(delta, dsize, cs, ds, w, y, 1, south);
@@ -120,7 +120,7 @@ pub fn prepare(
     requires { ⌜ Sampled (size .h) (dsize .h) y ⌝ }
     requires { ⌜ Mixes (now delta) (dsize .w) (dsize .h) (size .w) held (now north) (now south) ⌝ }
     ensures { λ r. ⌜ r ≡ columnOf (size .h) (dsize .h) y ⌝ }
-    ensures { λ r. ⌜ Mixes (now (delta .entry)) (dsize .w) (dsize .h) (size .w) r (now (north .exit)) (now (south .exit)) ⌝ }
+    ensures { λ r. ⌜ MixesPut (now (delta .entry)) (dsize .w) (dsize .h) (size .w) r (now (north .entry)) (now (south .entry)) (now (north .exit)) (now (south .exit)) ⌝ }
 {
     let row = column(size.h, dsize.h, y);
     if row == held {

@@ -1,19 +1,18 @@
 use Prim.Native.Nat.{_-_, _≤_}
 use native.Mathlib.Omega.{arith}
-use Rattle.lists.proofs.FillLaws.{Filling, filling-none, filling-more}
+use Rattle.lists.proofs.FillLaws.{Filling, filling-none, filling-more, stored}
 use Rattle.sample_rows.specs.Rows.{columnOf, wayOf}
-use Rattle.sample_rows.proofs.MixLaws.{columns-done}
 use Rattle.sample_rows.proofs.columns.Statement.{statement}
 use Rattle.sample_rows.proofs.columns.Tie as tie
 
 abbrev Inv-loop : tie.InvT-loop
-Inv-loop w dw cs₀ ds₀ x₀ cs ds x = Filling (columnOf w dw) x cs₀ cs × Filling (wayOf w dw) x ds₀ ds
+Inv-loop w dw cs₀ ds₀ x₀ cs ds x = (x ≤ w) × (Filling (columnOf w dw) x cs₀ cs × Filling (wayOf w dw) x ds₀ ds)
 
 abbrev μ-loop : tie.MeasureT-loop
 μ-loop w dw cs₀ ds₀ x₀ cs ds x = w - x
 
 loop-holds : tie.Need-loop-holds Inv-loop μ-loop
-loop-holds c = (filling-none, filling-none)
+loop-holds c = (omega arith, (filling-none, filling-none))
 
 column-requires : tie.Need-column-requires Inv-loop μ-loop
 column-requires c κs = let p = c .before .before .pre .0 in record { full = p .full; small = p .small; inside = omega (arith, c .loop-test .taken) }
@@ -43,10 +42,10 @@ loop-again : tie.Need-loop-again Inv-loop μ-loop
 loop-again c =
     let i = c .before .before .before .loop .inv in
     let p = c .before .before .before .before .pre in
-    (filling-more (i .0) (c .before .column .ensures) (omega (arith, p .1 .0, p .0 .full, c .before .before .loop-test .taken)), filling-more (i .1) (c .way .ensures) (omega (arith, p .1 .1, p .0 .full, c .before .before .loop-test .taken)))
+    (omega (arith, c .before .before .loop-test .taken), (filling-more (i .1 .0) (c .before .column .ensures) (omega (arith, p .1 .0, p .0 .full, c .before .before .loop-test .taken)), filling-more (i .1 .1) (c .way .ensures) (omega (arith, p .1 .1, p .0 .full, c .before .before .loop-test .taken))))
 
 returns : tie.Need-returns Inv-loop μ-loop
-returns c = columns-done _ _ (c .before .loop .inv .0) (c .before .loop .inv .1) (c .loop-test .left)
+returns c = let i = c .before .loop .inv in record { columns = stored (i .1 .0) (i .0) (c .loop-test .left); ways = stored (i .1 .1) (i .0) (c .loop-test .left) }
 
 pub columns-spec : {M : Type 1} → statement M
 columns-spec =

@@ -1,19 +1,20 @@
 use denote.Ref.{now}
-use Prim.Native.Nat.{_-_}
+use Prim.Native.Nat.{_-_, _≤_}
 use native.Mathlib.Omega.{arith}
-use Rattle.lists.proofs.FillLaws.{filling-none, filling-more}
-use Rattle.sample_rows.proofs.MixLaws.{place-read, across-read, Mixing, mixing-done}
+use Rattle.lists.proofs.FillLaws.{Filling, filling-none, filling-more, stored}
+use Rattle.sample_rows.specs.Rows.{mixAt}
+use Rattle.sample_rows.proofs.MixLaws.{place-read, across-read}
 use Rattle.sample_rows.proofs.mix_row.Statement.{statement}
 use Rattle.sample_rows.proofs.mix_row.Tie as tie
 
 abbrev Inv-loop : tie.InvT-loop
-Inv-loop delta dsize cs ds w y south row₀ x₀ row x = Mixing delta (dsize .w) (dsize .h) w y south x row₀ row
+Inv-loop delta dsize cs ds w y south row₀ x₀ row x = (x ≤ w) × Filling (mixAt delta (dsize .w) (dsize .h) w y south) x row₀ row
 
 abbrev μ-loop : tie.MeasureT-loop
 μ-loop delta dsize cs ds w y south row₀ x₀ row x = w - x
 
 loop-holds : tie.Need-loop-holds Inv-loop μ-loop
-loop-holds c = filling-none
+loop-holds c = (omega arith, filling-none)
 
 mul-across : tie.Need-mul-across Inv-loop μ-loop
 mul-across c = omega (arith, c .loop-test .taken, c .before .before .before .pre .1 .1 .0)
@@ -48,10 +49,10 @@ loop-again : tie.Need-loop-again Inv-loop μ-loop
 loop-again c =
     let a = c .before .before .before .before .before .before .args in
     let p = c .before .before .before .before .before .before .pre in
-    filling-more (c .before .before .before .before .loop .inv) (across-read _ _ (c .before .before .before .before .loop .x) (c .before .before .before .loop-test .taken) (p .1 .0) (now (a .delta)) (a .dsize .h) (a .y) (a .south) (c .across .ensures)) (omega (arith, p .1 .1 .1 .1 .1, c .before .before .before .loop-test .taken, p .1 .1 .0))
+    (omega (arith, c .before .before .before .loop-test .taken), filling-more (c .before .before .before .before .loop .inv .1) (across-read _ _ (c .before .before .before .before .loop .x) (c .before .before .before .loop-test .taken) (p .1 .0) (now (a .delta)) (a .dsize .h) (a .y) (a .south) (c .across .ensures)) (omega (arith, p .1 .1 .1 .1 .1, c .before .before .before .loop-test .taken, p .1 .1 .0)))
 
 returns : tie.Need-returns Inv-loop μ-loop
-returns c = let a = c .before .before .before .args in mixing-done (now (a .delta)) (a .dsize .w) (a .dsize .h) (a .w) (a .y) (a .south) (c .before .loop .inv) (c .before .before .before .pre .1 .1 .1 .1 .1) (c .loop-test .left)
+returns c = stored (c .before .loop .inv .1) (c .before .loop .inv .0) (c .loop-test .left)
 
 pub mix-row-spec : {M : Type 1} → statement M
 mix-row-spec =

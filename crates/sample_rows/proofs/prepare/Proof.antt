@@ -1,5 +1,5 @@
 use Rattle.bilinear.proofs.CornerLaws.{index-in}
-use Rattle.sample_rows.proofs.MixLaws.{mixes-same}
+use Rattle.sample_rows.proofs.MixLaws.{mixes-held}
 use borrow.Author.Needs.{needs}
 use Rattle.sample_rows.proofs.prepare.Statement.{statement}
 use Rattle.sample_rows.proofs.prepare.Tie as tie
@@ -8,7 +8,7 @@ column-requires : tie.Need-column-requires
 column-requires c κs = search needs
 
 returns : tie.Need-returns
-returns c = (c .before .column .ensures, mixes-same (c .if1 .taken) (c .before .before .before .pre .1 .1 .1 .1))
+returns c = (c .before .column .ensures, mixes-held (c .before .before .before .pre .1 .1 .0) (c .if1 .taken) (c .before .before .before .pre .1 .1 .1 .1))
 
 mix-rows-requires : tie.Need-mix-rows-requires
 mix-rows-requires c κs = let p = c .before .before .before .before .before .pre in (p .0, (p .1 .0, (p .1 .1 .0, (index-in _ _ (c .before .before .before .column .ensures) (p .0 .h-low), (p .1 .1 .1 .1 .northern .long, p .1 .1 .1 .1 .southern .long)))))

@@ -8,7 +8,7 @@ use borrow.Author.Tests.{not-true, not-false}
 use Rattle.bilinear.specs.Samples.{asSource}
 use Rattle.bilinear.proofs.CornerLaws.{grid-row}
 use Rattle.sample_rows.specs.Rows.{Mixes}
-use Rattle.sample_rows.proofs.MixLaws.{all-columns, row-in}
+use Rattle.sample_rows.proofs.MixLaws.{all-columns, row-in, columns-put, mixes-put, mixes-next}
 use Rattle.upsample.specs.Samples.{addedAt, addedOf}
 use Rattle.upsample.proofs.RowLaws.{part-small}
 use Rattle.upsample.proofs.SumLaws.{Summing, summing-start, summing-length, summing-done, summing-more, summing-not}
@@ -27,15 +27,15 @@ columns-requires c κs = (all-columns (c .before .before .before .before .pre .0
 mix-rows-requires : tie.Need-mix-rows-requires Inv-loop μ-loop
 mix-rows-requires c κs =
     let p = c .before .before .before .before .before .before .before .before .before .pre in
-    (p .1, (c .before .before .before .before .columns .ensures, (p .0 .w-high, (p .1 .h-low, (length-replicate {A = Float} 4096 (ofBits binary32 0), length-replicate {A = Float} 4096 (ofBits binary32 0))))))
+    (p .1, (columns-put _ _ (c .before .before .before .before .columns .ensures), (p .0 .w-high, (p .1 .h-low, (length-replicate {A = Float} 4096 (ofBits binary32 0), length-replicate {A = Float} 4096 (ofBits binary32 0))))))
 
 loop-holds : tie.Need-loop-holds Inv-loop μ-loop
-loop-holds c = (summing-start _, (omega arith, c .mix-rows .ensures))
+loop-holds c = (summing-start _, (omega arith, mixes-put (c .before .before .before .before .before .before .before .before .before .before .pre .0 .w-high) (c .mix-rows .ensures) (length-replicate {A = Float} 4096 (ofBits binary32 0)) (length-replicate {A = Float} 4096 (ofBits binary32 0))))
 
 prepare-requires : tie.Need-prepare-requires Inv-loop μ-loop
 prepare-requires c κs =
     let p = c .before .before .before .before .before .before .before .before .before .before .before .before .before .before .before .before .pre in
-    (p .1, (c .before .before .before .before .before .before .before .before .before .before .before .columns .ensures, (p .0 .w-high, (row-in (p .0) (p .1) (c .before .before .before .before .before .loop .y) (c .before .before .before .before .loop-test .taken), c .before .before .before .before .before .loop .inv .1 .1))))
+    (p .1, (columns-put _ _ (c .before .before .before .before .before .before .before .before .before .before .before .columns .ensures), (p .0 .w-high, (row-in (p .0) (p .1) (c .before .before .before .before .before .loop .y) (c .before .before .before .before .loop-test .taken), c .before .before .before .before .before .loop .inv .1 .1))))
 
 way-requires : tie.Need-way-requires Inv-loop μ-loop
 way-requires c κs = row-in (c .before .before .before .before .before .before .before .before .before .before .before .before .before .before .before .before .before .pre .0) (c .before .before .before .before .before .before .before .before .before .before .before .before .before .before .before .before .before .pre .1) (c .before .before .before .before .before .before .loop .y) (c .before .before .before .before .before .loop-test .taken)
@@ -68,7 +68,7 @@ returns : tie.Need-returns Inv-loop μ-loop
 returns c =
     let a = c .before .before .before .before .before .before .before .before .before .before .before .before .before .before .before .before .before .before .before .before .before .before .before .before .before .args in
     summing-not (now (a .map)) (a .size .w) (a .size .h) (now (a .delta)) (a .dsize .w) (a .dsize .h) (c .before .before .before .before .before .before .before .before .before .before .before .before .before .before .loop .y) (grid-row (c .before .before .before .before .before .before .before .before .before .before .before .before .before .before .before .before .before .before .before .before .before .before .before .before .before .pre .0) (c .before .before .before .before .before .before .before .before .before .before .before .before .before .loop-test .taken) .0)
-    (c .before .before .before .before .before .before .before .before .prepare .ensures .1) (c .before .before .before .before .before .before .before .before .prepare .ensures .0) (c .before .before .before .before .before .before .before .way .ensures) (c .before .before .before .before .before .before .before .before .before .before .before .before .before .loop-test .taken) (a .store) (c .before .before .before .before .before .before .before .before .before .before .before .before .before .before .loop .inv .0) (c .before .before .before .sum-row .ensures) (not-true _ (c .if1 .taken))
+    (mixes-next (c .before .before .before .before .before .before .before .before .before .before .before .before .before .before .before .before .before .before .before .before .before .before .before .before .before .pre .0 .w-high) (c .before .before .before .before .before .before .before .before .before .before .before .before .before .before .loop .inv .1 .1) (c .before .before .before .before .before .before .before .before .prepare .ensures .1)) (c .before .before .before .before .before .before .before .before .prepare .ensures .0) (c .before .before .before .before .before .before .before .way .ensures) (c .before .before .before .before .before .before .before .before .before .before .before .before .before .loop-test .taken) (a .store) (c .before .before .before .before .before .before .before .before .before .before .before .before .before .before .loop .inv .0) (c .before .before .before .sum-row .ensures) (not-true _ (c .if1 .taken))
 
 add-y : tie.Need-add-y Inv-loop μ-loop
 add-y c = omega (arith, c .before .before .before .before .before .before .before .before .before .before .before .before .before .loop-test .taken, c .before .before .before .before .before .before .before .before .before .before .before .before .before .before .before .before .before .before .before .before .before .before .before .before .before .pre .0 .h-high)
@@ -78,10 +78,11 @@ loop-less c = omega (arith, c .before .before .before .before .before .before .b
 
 loop-again : tie.Need-loop-again Inv-loop μ-loop
 loop-again c =
-    let a = c .before .before .before .before .before .before .before .before .before .before .before .before .before .before .before .before .before .before .before .before .before .before .before .before .before .args in (
+    let a = c .before .before .before .before .before .before .before .before .before .before .before .before .before .before .before .before .before .before .before .before .before .before .before .before .before .args in
+    let m = mixes-next (c .before .before .before .before .before .before .before .before .before .before .before .before .before .before .before .before .before .before .before .before .before .before .before .before .before .pre .0 .w-high) (c .before .before .before .before .before .before .before .before .before .before .before .before .before .before .loop .inv .1 .1) (c .before .before .before .before .before .before .before .before .prepare .ensures .1) in (
       summing-more (now (a .map)) (a .size .w) (a .size .h) (now (a .delta)) (a .dsize .w) (a .dsize .h) (c .before .before .before .before .before .before .before .before .before .before .before .before .before .before .loop .y) (grid-row (c .before .before .before .before .before .before .before .before .before .before .before .before .before .before .before .before .before .before .before .before .before .before .before .before .before .pre .0) (c .before .before .before .before .before .before .before .before .before .before .before .before .before .loop-test .taken) .0)
-          (c .before .before .before .before .before .before .before .before .prepare .ensures .1) (c .before .before .before .before .before .before .before .before .prepare .ensures .0) (c .before .before .before .before .before .before .before .way .ensures) (c .before .before .before .before .before .before .before .before .before .before .before .before .before .loop-test .taken) (a .store) (c .before .before .before .before .before .before .before .before .before .before .before .before .before .before .loop .inv .0) (c .before .before .before .sum-row .ensures) (not-false _ (c .if1 .left)),
-      (omega (arith, c .before .before .before .before .before .before .before .before .before .before .before .before .before .loop-test .taken), c .before .before .before .before .before .before .before .before .prepare .ensures .1),
+          m (c .before .before .before .before .before .before .before .before .prepare .ensures .0) (c .before .before .before .before .before .before .before .way .ensures) (c .before .before .before .before .before .before .before .before .before .before .before .before .before .loop-test .taken) (a .store) (c .before .before .before .before .before .before .before .before .before .before .before .before .before .before .loop .inv .0) (c .before .before .before .sum-row .ensures) (not-false _ (c .if1 .left)),
+      (omega (arith, c .before .before .before .before .before .before .before .before .before .before .before .before .before .loop-test .taken), m),
     )
 
 same-length-2 : tie.Need-same-length-2 Inv-loop μ-loop
