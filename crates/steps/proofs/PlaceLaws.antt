@@ -2,7 +2,7 @@
 use Prim.Native.Nat.{ℕ, zero, suc, _+_, _-_, _*_, _≤_, _<_}
 use native.Mathlib.Omega.{arith}
 use native.Mathlib.Nat.{suc-mul}
-use native.Mathlib.Decide.{ℕ-discrete}
+use native.Mathlib.Decide.{ℕ-discrete, decLe}
 use mathlib.Core.Path.{_≡_, refl, sym, ap, _∙_, subst}
 use mathlib.Core.Logic.{_≢_, _⊎_, inl, inr}
 use mathlib.Core.Bool.{Bool, true, false, cond}
@@ -29,30 +29,43 @@ record Wide (w x y nx ny g : ℕ) : Type 0 where
   straight : ny ≢ y → nx ≡ x → g + 3 - w ≡ 3
   aslant : ny ≢ y → nx ≢ x → (g + 3 - w ≡ 2) ⊎ (g + 3 - w ≡ 4)
 
-wide-gap : (w x y nx ny : ℕ) → 3 ≤ w → x ≤ nx + 1 → nx ≤ x + 1 → y ≤ ny + 1 → ny ≤ y + 1 → Wide w x y nx ny (gap (x + y * w) (nx + ny * w))
-wide-gap w x y nx ny wide west east north south = go (ℕ-discrete ny y) (ℕ-discrete ny (suc y)) (ℕ-discrete nx x) (ℕ-discrete nx (suc x))
+-- in one row, and in a row and the one below it
+wide-below : (w x y nx ny : ℕ) → 3 ≤ w → x ≤ nx + 1 → nx ≤ x + 1 → y ≤ ny → ny ≤ y + 1 → Wide w x y nx ny (gap (x + y * w) (nx + ny * w))
+wide-below w x y nx ny wide west east north south = go (ℕ-discrete ny y)
   where
-    go : Dec (ny ≡ y) → Dec (ny ≡ suc y) → Dec (nx ≡ x) → Dec (nx ≡ suc x) → Wide w x y nx ny (gap (x + y * w) (nx + ny * w))
-    go (yes e) b c d =
+    side : Dec (nx ≡ suc x) → nx ≢ x → ny * w ≡ y * w + w → (gap (x + y * w) (nx + ny * w) + 3 - w ≡ 2) ⊎ (gap (x + y * w) (nx + ny * w) + 3 - w ≡ 4)
+    side (yes d) s m = inr (omega (arith, m))
+    side (no d) s m = inl (omega (arith, m))
+
+    go : Dec (ny ≡ y) → Wide w x y nx ny (gap (x + y * w) (nx + ny * w))
+    go (yes e) =
         let m : ny * w ≡ y * w = ap (λ (k : ℕ). k * w) e in
         record { level = λ q. omega (arith, m); other = λ q. absurd (q e); bound = omega (arith, m); straight = λ q. absurd (q e); aslant = λ q. absurd (q e) }
-    go (no e) (yes b) c d =
+    go (no e) =
+        let b : ny ≡ suc y = omega arith in
         let m : ny * w ≡ y * w + w = ap (λ (k : ℕ). k * w) b ∙ suc-mul y w in
-        record { level = λ q. absurd (e q); other = λ q. omega (arith, m); bound = omega (arith, m); straight = λ q s. omega (arith, m); aslant = λ q s. side c d s m }
-      where
-        side : Dec (nx ≡ x) → Dec (nx ≡ suc x) → nx ≢ x → ny * w ≡ y * w + w → (gap (x + y * w) (nx + ny * w) + 3 - w ≡ 2) ⊎ (gap (x + y * w) (nx + ny * w) + 3 - w ≡ 4)
-        side (yes c) d s m = absurd (s c)
-        side (no c) (yes d) s m = inr (omega (arith, m))
-        side (no c) (no d) s m = inl (omega (arith, m))
-    go (no e) (no b) c d =
-        let up : y ≡ suc ny = omega arith in
-        let m : y * w ≡ ny * w + w = ap (λ (k : ℕ). k * w) up ∙ suc-mul ny w in
-        record { level = λ q. absurd (e q); other = λ q. omega (arith, m); bound = omega (arith, m); straight = λ q s. omega (arith, m); aslant = λ q s. side c d s m }
-      where
-        side : Dec (nx ≡ x) → Dec (nx ≡ suc x) → nx ≢ x → y * w ≡ ny * w + w → (gap (x + y * w) (nx + ny * w) + 3 - w ≡ 2) ⊎ (gap (x + y * w) (nx + ny * w) + 3 - w ≡ 4)
-        side (yes c) d s m = absurd (s c)
-        side (no c) (yes d) s m = inl (omega (arith, m))
-        side (no c) (no d) s m = inr (omega (arith, m))
+        record { level = λ q. absurd (e q); other = λ q. omega (arith, m); bound = omega (arith, m); straight = λ q s. omega (arith, m); aslant = λ q s. side (ℕ-discrete nx (suc x)) s m }
+
+-- from the other of the two cells
+wide-turned : {w x y nx ny g : ℕ} → Wide w nx ny x y g → Wide w x y nx ny g
+wide-turned s =
+    record {
+      level = λ e. s .level (sym e);
+      other = λ e. s .other (λ q. e (sym q));
+      bound = s .bound;
+      straight = λ e f. s .straight (λ q. e (sym q)) (sym f);
+      aslant = λ e f. s .aslant (λ q. e (sym q)) (λ q. f (sym q));
+    }
+
+gap-turned : (i r : ℕ) → gap i r ≡ gap r i
+gap-turned i r = omega arith
+
+wide-gap : (w x y nx ny : ℕ) → 3 ≤ w → x ≤ nx + 1 → nx ≤ x + 1 → y ≤ ny + 1 → ny ≤ y + 1 → Wide w x y nx ny (gap (x + y * w) (nx + ny * w))
+wide-gap w x y nx ny wide west east north south = go (decLe y ny)
+  where
+    go : Dec (y ≤ ny) → Wide w x y nx ny (gap (x + y * w) (nx + ny * w))
+    go (yes l) = wide-below w x y nx ny wide west east l south
+    go (no l) = subst (Wide w x y nx ny) (gap-turned (nx + ny * w) (x + y * w)) (wide-turned (wide-below w nx ny x y wide east west (omega arith) north))
 
 abbrev one : Float
 one = ofBits binary32 0x3f80_0000
