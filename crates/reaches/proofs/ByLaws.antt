@@ -34,6 +34,7 @@ module _ (hs : List Float) (limit c : ℕ) (status : List ℕ) (spill : List Flo
     reached-cell :
         (m len₂ : ℕ) (status₂ : List ℕ) (spill₂ : List Float) (recv₂ queue₂ : List ℕ) → Reached hs limit c m status₁ spill₁ recv₁ len₂ status₂ spill₂ recv₂ queue₂
         → ReachedBy hs limit c (cells ++ (m ∷ [])) status spill recv len₂ status₂ spill₂ recv₂ queue₂
+    unfolding pushedBy
     reached-cell m len₂ status₂ spill₂ recv₂ queue₂ s = record {
       left = s .left;
       level = s .level ∙ r .level;

@@ -22,7 +22,7 @@ use Rattle.heap.proofs.RoomLaws.{heap-same, heap-room}
 use Rattle.flood_start.specs.Slices.{stateOf, Sizes}
 use Rattle.scan_queue.specs.Scans.{Queued, Level}
 use Rattle.scan_queue.proofs.ScanLaws.{unlike-zero}
-use Rattle.reaches.specs.Reaches.{Reached}
+use Rattle.reaches.specs.Reaches.{pushedBy, Reached}
 
 -- lists of the same lengths
 pub sizes-kept :
@@ -70,6 +70,7 @@ module _ (hs : List Float) (limit : ℕ) (status : List ℕ) (spill : List Float
 module _ (hs : List Float) (limit c m : ℕ) (status : List ℕ) (spill : List Float) (recv : List ℕ) (len : ℕ) (queue : List ℕ)
     (q : Queued hs limit status spill len queue) (left : getD status c 0 ≡ 2) where
   stays : (getD status m 1 ≡ 0 → ⊥) → Reached hs limit c m status spill recv len status spill recv queue
+  unfolding pushedBy
   stays d = record {
     left = left;
     level = refl;
@@ -123,6 +124,7 @@ module _ (hs : List Float) (limit c m : ℕ) (status : List ℕ) (spill : List F
     ]
 
     reached : (len′ : ℕ) (queue′ : List ℕ) → Queued hs limit status′ spill′ len′ queue′ → Reached hs limit c m status spill recv len′ status′ spill′ recv′ queue′
+    unfolding pushedBy
     reached len′ queue′ q′ = record {
       left = other c apart ∙ left;
       level = other-spill c apart;

@@ -11,21 +11,13 @@ use Rattle.drainage.specs.Flood.{Flood, push, pushAll}
 use Rattle.scan_queue.specs.Scans.{Queued}
 use Rattle.flood_start.specs.Slices.{stateOf}
 
--- Cell c, which has left, has reached cell m, on any ground and whatever the order so far.
-pub record Reached (hs : List Float) (limit c m : ℕ) (status : List ℕ) (spill : List Float) (recv : List ℕ) (len : ℕ) (status′ : List ℕ)
-    (spill′ : List Float) (recv′ queue′ : List ℕ) : Type 0 where
-  pub left : getD status′ c 0 ≡ 2
-  pub level : getD spill′ c nan ≡ getD spill c nan
-  pub state : (g : Ground) (order : List ℕ) → stateOf status′ spill′ recv′ order ≡ push floats g hs c m (stateOf status spill recv order)
-  pub queued : Queued hs limit status′ spill′ len queue′
-
 -- cell c reaches the cells of a list
 module _ {H : Type 0} (k : Kind H) (g : Ground) (hs : List H) (c : ℕ) where
   unfoldable pub pushedBy : List ℕ → Flood H → Flood H
   pushedBy [] s = s
   pushedBy (m ∷ l) s = pushedBy l (push k g hs c m s)
 
--- Cell c has reached the cells of a list.
+-- Cell c, which has left, has reached the cells of a list, on any ground and whatever the order so far.
 pub record ReachedBy (hs : List Float) (limit c : ℕ) (cells status : List ℕ) (spill : List Float) (recv : List ℕ) (len : ℕ) (status′ : List ℕ)
     (spill′ : List Float) (recv′ queue′ : List ℕ) : Type 0 where
   pub left : getD status′ c 0 ≡ 2
@@ -33,6 +25,10 @@ pub record ReachedBy (hs : List Float) (limit c : ℕ) (cells status : List ℕ)
   pub state :
       (g : Ground) (order : List ℕ) → stateOf status′ spill′ recv′ order ≡ pushedBy floats g hs c cells (stateOf status spill recv order)
   pub queued : Queued hs limit status′ spill′ len queue′
+
+-- Cell c has reached cell m.
+abbrev pub Reached : List Float → ℕ → ℕ → ℕ → List ℕ → List Float → List ℕ → ℕ → List ℕ → List Float → List ℕ → List ℕ → Type 0
+Reached hs limit c m = ReachedBy hs limit c (m ∷ [])
 
 -- Cell c has reached all its neighbours.
 pub record ReachedAll (w h : ℕ) (hs : List Float) (limit c : ℕ) (status : List ℕ) (spill : List Float) (recv : List ℕ) (len : ℕ) (status′ : List ℕ)
