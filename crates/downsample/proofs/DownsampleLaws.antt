@@ -10,7 +10,7 @@ use Rattle.answers.specs.declared.Answer.{Answer}
 use Rattle.answers.specs.declared.Refusal.{Refusal}
 use Rattle.grid.specs.Heights.{firstNotFinite, allFinite}
 use Rattle.resample.specs.Blocks.{shapeRefusal, downsampled, Downsampled}
-use Rattle.resample.proofs.RefusalLaws.{Shaped, shape-refused}
+use Rattle.resample.proofs.RefusalLaws.{Shaped, shape-refused, past-shape}
 
 module _ {src dst : List Float} {w h dw dh : ℕ} where
   pub down-refused : (a : Answer) (r : Refusal) → answerOf a ≡ shapeRefusal w h (length src) dw dh (length dst) refused (gives tt) → a ≡ Answer.Refused r
@@ -19,11 +19,11 @@ module _ {src dst : List Float} {w h dw dh : ℕ} where
 
   module _ (s : Shaped w h (length src) dw dh (length dst)) where
     pub down-height : (c : ℕ) → c ≡ firstNotFinite src → allFinite src ≡ false → Downsampled src w h dst dw dh (Answer.Refused (Refusal.Height c)) dst
-    down-height c f e = record { answer = rw (s .sides, s .reduced, s .lengths, e, f); result = rw (s .sides, s .reduced, s .lengths, e) }
+    down-height c f e = record { answer = past-shape s refused (rw (e, f)); result = past-shape s (λ n. dst) (rw e) }
 
     module _ (e : allFinite src ≡ true) (after : List Float) (f : after ≡ downsampled src w h dw dh) where
       pub down-run-off : allFinite after ≡ false → Downsampled src w h dst dw dh (Answer.Refused Refusal.RunOff) after
-      down-run-off g = record { answer = rw (s .sides, s .reduced, s .lengths, e, ← f, g); result = rw (s .sides, s .reduced, s .lengths, e) f }
+      down-run-off g = record { answer = past-shape s refused (rw (e, ← f, g)); result = past-shape s (λ n. dst) (rw e f) }
 
       pub down-done : allFinite after ≡ true → Downsampled src w h dst dw dh Answer.Done after
-      down-done g = record { answer = rw (s .sides, s .reduced, s .lengths, e, ← f, g); result = rw (s .sides, s .reduced, s .lengths, e) f }
+      down-done g = record { answer = past-shape s refused (rw (e, ← f, g)); result = past-shape s (λ n. dst) (rw e f) }

@@ -72,3 +72,7 @@ shape-good w h len dw dh dlen r e f =
       full = eqb-true len (w * h) (not-false (eqb len (w * h)) (q .0));
       small = eqb-true dlen (dw * dh) (not-false (eqb dlen (dw * dh)) (q .1));
     }
+
+-- past an accepted shape: what the rest says is what the whole says
+pub past-shape : {w h len dw dh dlen : ℕ} → Shaped w h len dw dh dlen → {A : Type 0} (number : ℕ → A) {x then : A} → x ≡ then → x ≡ shapeRefusal w h len dw dh dlen number then
+past-shape s number e = rw (s .sides, s .reduced, s .lengths) e

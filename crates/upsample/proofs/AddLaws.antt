@@ -11,7 +11,7 @@ use Rattle.answers.specs.declared.Answer.{Answer}
 use Rattle.answers.specs.declared.Refusal.{Refusal}
 use Rattle.grid.specs.Heights.{firstNotFinite, allFinite}
 use Rattle.resample.specs.Blocks.{shapeRefusal}
-use Rattle.resample.proofs.RefusalLaws.{Shaped, shape-refused}
+use Rattle.resample.proofs.RefusalLaws.{Shaped, shape-refused, past-shape}
 use Rattle.bilinear.specs.Places.{Grid}
 use Rattle.bilinear.specs.Samples.{asSource}
 use Rattle.upsample.specs.Samples.{addedOf, AddedFinite, Added}
@@ -29,20 +29,20 @@ module _ {map delta : List Float} {w h dw dh : ℕ} where
 
   module _ (s : Shaped w h (length map) dw dh (length delta)) where
     pub add-height : (c : ℕ) → c ≡ firstNotFinite map → allFinite map ≡ false → Added map w h delta dw dh (Answer.Refused (Refusal.Height c)) map
-    add-height c f e = record { answer = rw (s .sides, s .reduced, s .lengths, e, f); heights = rw (s .sides, s .reduced, s .lengths, e) }
+    add-height c f e = record { answer = past-shape s refused (rw (e, f)); heights = past-shape s (λ n. map) (rw e) }
 
     module _ (e : allFinite map ≡ true) where
       pub add-small : (c : ℕ) → c ≡ firstNotFinite delta → allFinite delta ≡ false → Added map w h delta dw dh (Answer.Refused (Refusal.Height c)) map
-      add-small c f g = record { answer = rw (s .sides, s .reduced, s .lengths, e, g, f); heights = rw (s .sides, s .reduced, s .lengths, e, g) }
+      add-small c f g = record { answer = past-shape s refused (rw (e, g, f)); heights = past-shape s (λ n. map) (rw (e, g)) }
 
       module _ (g : allFinite delta ≡ true) where
         module _ {t : Bool} {after : List Float} (a : AddedFinite (addedOf asSource map w h delta dw dh) map t after) where
           pub add-run-off : t ≡ false → Added map w h delta dw dh (Answer.Refused Refusal.RunOff) after
           add-run-off q =
               let off : allFinite (addedOf asSource map w h delta dw dh) ≡ false = sym (a .good) ∙ q in
-              record { answer = rw (s .sides, s .reduced, s .lengths, e, g, off); heights = rw (s .sides, s .reduced, s .lengths, e, g, off) (rw q at (a .heights)) }
+              record { answer = past-shape s refused (rw (e, g, off)); heights = past-shape s (λ n. map) (rw (e, g, off) (rw q at (a .heights))) }
 
           pub add-done : t ≡ true → Added map w h delta dw dh Answer.Done after
           add-done q =
               let on : allFinite (addedOf asSource map w h delta dw dh) ≡ true = sym (a .good) ∙ q in
-              record { answer = rw (s .sides, s .reduced, s .lengths, e, g, on); heights = rw (s .sides, s .reduced, s .lengths, e, g, on) (rw q at (a .heights)) }
+              record { answer = past-shape s refused (rw (e, g, on)); heights = past-shape s (λ n. map) (rw (e, g, on) (rw q at (a .heights))) }
