@@ -1,5 +1,5 @@
 -- A loop that writes words one behind the other: its invariant, at the start, after one word and at the end.
-use Prim.Native.Nat.{ℕ, zero, suc, _+_, _*_, _/_, _≤_, _<_}
+use Prim.Native.Nat.{ℕ, zero, suc, _+_, _*_, _/_, _≤_, _<_, min}
 use mathlib.Core.Path.{_≡_, refl, sym, ap, _∙_}
 use mathlib.Core.List.{List, [], _++_}
 use native.Mathlib.Numerals.{add-one}
@@ -9,11 +9,15 @@ use lib.ListN.{length, length-append}
 use lib.Seq.{sets, length-sets, length-take-le}
 use Rattle.stream_bytes.specs.Bytes.{number4, bytes4}
 use Rattle.stream_bytes.proofs.PutLaws.{sets-next}
-use Rattle.words.specs.Words.{Part, wordAt, wordBytes}
+use Rattle.words.specs.Words.{Part, wordAt, wordBytes, fitting}
 
 -- a length within a list
 pub part : {A : Type 0} (n : ℕ) (l : List A) → n ≤ length l → Part n l
 part n l h = (h, sym (length-take-le n l h))
+
+-- a length cut to that of a room, whatever the room holds
+pub held : {A : Type 0} (n : ℕ) (room : List A) {r : ℕ} → r ≡ min n (length room) → Part r room × (r ≡ min n (length room))
+held n room {r} e = (part r room (omega arith), e)
 
 -- a word that has ended, and one that has not
 pub word-ended : (b : List ℕ) (at : ℕ) → length b < at + 4 → 0 ≡ wordAt b at
@@ -58,9 +62,9 @@ module _ (old : List ℕ) (at n : ℕ) (f : ℕ → ℕ) where
         let e : i ≡ n = omega (arith, p .within) in
         p .held ∙ ap (λ (k : ℕ). sets old at (wordBytes k f)) e
 
--- the words that fit, written to the front
-pub into : (old : List ℕ) (k : ℕ) (f : ℕ → ℕ) {r : ℕ} {new : List ℕ} → r ≤ length old / 4 → r ≡ k → new ≡ sets old 0 (wordBytes r f)
-    → Part (4 * r) new × ((4 * r ≡ 4 * k) × (new ≡ sets old 0 (wordBytes k f)))
-into old k f {r} {new} h e g =
+-- the words that fit, written to the front, whatever they are the words of
+pub into : {A : Type 0} (v : List A) (old : List ℕ) (f : ℕ → ℕ) {r : ℕ} {new : List ℕ} → r ≡ fitting v old → new ≡ sets old 0 (wordBytes r f)
+    → Part (4 * r) new × ((4 * r ≡ 4 * fitting v old) × (new ≡ sets old 0 (wordBytes (fitting v old) f)))
+into v old f {r} {new} e g =
     let s : length new ≡ length old = ap length g ∙ length-sets old 0 (wordBytes r f) in
     (part (4 * r) new (omega arith), (ap (λ (z : ℕ). 4 * z) e, g ∙ ap (λ (z : ℕ). sets old 0 (wordBytes z f)) e))

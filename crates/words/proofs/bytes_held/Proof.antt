@@ -1,6 +1,5 @@
-use native.Mathlib.Omega.{arith}
 use borrow.Author.Needs.{needs}
-use Rattle.words.proofs.WordLaws.{part}
+use Rattle.words.proofs.WordLaws.{held}
 use Rattle.words.proofs.bytes_held.Statement.{statement}
 use Rattle.words.proofs.bytes_held.Tie as tie
 
@@ -8,7 +7,7 @@ least-requires : tie.Need-least-requires
 least-requires c κs = search needs
 
 returns : tie.Need-returns
-returns c = (part _ _ (omega (arith, c .least .ensures)), c .least .ensures)
+returns c = held _ _ (c .least .ensures)
 
 pub bytes-held-spec : {M : Type 1} → statement M
 bytes-held-spec = tie.close (tie.spec least-requires returns)

@@ -1,4 +1,3 @@
-use native.Mathlib.Omega.{arith}
 use borrow.Author.Needs.{needs}
 use Rattle.words.proofs.WordLaws.{into}
 use Rattle.words.proofs.cells_into.Statement.{statement}
@@ -17,7 +16,7 @@ same-length : tie.Need-same-length
 same-length c = search needs
 
 returns : tie.Need-returns
-returns c = into _ _ _ (omega (arith, c .before .before .before .before .least .ensures)) (c .before .before .before .before .least .ensures) (c .before .before .put-cells .ensures)
+returns c = into (c .before .before .before .before .before .before .before .args .v .now) _ _ (c .before .before .before .before .least .ensures) (c .before .before .put-cells .ensures)
 
 pub cells-into-spec : {M : Type 1} → statement M
 cells-into-spec =
