@@ -5,7 +5,7 @@ use mathlib.Core.Bool.{Bool, true, false, cond, _||_, not, true≢false}
 use mathlib.Core.List.{List}
 use native.Mathlib.Nat.{mul-le-mul}
 use native.Mathlib.Omega.{arith}
-use lib.Dec.{eqb, ltb, lit≤}
+use lib.Dec.{eqb, ltb}
 use lib.IntN.{ℤ, pos, negsuc, natAbs}
 use lib.ListN.{getD}
 use borrow.Author.Tests.{lt-ltb, ltb-true, ltb-false, eqb-false}
@@ -15,7 +15,7 @@ use Rattle.grid.specs.Base.{borderAt}
 use Rattle.grid.specs.Directions.{shiftedOf, neighbourOf, neighbourAt}
 use Rattle.grid.proofs.SidesLaws.{cell-lt, cell-back, column-cell, row-cell, column-lt, row-lt, cells-bound}
 use Rattle.grid.proofs.BaseLaws.{border-ends}
-use Rattle.grid.proofs.NeighbourLaws.{stepX, stepY, within, shift-ahead, each-direction}
+use Rattle.grid.proofs.NeighbourLaws.{stepX, stepY, within, shift-ahead, small-steps}
 use Rattle.inner_cells.specs.Inner.{Inner, InnerRun, innerOf, offsetOf, offsetsOf}
 
 -- a step of at most one from an inner place stays inside, and goes as far as from place 1
@@ -53,23 +53,6 @@ pub offset-read : (w : ℕ) (os : List ℕ) → os ≡ offsetsOf w → (d : ℕ)
 unfolding offsetsOf
 offset-read w os e d l = ap (λ (t : List ℕ). getD t d 0) e ∙ getD-tabulate (offsetOf w) 9 d 0 l
 
--- the steps of the eight directions
-record Small (d : ℕ) : Type 0 where
-  column : natAbs (stepX d) ≤ 1
-  row : natAbs (stepY d) ≤ 1
-
-small : (d : ℕ) → 1 ≤ d → d ≤ 8 → Small d
-small =
-    each-direction Small
-    (record { column = lit≤ tt; row = lit≤ tt })
-    (record { column = lit≤ tt; row = lit≤ tt })
-    (record { column = lit≤ tt; row = lit≤ tt })
-    (record { column = lit≤ tt; row = lit≤ tt })
-    (record { column = lit≤ tt; row = lit≤ tt })
-    (record { column = lit≤ tt; row = lit≤ tt })
-    (record { column = lit≤ tt; row = lit≤ tt })
-    (record { column = lit≤ tt; row = lit≤ tt })
-
 offset-sum : (w x y nx ny ox oy : ℕ) → nx + 1 ≡ ox + x → ny + 1 ≡ oy + y → (nx + ny * w) + (w + 1) ≡ (x + y * w) + (ox + oy * w)
 offset-sum w x y nx ny ox oy a b = omega (arith, ap (λ (z : ℕ). z * w) b)
 
@@ -77,9 +60,9 @@ offset-sum w x y nx ny ox oy a b = omega (arith, ap (λ (z : ℕ). z * w) b)
 beside-at : (w h x y d : ℕ) → 1 ≤ d → d ≤ 8 → 1 ≤ x → x + 1 < w → 1 ≤ y → y + 1 < h
     → (neighbourOf w h x y d < w * h) × (neighbourOf w h x y d + (w + 1) ≡ cellOf w x y + offsetOf w d)
 beside-at w h x y d lo hi west east north south =
-    let s = small d lo hi in
-    let a = near (stepX d) x w (s .column) west east in
-    let b = near (stepY d) y h (s .row) north south in
+    let s = small-steps d lo hi in
+    let a = near (stepX d) x w (s .0) west east in
+    let b = near (stepY d) y h (s .1) north south in
     rw (within w h x y d _ refl _ refl (a .1) (b .1)) (cell-lt w _ _ (a .1) h (b .1), offset-sum w x y _ _ _ _ (a .0) (b .0))
 
 module _ (w h c d : ℕ) (lo : 1 ≤ d) (hi : d ≤ 8) (a : Inner w h c) where

@@ -13,8 +13,9 @@ use Rattle.lists.proofs.TestLaws.{both}
 use Rattle.lists.specs.Loops.{turns}
 use Rattle.grid.specs.Sides.{cellOf}
 use Rattle.grid.specs.Directions.{Place, shiftedOf, neighbourOf, neighbourAt, Adjacent}
-use Rattle.grid.proofs.SidesLaws.{cell-lt, column-cell, row-cell, cells-bound}
+use Rattle.grid.proofs.SidesLaws.{cell-lt, cells-bound}
 use Rattle.grid.proofs.NeighbourLaws.{stepX, stepY, Beside, beside, outside-or-beside, neighbour-cell, small-steps, close-step}
+use Rattle.grid.proofs.ReachLaws.{beside-adjacent}
 use Rattle.lent_receivers.specs.Receivers.{goodReceiver}
 
 -- ---- a number among f 0 … f (n - 1)
@@ -113,13 +114,7 @@ module _ (w h x y : ℕ) (cx : x < w) (cy : y < h) where
       at : (d : ℕ) → 1 ≤ d → d ≤ 8 → shiftedOf x (stepX d) w ≡ nx → shiftedOf y (stepY d) h ≡ ny → goodReceiver w h (cellOf w x y) (cellOf w nx ny) ≡ true
       at d lo hi ex ey =
           good-near w h (cellOf w x y) (cellOf w nx ny)
-          (record {
-            direction = d;
-            first = lo;
-            last = hi;
-            inside = inside;
-            leads = rw (column-cell w x y cx, row-cell w x y cx) (beside (record { column = ex; row = ey; columns = p .inside; rows = q .inside }));
-          })
+          (beside-adjacent w h cx lo hi (record { column = ex; row = ey; columns = p .inside; rows = q .inside }))
 
       go : Step x w nx → Step y h ny → goodReceiver w h (cellOf w x y) (cellOf w nx ny) ≡ true
       go (back a) (back b) = at 1 (lit≤ tt) (lit≤ tt) a b

@@ -11,10 +11,9 @@ use lib.Dec.{eqb, ltb}
 use lib.Ieee.{Float, nan, binary32, ofBits}
 use borrow.Author.Tests.{eq-eqb, ne-eqb, eqb-true, eqb-false, ltb-true}
 use Rattle.lists.specs.Loops.{turns}
-use Rattle.grid.specs.Sides.{cellOf, columnOf, rowOf}
+use Rattle.grid.specs.Sides.{columnOf, rowOf}
 use Rattle.grid.specs.Directions.{shiftedOf, neighbourAt, Adjacent}
-use Rattle.grid.proofs.SidesLaws.{column-cell, row-cell}
-use Rattle.grid.proofs.NeighbourLaws.{stepX, stepY, each-direction, Beside, beside, outside-or-beside, neighbour-apart, isZero}
+use Rattle.grid.proofs.NeighbourLaws.{stepX, stepY, each-direction, Beside, inside-beside, neighbour-apart, isZero}
 use Rattle.drainage.specs.Ground.{gridGround, distances}
 use Rattle.drainage.specs.Receivers.{directionTo, distanceTo}
 use Rattle.ways.specs.Apart.{apart}
@@ -79,7 +78,7 @@ module _ (w h : ℕ) (water : Float) (hs : List Float) (c : ℕ) (l : c < w * h)
   near-distance r a =
       let s = last-at 8 (λ i. neighbourAt w h c (suc i)) r (a .direction - 1) (omega (arith, a .first, a .last)) (ap (neighbourAt w h c) (back (a .direction) (a .first)) ∙ a .leads) in
       let d : ℕ = suc (s .0) in
-      ap (λ (d : ℕ). getD distances d nan) (s .1) ∙ by-steps d (omega arith) (omega (arith, s .2)) ∙ go d (s .3) (outside-or-beside w h (columnOf w c) (rowOf w c) d)
+      ap (λ (d : ℕ). getD distances d nan) (s .1) ∙ by-steps d (omega arith) (omega (arith, s .2)) ∙ go d (inside-beside w h c r d (a .inside) (s .3))
     where
       back : (d : ℕ) → 1 ≤ d → suc (d - 1) ≡ d
       back d f = omega arith
@@ -87,14 +86,9 @@ module _ (w h : ℕ) (water : Float) (hs : List Float) (c : ℕ) (l : c < w * h)
       one : Float
       one = ofBits binary32 0x3f80_0000
 
-      go : (d : ℕ) → neighbourAt w h c d ≡ r → {nx ny : ℕ} → (neighbourAt w h c d ≡ w * h) ⊎ Beside w h (columnOf w c) (rowOf w c) d nx ny
+      go : (d : ℕ) → Beside w h (columnOf w c) (rowOf w c) d (columnOf w r) (rowOf w r)
           → cond (isZero (stepX d)) one (cond (isZero (stepY d)) one (ofBits binary32 0x3fb5_04f3)) ≡ apart w c r
-      go d e (inl o) = absurd (omega (arith, a .inside))
-      go d e {nx} {ny} (inr b) =
-          let cell : r ≡ cellOf w nx ny = sym e ∙ beside b in
-          let column : columnOf w r ≡ nx = ap (columnOf w) cell ∙ column-cell w nx ny (b .columns) in
-          let row : rowOf w r ≡ ny = ap (rowOf w) cell ∙ row-cell w nx ny (b .columns) in
-          rw (column, row, kept (columnOf w c) (stepX d) w nx (b .column) (b .columns), kept (rowOf w c) (stepY d) h ny (b .row) (b .rows))
+      go d b = rw (kept (columnOf w c) (stepX d) w (columnOf w r) (b .column) (b .columns), kept (rowOf w c) (stepY d) h (rowOf w r) (b .row) (b .rows))
 
   -- the distance that the code finds is that of the definitions
   pub distance-is : (r : ℕ) → (r ≡ c) ⊎ Adjacent w h c r → apart w c r ≡ distanceTo (gridGround w h water hs) c r
