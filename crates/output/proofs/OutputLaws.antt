@@ -4,14 +4,13 @@ use mathlib.Core.Path.{_≡_, refl, sym, ap, _∙_}
 use mathlib.Core.Bool.{false}
 use mathlib.Core.List.{List, _++_}
 use native.Mathlib.Nat.{mul-le-mul, mul-comm, zero-mul}
-use native.Mathlib.Numerals.{add-one}
 use native.Mathlib.Omega.{arith}
 use borrow.Author.Tests.{lt-ltb, le-ltb}
 use mir.Syntax.{w16}
 use mir.Val.{Fits}
 use lib.Dec.{ltb}
 use lib.ListN.{length, length-append}
-use lib.Seq.{sets, length-sets}
+use lib.Seq.{sets}
 use lib.Ieee.{Float}
 use Rattle.answers.specs.Outcome.{numberIn, answerOf}
 use Rattle.answers.specs.declared.Answer.{Answer}
@@ -19,7 +18,7 @@ use Rattle.answers.proofs.OutcomeLaws.{refusal-by}
 use Rattle.stream_bytes.specs.Bytes.{bytes2, bytes4, gridMark, rowMark, endMark}
 use Rattle.words.specs.Words.{bitsAt}
 use Rattle.words.proofs.WordLaws.{words-length}
-use Rattle.stream_bytes.proofs.PutLaws.{sets-next}
+use Rattle.stream_bytes.proofs.PutLaws.{sets-next, Putting, putting-none, putting-more}
 use Rattle.output.specs.Output.{gridRecord, heightBytes, rowRecord, rowRecords, endRecord, forInput}
 
 -- every number of document 01 is small
@@ -67,30 +66,12 @@ rows-length map w zero = sym (zero-mul (2 + 4 * w))
 rows-length map w (suc y) =
     length-append (rowRecords map w y) (rowRecord map (y * w) w) ∙ omega (arith, rows-length map w y, words-length (bitsAt map (y * w)) w)
 
-module _ (old : List ℕ) (map : List Float) (w h : ℕ) where
-  pub record RowsPut (y : ℕ) (new : List ℕ) : Type 0 where
-    pub within : y ≤ h
-    pub held : new ≡ sets old 6 (rowRecords map w y)
-
-  pub rows-none : RowsPut 0 old
+-- a loop that writes them
+module _ (map : List Float) (w : ℕ) {old : List ℕ} {h : ℕ} where
+  pub rows-none : Putting old 6 h (rowRecords map w) 0 old
   unfolding rowRecords
-  rows-none = record { within = omega arith; held = refl }
+  rows-none = putting-none refl
 
-  module _ {y : ℕ} {new : List ℕ} (r : RowsPut y new) where
-    pub rows-kept : length new ≡ length old
-    rows-kept = ap length (r .held) ∙ length-sets old 6 (rowRecords map w y)
-
-    pub rows-more : y < h → {b : List ℕ} → b ≡ sets new (6 + y * (2 + 4 * w)) (rowRecord map (y * w) w) → RowsPut (y + 1) b
-    unfolding rowRecords
-    rows-more l {b} f =
-        record {
-          within = omega arith;
-          held =
-              sets-next old 6 (rowRecords map w y) (rowRecord map (y * w) w) (6 + y * (2 + 4 * w)) (omega (arith, rows-length map w y)) (r .held) f
-              ∙ ap (λ (k : ℕ). sets old 6 (rowRecords map w k)) (sym (add-one y));
-        }
-
-    pub rows-done : h ≤ y → new ≡ sets old 6 (rowRecords map w h)
-    rows-done l =
-        let e : y ≡ h = omega (arith, r .within) in
-        r .held ∙ ap (λ (k : ℕ). sets old 6 (rowRecords map w k)) e
+  pub rows-more : {y : ℕ} {new : List ℕ} → Putting old 6 h (rowRecords map w) y new → y < h → {b : List ℕ} → b ≡ sets new (6 + y * (2 + 4 * w)) (rowRecord map (y * w) w) → Putting old 6 h (rowRecords map w) (y + 1) b
+  unfolding rowRecords
+  rows-more {y} p l f = putting-more p l (rowRecord map (y * w) w) refl (omega (arith, rows-length map w y)) f

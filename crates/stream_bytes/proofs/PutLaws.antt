@@ -1,5 +1,5 @@
 -- Bytes written one after the other.
-use Prim.Native.Nat.{ℕ, suc, _+_, _*_, _/_, _%_, _<_}
+use Prim.Native.Nat.{ℕ, suc, _+_, _*_, _/_, _%_, _≤_, _<_}
 use mathlib.Core.Path.{_≡_, refl, sym, ap, ap₂, _∙_}
 use mathlib.Core.List.{List, [], _∷_, _++_}
 use native.Mathlib.Nat.{add-zero, add-suc, suc-add}
@@ -7,7 +7,7 @@ use native.Mathlib.Numerals.{add-one}
 use native.Mathlib.Omega.{arith}
 use lib.Arith.{digits-mod}
 use lib.ListN.{length, getD, set}
-use lib.Seq.{sets}
+use lib.Seq.{sets, length-sets}
 use Rattle.stream_bytes.specs.Bytes.{bytes2, bytes4}
 
 -- one run of bytes behind another is one run
@@ -20,6 +20,27 @@ sets-append l i (x ∷ a) b =
 -- and so where the code has written one and then the other, at the place j behind the first
 pub sets-next : (l : List ℕ) (i : ℕ) (xs ys : List ℕ) (j : ℕ) → j ≡ i + length xs → {a b : List ℕ} → a ≡ sets l i xs → b ≡ sets a j ys → b ≡ sets l i (xs ++ ys)
 sets-next l i xs ys j p e f = f ∙ ap₂ (λ (l : List ℕ) (j : ℕ). sets l j ys) e p ∙ sets-append l i xs ys
+
+-- a loop that writes n pieces one behind the other from a place on: before its turn i it has written `pieces i`
+pub record Putting (old : List ℕ) (at n : ℕ) (pieces : ℕ → List ℕ) (i : ℕ) (new : List ℕ) : Type 0 where
+  pub within : i ≤ n
+  pub held : new ≡ sets old at (pieces i)
+
+pub putting-none : {old : List ℕ} {at n : ℕ} {pieces : ℕ → List ℕ} → pieces 0 ≡ [] → Putting old at n pieces 0 old
+putting-none {old} {at} e = record { within = omega arith; held = sym (ap (sets old at) e) }
+
+module _ {old : List ℕ} {at n : ℕ} {pieces : ℕ → List ℕ} {i : ℕ} {new : List ℕ} (p : Putting old at n pieces i new) where
+  pub putting-kept : length new ≡ length old
+  putting-kept = ap length (p .held) ∙ length-sets old at (pieces i)
+
+  pub putting-more : i < n → (piece : List ℕ) {j : ℕ} → pieces (suc i) ≡ pieces i ++ piece → j ≡ at + length (pieces i) → {b : List ℕ} → b ≡ sets new j piece → Putting old at n pieces (i + 1) b
+  putting-more l piece {j} e k g =
+      record { within = omega arith; held = sets-next old at (pieces i) piece j k (p .held) g ∙ ap (sets old at) (sym e ∙ ap pieces (sym (add-one i))) }
+
+  pub putting-done : n ≤ i → new ≡ sets old at (pieces n)
+  putting-done l =
+      let e : i ≡ n = omega (arith, p .within) in
+      p .held ∙ ap (λ (k : ℕ). sets old at (pieces k)) e
 
 pub two-bytes : (l : List ℕ) (i x : ℕ) → x < 65536 → set (set l i (x % 256)) (i + 1) (x / 256) ≡ sets l i (bytes2 x)
 two-bytes l i x h =

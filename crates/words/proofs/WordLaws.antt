@@ -1,14 +1,13 @@
--- A loop that writes words one behind the other: its invariant, at the start, after one word and at the end.
+-- Words at a place, and loops that write them one behind the other.
 use Prim.Native.Nat.{ℕ, zero, suc, _+_, _*_, _/_, _≤_, _<_, min}
 use mathlib.Core.Path.{_≡_, refl, sym, ap, _∙_}
 use mathlib.Core.List.{List, [], _++_}
-use native.Mathlib.Numerals.{add-one}
 use native.Mathlib.Omega.{arith}
 use borrow.Author.Tests.{lt-ltb, le-ltb}
 use lib.ListN.{length, length-append}
 use lib.Seq.{sets, length-sets, length-take-le}
 use Rattle.stream_bytes.specs.Bytes.{number4, bytes4}
-use Rattle.stream_bytes.proofs.PutLaws.{sets-next}
+use Rattle.stream_bytes.proofs.PutLaws.{Putting, putting-none, putting-more}
 use Rattle.words.specs.Words.{Part, wordAt, wordBytes, fitting}
 
 -- a length within a list
@@ -32,35 +31,17 @@ module _ (f : ℕ → ℕ) where
   words-length zero = refl
   words-length (suc n) = length-append (wordBytes n f) (bytes4 (f n)) ∙ omega (arith, words-length n)
 
--- the words before i
-module _ (old : List ℕ) (at n : ℕ) (f : ℕ → ℕ) where
-  pub record WordsPut (i : ℕ) (new : List ℕ) : Type 0 where
-    pub within : i ≤ n
-    pub held : new ≡ sets old at (wordBytes i f)
-
-  pub words-none : WordsPut 0 old
+-- a loop that writes them
+module _ (f : ℕ → ℕ) {old : List ℕ} {at n : ℕ} where
+  pub words-none : Putting old at n (λ k. wordBytes k f) 0 old
   unfolding wordBytes
-  words-none = record { within = omega arith; held = refl }
+  words-none = putting-none refl
 
-  module _ {i : ℕ} {new : List ℕ} (p : WordsPut i new) where
-    pub words-kept : length new ≡ length old
-    words-kept = ap length (p .held) ∙ length-sets old at (wordBytes i f)
-
-    pub words-more : i < n → {v j : ℕ} → v ≡ f i → j ≡ at + 4 * i → {b : List ℕ} → b ≡ sets new j (bytes4 v) → WordsPut (i + 1) b
-    unfolding wordBytes
-    words-more l {v} {j} e k {b} g =
-        record {
-          within = omega arith;
-          held =
-              sets-next old at (wordBytes i f) (bytes4 v) j (omega (arith, k, words-length f i)) (p .held) g
-              ∙ ap (λ (v : ℕ). sets old at (wordBytes i f ++ bytes4 v)) e
-              ∙ ap (λ (k : ℕ). sets old at (wordBytes k f)) (sym (add-one i));
-        }
-
-    pub words-done : n ≤ i → new ≡ sets old at (wordBytes n f)
-    words-done l =
-        let e : i ≡ n = omega (arith, p .within) in
-        p .held ∙ ap (λ (k : ℕ). sets old at (wordBytes k f)) e
+  pub words-more : {i : ℕ} {new : List ℕ} → Putting old at n (λ k. wordBytes k f) i new → i < n → {v j : ℕ} → v ≡ f i → j ≡ at + 4 * i → {b : List ℕ} → b ≡ sets new j (bytes4 v)
+      → Putting old at n (λ k. wordBytes k f) (i + 1) b
+  unfolding wordBytes
+  words-more {i} {new} p l {v} {j} e k g =
+      putting-more p l (bytes4 (f i)) refl (omega (arith, k, words-length f i)) (g ∙ ap (λ (x : ℕ). sets new j (bytes4 x)) e)
 
 -- the words that fit, written to the front, whatever they are the words of
 pub into : {A : Type 0} (v : List A) (old : List ℕ) (f : ℕ → ℕ) {r : ℕ} {new : List ℕ} → r ≡ fitting v old → new ≡ sets old 0 (wordBytes r f)
