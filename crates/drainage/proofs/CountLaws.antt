@@ -6,6 +6,7 @@ use mathlib.Core.List.{List, [], _∷_, _++_}
 use native.Mathlib.Omega.{arith}
 use lib.Dec.{eqb}
 use borrow.Author.Tests.{eq-eqb, ne-eqb, eqb-true, eqb-false}
+use Rattle.lists.proofs.TestLaws.{either}
 use Rattle.drainage.specs.Ways.{times, countBelow, sumBelow}
 
 -- 1 for true
@@ -78,11 +79,7 @@ sum-by (suc m) p q f h = ap₂ (λ (b : Bool) (x : ℕ). cond b (f m) 0 + x) (h 
 pub sum-zero : (m : ℕ) (p : ℕ → Bool) → sumBelow m p (λ c. 0) ≡ 0
 unfolding sumBelow
 sum-zero zero p = refl
-sum-zero (suc m) p = ap₂ (λ (x y : ℕ). x + y) (go (p m)) (sum-zero m p)
-  where
-    go : (b : Bool) → _≡_ {A = ℕ} (cond b 0 0) 0
-    go true = refl
-    go false = refl
+sum-zero (suc m) p = ap₂ (λ (x y : ℕ). x + y) (either (λ (x : ℕ). x ≡ 0) (p m) 0 0 refl refl) (sum-zero m p)
 
 -- one more at each c that equals x, of the cells that p holds of: one more in all where p holds of x
 pub sum-off : (m : ℕ) (p : ℕ → Bool) (x : ℕ) (f : ℕ → ℕ) → m ≤ x → sumBelow m p (λ c. bit (eqb x c) + f c) ≡ sumBelow m p f

@@ -42,6 +42,10 @@ pub through : {A B : Type 0} (f : A → B) (b : Bool) (x y : A) → f (cond b x 
 through f true x y = refl
 through f false x y = refl
 
+pub through₂ : {A B C : Type 0} (f : A → B → C) (b : Bool) (x y : A) (u v : B) → f (cond b x y) (cond b u v) ≡ cond b (f x u) (f y v)
+through₂ f true x y u v = refl
+through₂ f false x y u v = refl
+
 -- two choices by one test are one where they are one behind it
 pub behind : {A : Type 0} (b : Bool) (x : A) {y z : A} → (b ≡ false → y ≡ z) → cond b x y ≡ cond b x z
 behind true x f = refl

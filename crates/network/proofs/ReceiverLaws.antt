@@ -11,6 +11,7 @@ use lib.Dec.{ltb}
 use lib.Ieee.{Float, nan, lt}
 use borrow.Author.Tests.{lt-ltb, le-ltb, eq-eqb, ne-eqb}
 use Rattle.lists.specs.Loops.{turns}
+use Rattle.lists.proofs.TestLaws.{either, through, through₂}
 use Rattle.lists.proofs.TurnLaws.{turns-none, turns-more}
 use Rattle.grid.specs.Directions.{neighbourAt, Adjacent}
 use Rattle.drainage.specs.Ground.{floats, gridGround, distances}
@@ -20,10 +21,8 @@ use Rattle.network.specs.Passes.{steepestAs, slopeDown, comparedAs, Comp
 use Rattle.ways.specs.Apart.{apart}
 use Rattle.ways.proofs.DistanceLaws.{distance-is}
 
--- one of two, part by part
-parts : (t : Bool) (a b : Best) → _≡_ {A = Best} (record { cell = cond t (a .cell) (b .cell); slope = cond t (a .slope) (b .slope) }) (cond t a b)
-parts true a b = refl
-parts false a b = refl
+abbrev best-of : ℕ → Float → Best
+best-of k s = record { cell = k; slope = s }
 
 pub compared-parts :
     (spill : List Float) (c d m cell : ℕ) (best : Best) {s : Float} {k : ℕ}
@@ -32,10 +31,9 @@ pub compared-parts :
     → _≡_ {A = Best} (record { cell = k; slope = s }) (comparedAs spill c d m cell best)
 compared-parts spill c d m cell best e f =
     rw (e, f)
-    (parts
+    (through₂ best-of
     (lt (getD spill m nan) (getD spill c nan) && lt (best .slope) (slopeDown spill c m (getD distances d nan)))
-    (record { cell = cell; slope = slopeDown spill c m (getD distances d nan) })
-    best)
+    cell (best .cell) (slopeDown spill c m (getD distances d nan)) (best .slope))
 
 module _ (w h : ℕ) (spill : List Float) (c d m : ℕ) (best : Best) (long : length spill ≡ w * h) where
   abbrev slope : Float
@@ -53,17 +51,9 @@ module _ (w h : ℕ) (spill : List Float) (c d m : ℕ) (best : Best) (long : le
 
   pub compared-inside : (r : Best) → m < length spill → r ≡ comparedAs spill c d m m best → Compared w h spill c d m best r
   compared-inside r l e = record {
-    is = λ water hs. ap steepestAs e ∙ as-steepest (lt (getD spill m nan) (getD spill c nan) && lt (best .slope) slope) ∙ by-test true (lt-ltb m (w * h) (omega arith)) water hs;
-    inside = λ i. rw e (below (lt (getD spill m nan) (getD spill c nan) && lt (best .slope) slope) i);
+    is = λ water hs. ap steepestAs e ∙ through steepestAs (lt (getD spill m nan) (getD spill c nan) && lt (best .slope) slope) (record { cell = m; slope = slope }) best ∙ by-test true (lt-ltb m (w * h) (omega arith)) water hs;
+    inside = λ i. rw e (either (λ (b : Best). b .cell < w * h) (lt (getD spill m nan) (getD spill c nan) && lt (best .slope) slope) (record { cell = m; slope = slope }) best (omega arith) i);
   }
-    where
-      as-steepest : (t : Bool) → steepestAs (cond t (record { cell = m; slope = slope }) best) ≡ cond t (record { cell = m; slope = slope }) (steepestAs best)
-      as-steepest true = refl
-      as-steepest false = refl
-
-      below : (t : Bool) → best .cell < w * h → (cond {A = Best} t (record { cell = m; slope = slope }) best) .cell < w * h
-      below true i = omega arith
-      below false i = i
 
 module _ (w h : ℕ) (spill : List Float) (c : ℕ) (water : Float) (hs : List Float) where
   -- the finder f and the slope to it, and the neighbour in direction i + 1 against the best so far

@@ -8,6 +8,7 @@ use borrow.Author.Tests.{lt-leb, le-leb, eqb-true, eqb-false, eq-eqb}
 use lib.Dec.{eqb, leb}
 use lib.Ieee.{Float}
 use Rattle.lists.specs.Loops.{turns}
+use Rattle.lists.proofs.TestLaws.{either}
 use Rattle.lists.proofs.TurnLaws.{turns-hold, turns-kept, turns-through, turns-split, turns-product}
 use Rattle.grid.specs.Heights.{allFinite}
 use Rattle.generators.specs.Marks.{reportOf}
@@ -33,11 +34,7 @@ pub dropped-on : (s : State) → s .number ≡ 0 → dropped s ≡ s
 dropped-on s e = dropped-by s (rw (eq-eqb (s .number) 0 e))
 
 pub dropped-row : (s : State) → s .row ≡ 0 → dropped s ≡ s
-dropped-row s e = dropped-by s (rw e (go (eqb (s .number) 0)))
-  where
-    go : (b : Bool) → _≡_ {A = ℕ} (cond b 0 0) 0
-    go true = refl
-    go false = refl
+dropped-row s e = dropped-by s (rw e (either (λ (x : ℕ). x ≡ 0) (eqb (s .number) 0) 0 0 refl refl))
 
 -- Steps f and a part g of the loops that both keep an ended state. From a state of P they come to the same, seen without rows, and g leads to Q.
 record Block (f g : State → State) (P Q : State → Type 0) : Type 0 where

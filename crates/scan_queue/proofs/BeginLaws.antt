@@ -11,22 +11,22 @@ use lib.Ieee.{Float, nan}
 use Rattle.float_order.specs.Fit.{Fit}
 use Rattle.drainage.specs.Ways.{times}
 use Rattle.drainage.proofs.TallyLaws.{same-or-not, one-same, one-other}
-use Rattle.heap.specs.Queue.{placeOf, within, Pushed}
+use Rattle.heap.specs.Queue.{placeOf, within, Heap, Pushed}
 use Rattle.sorted_cells.specs.Sorted.{isSorted}
 use Rattle.sorted_cells.proofs.SortedLaws.{sorted}
 use Rattle.scan_queue.specs.Scans.{endless, limitOf, Listed, Gathered, Begins, Begun}
 use Rattle.scan_queue.proofs.ListedLaws.{below-endless, waits-inside, first-least, listed-start, listed-end}
+
+-- a heap of nothing
+heap-none : (v : ℕ → ℕ) (n : ℕ) (queue : List ℕ) → Heap v n 0 queue
+heap-none v n queue = record { room = omega arith; cells = λ k l. absurd (omega arith); ordered = λ k p l. absurd (omega arith) }
 
 -- ---- the waiting cells join the heap
 module _ (status : List ℕ) (spill : List Float) where
   pub gathered-none : (queue : List ℕ) → Gathered status spill 0 0 queue
   unfolding times
   gathered-none queue = record {
-    heap = record {
-      room = omega arith;
-      cells = λ k l. let z : ⊥ = omega arith in absurd z;
-      ordered = λ k p l. let z : ⊥ = omega arith in absurd z;
-    };
+    heap = heap-none (placeOf spill) (length spill) queue;
     below = λ c l. let z : ⊥ = omega arith in absurd z;
     above = λ c l. refl;
     few = omega arith;
@@ -71,11 +71,7 @@ module _ (hs : List Float) (list status : List ℕ) (spill : List Float) (queue 
   begun-sorted e limit n f = record {
     listed = listed-start hs list (sorted hs list e) limit f;
     queued = record {
-      heap = record {
-        room = omega arith;
-        cells = λ k l. let z : ⊥ = omega arith in absurd z;
-        ordered = λ k p l. let z : ⊥ = omega arith in absurd z;
-      };
+      heap = heap-none (placeOf spill) (length spill) queue;
       below = λ c h. within-none c queue ∙ sym (one-other (getD status c 0) 1 (none c h));
       above = λ c h. within-none c queue;
       own = λ c h. ap (λ t. getD t c nan) (b .spills);

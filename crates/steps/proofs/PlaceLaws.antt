@@ -12,6 +12,7 @@ use lib.Seq.{split-at}
 use lib.Dec.{eqb, ltb}
 use lib.Ieee.{Float, nan, binary32, ofBits}
 use borrow.Author.Tests.{lt-ltb, le-ltb, eq-eqb, ne-eqb}
+use Rattle.lists.proofs.TestLaws.{either}
 use Rattle.grid.specs.Sides.{cellOf, columnOf, rowOf}
 use Rattle.grid.specs.Directions.{Adjacent}
 use Rattle.grid.proofs.SidesLaws.{cell-back}
@@ -111,12 +112,10 @@ module _ {w i r : ℕ} (near : Near w i r) where
       same-row (suc zero) k = (omega arith, refl)
       same-row (suc (suc g)) k = absurd (omega arith)
 
-      level : (b : Bool) → Holds (gap i r) one → Holds (gap i r) (cond b one one)
-      level true h = h
-      level false h = h
-
       go : Dec (rowOf w r ≡ rowOf w i) → Dec (columnOf w r ≡ columnOf w i) → Holds (cond (ltb (gap i r) 2) (gap i r) (gap i r + 3 - w)) (apart w i r)
-      go (yes e) c = rw (lt-ltb (gap i r) 2 (s .level e), eq-eqb (rowOf w i) (rowOf w r) (sym e)) (level (eqb (columnOf w i) (columnOf w r)) (same-row (gap i r) (s .level e)))
+      go (yes e) c =
+          let h : Holds (gap i r) one = same-row (gap i r) (s .level e) in
+          rw (lt-ltb (gap i r) 2 (s .level e), eq-eqb (rowOf w i) (rowOf w r) (sym e)) (either (Holds (gap i r)) (eqb (columnOf w i) (columnOf w r)) one one h h)
       go (no e) (yes c) = rw (le-ltb (gap i r) 2 (s .other e), eq-eqb (columnOf w i) (columnOf w r) (sym c)) (holds-at 3 (s .straight e c) (omega arith, refl))
       go (no e) (no c) =
           rw (le-ltb (gap i r) 2 (s .other e), ne-eqb (columnOf w i) (columnOf w r) (λ q. c (sym q)), ne-eqb (rowOf w i) (rowOf w r) (λ q. e (sym q))) (aslant (s .aslant e c))

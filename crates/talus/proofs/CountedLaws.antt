@@ -7,12 +7,12 @@ use lib.ListN.{getD, set}
 use lib.Seq.{set-getD}
 use lib.Ieee.{Float, nan, binary32, ofBits, add, mul, div, lt}
 use Rattle.floats.specs.Stand.{maxOf}
+use Rattle.lists.proofs.TestLaws.{through₂}
 use Rattle.talus.specs.Talus.{excessTo, shedTo, gainTo}
 use Rattle.talus.specs.declared.Shed.{Shed}
 
-shed-parts : (b : Bool) (t u g v : Float) → _≡_ {A = Shed} (record { total = cond b t u; greatest = cond b g v }) (cond b (record { total = t; greatest = g }) (record { total = u; greatest = v }))
-shed-parts true t u g v = refl
-shed-parts false t u g v = refl
+abbrev shed-of : Float → Float → Shed
+shed-of t g = record { total = t; greatest = g }
 
 set-part : (b : Bool) (out : List Float) (m : ℕ) (v : Float) → set out m (cond b v (getD out m nan)) ≡ cond b (set out m v) out
 set-part true out m v = refl
@@ -26,7 +26,7 @@ module _ (ts hs : List Float) (c m d : ℕ) where
       → greatest ≡ cond (lt (ofBits binary32 0) e) most (s .greatest)
       → _≡_ {A = Shed} (record { total = total; greatest = greatest }) (shedTo ts hs c m d s)
   unfolding shedTo
-  shed-counted s x e f g = rw (g, f, e, x) (shed-parts (lt (ofBits binary32 0) (excessTo ts hs c m d)) _ _ _ _)
+  shed-counted s x e f g = rw (g, f, e, x) (through₂ shed-of (lt (ofBits binary32 0) (excessTo ts hs c m d)) _ _ _ _)
 
   pub gain-counted : (moved total : Float) (out : List Float) {e v : Float}
       → e ≡ excessTo ts hs c m d
