@@ -63,11 +63,15 @@ step-high n g r D E h a b c = not-above (λ (k : r + E < step n g). no (n / g) (
 pub over-around : {n e s : ℕ} → Over n e s → Around n e s
 over-around {n} {e} {s} o = record { least = le-trans (o .least) (le-add-right s e); most = o .most }
 
+-- the whole root of such a number has 24 digits
+root-low : (n : ℕ) → 2 ^ 46 ≤ n → n < 2 ^ 48 → 2 ^ 23 ≤ wholeRoot n
+root-low n l h = below-root (2 ^ 23) (wholeRoot n) n l (whole-bracket n h .1)
+
 pub further : (n D E s : ℕ) → 2 ^ 46 ≤ n → n < 2 ^ 48 → Around n D s → D < 2 ^ 23 → D * (D + 2 * (E + 1)) < E * 2 ^ 24 → Over n E (step n s)
 further n D E s l h o d e =
     let w = whole-bracket n h in
     let r = wholeRoot n in
-    let big : 2 ^ 23 ≤ r = below-root (2 ^ 23) r n l (w .1) in
+    let big : 2 ^ 23 ≤ r = root-low n l h in
     record {
       least = step-low n s r (pos big (o .least)) (w .0);
       most = step-high n s r D E (w .1) (o .most) (o .least) (room r (mul-le-mul-left E big) (mul-le-mul-left (E + 1) (o .least)));
@@ -106,8 +110,5 @@ between n lo hi c h a b =
 -- what lies near such a root has some 24 digits
 pub range : (n e s : ℕ) → 2 ^ 46 ≤ n → n < 2 ^ 48 → Around n e s → (2 ^ 23 ≤ s + e) × (s < 2 ^ 24 + e)
 range n e s l h o =
-    let w = whole-bracket n h in
-    let r = wholeRoot n in
-    let lo : 2 ^ 23 ≤ r = below-root (2 ^ 23) r n l (w .1) in
-    let hi : r ≤ 2 ^ 24 - 1 = below-root r (2 ^ 24 - 1) n (w .0) h in
-    (le-trans lo (o .least), omega (arith, o .most))
+    let hi : wholeRoot n ≤ 2 ^ 24 - 1 = below-root (wholeRoot n) (2 ^ 24 - 1) n (whole-bracket n h .0) h in
+    (le-trans (root-low n l h) (o .least), omega (arith, o .most))
