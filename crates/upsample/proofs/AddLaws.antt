@@ -1,5 +1,5 @@
 -- Each way out of `add_upsampled` keeps its promise.
-use Prim.Native.Nat.{ℕ}
+use Prim.Native.Nat.{ℕ, _*_}
 use mathlib.Core.Path.{_≡_, sym, _∙_}
 use mathlib.Core.Bool.{Bool, true, false}
 use mathlib.Core.List.{List}
@@ -10,17 +10,20 @@ use Rattle.answers.specs.Outcome.{gives, refused, answerOf}
 use Rattle.answers.specs.declared.Answer.{Answer}
 use Rattle.answers.specs.declared.Refusal.{Refusal}
 use Rattle.grid.specs.Heights.{firstNotFinite, allFinite}
+use Rattle.resample.specs.WorkSize.{Within}
 use Rattle.resample.specs.Blocks.{shapeRefusal}
 use Rattle.resample.proofs.RefusalLaws.{Shaped, shape-refused, past-shape}
 use Rattle.bilinear.specs.Places.{Grid}
 use Rattle.bilinear.specs.Samples.{asSource}
 use Rattle.upsample.specs.Samples.{addedOf, AddedFinite, Added}
 
-pub full-grid : {w h len dw dh dlen : ℕ} → Shaped w h len dw dh dlen → Grid w h len
-full-grid s = omega (arith, s .in-grid, s .full)
+-- the full grid and the reduced one
+module _ {w h dw dh : ℕ} (n : Within w h dw dh) where
+  pub full-grid : {len : ℕ} → len ≡ w * h → Grid w h len
+  full-grid e = omega arith
 
-pub small-grid : {w h len dw dh dlen : ℕ} → Shaped w h len dw dh dlen → Grid dw dh dlen
-small-grid s = omega (arith, s .in-grid, s .small)
+  pub small-grid : {len : ℕ} → len ≡ dw * dh → Grid dw dh len
+  small-grid e = omega arith
 
 module _ {map delta : List Float} {w h dw dh : ℕ} where
   pub add-refused : (a : Answer) (r : Refusal) → answerOf a ≡ shapeRefusal w h (length map) dw dh (length delta) refused (gives tt) → a ≡ Answer.Refused r

@@ -1,7 +1,7 @@
 use mathlib.Core.Path.{refl, sym, _∙_}
 use borrow.Author.Tests.{not-true, not-false}
 use Rattle.erosion.proofs.WholeLaws.{whole-on-map, whole-averages, whole-ended, whole-added}
-use Rattle.erosion.proofs.GridLaws.{map-grid, work-grid, halted-fresh}
+use Rattle.erosion.proofs.GridLaws.{back-grids, halted-fresh}
 use Rattle.fluvial_loop.specs.Loops.{courseBy}
 use Rattle.fluvial_grid.proofs.GridLaws.{by-loops, erodes-enough, erodes-map, erodes-averages}
 use borrow.Author.Needs.{needs}
@@ -98,8 +98,7 @@ returns-3 c = let s = c .before .before .before .before .before .before .before 
 add-back-requires : tie.Need-add-back-requires
 add-back-requires c κs = let p = c .before .before .before .before .before .before .before .before .before .before .before .before .before .before .before .before .before .before .before .before .before .before .before .before .before .before .before .before .before .before .before .before .before .before .before .before .before .before .before .before .before .before .before .before .before .before .before .pre in
     let k = c .before .before .before .before .before .before .before .before .before .before .before .before .before .before .before .before .before .before .before .before .before .before .before .before .before .before .before .before .before .before .before .before .reduce .kept .1 .1 .1 in
-    let n = k .0 ∙ p .small in
-    (map-grid (p .sides) (p .heights), (work-grid (p .sides) n, (c .before .before .before .before .before .before .before .before .before .before .before .before .before .before .before .before .before .before .before .run-iterations2 .kept .1 .0 ∙ k .1 .0 ∙ p .eroded ∙ sym n, c .before .before .before .if3 .left)))
+    back-grids (p .sides) (p .heights) (k .0 ∙ p .small) (c .before .before .before .before .before .before .before .before .before .before .before .before .before .before .before .before .before .before .before .run-iterations2 .kept .1 .0 ∙ k .1 .0 ∙ p .eroded) (c .before .before .before .if3 .left)
 
 same-length-20 : tie.Need-same-length-20
 same-length-20 c = c .before .before .before .before .add-back .kept .1 .0

@@ -1,8 +1,8 @@
-use mathlib.Core.Path.{sym, _∙_}
+use mathlib.Core.Path.{_∙_}
 use borrow.Author.Tests.{not-true, not-false}
 use Rattle.runs.specs.Run.{slideCourse}
 use Rattle.erosion.proofs.WholeLaws.{whole-averages, whole-ended, whole-added}
-use Rattle.erosion.proofs.GridLaws.{map-grid, work-grid, halted-fresh}
+use Rattle.erosion.proofs.GridLaws.{back-grids, halted-fresh}
 use Rattle.thermal_run.proofs.RunLaws.{by-loops}
 use borrow.Author.Needs.{needs}
 use Rattle.thermal_run.proofs.erode_reduced.Statement.{statement}
@@ -51,7 +51,7 @@ returns-2 : tie.Need-returns-2
 returns-2 c = let a = c .before .before .before .before .before .before .before .before .before .before .before .before .before .before .before .before .before .before .before .before .before .before .args in by-loops (c .before .before .before .before .before .before .before .before .before .before .before .before .before .before .before .before .before .before .before .before .before .before .pre .1 .sides) (a .params) (a .passes) (a .stop) (a .hmap .now) (whole-ended _ _ (slideCourse (a .work .w) (a .work .h) (a .params) (a .passes) (a .stop)) (a .hmap .now) (c .before .before .before .before .before .before .before .before .before .before .before .before .before .before .before .before .before .before .before .before .before .before .pre .0) (c .before .before .before .before .before .before .before .before .before .before .before .before .before .before .reduce .ensures) (not-false _ (c .before .before .before .before .before .before .before .before .before .if1 .left)) _ _ (c .before .before .before .before .before .before .slide-passes .ensures) (c .if2 .taken))
 
 add-back-requires : tie.Need-add-back-requires
-add-back-requires c κs = let p = c .before .before .before .before .before .before .before .before .before .before .before .before .before .before .before .before .before .before .before .before .before .before .before .before .before .pre .1 in (map-grid (p .sides) (p .heights), (work-grid (p .sides) (c .before .before .before .before .before .before .before .before .before .before .before .before .before .before .before .before .before .reduce .kept .1 .1 .1 .0 ∙ p .averages), (c .before .before .before .before .before .before .before .before .before .slide-passes .kept .1 .0 ∙ c .before .before .before .before .before .before .before .before .before .before .before .before .before .before .before .before .before .reduce .kept .1 .1 .1 .1 .0 ∙ p .changed ∙ sym (c .before .before .before .before .before .before .before .before .before .before .before .before .before .before .before .before .before .reduce .kept .1 .1 .1 .0 ∙ p .averages), c .before .before .before .if2 .left)))
+add-back-requires c κs = let p = c .before .before .before .before .before .before .before .before .before .before .before .before .before .before .before .before .before .before .before .before .before .before .before .before .before .pre .1 in back-grids (p .sides) (p .heights) (c .before .before .before .before .before .before .before .before .before .before .before .before .before .before .before .before .before .reduce .kept .1 .1 .1 .0 ∙ p .averages) (c .before .before .before .before .before .before .before .before .before .slide-passes .kept .1 .0 ∙ c .before .before .before .before .before .before .before .before .before .before .before .before .before .before .before .before .before .reduce .kept .1 .1 .1 .1 .0 ∙ p .changed) (c .before .before .before .if2 .left)
 
 same-length-8 : tie.Need-same-length-8
 same-length-8 c = search needs

@@ -51,7 +51,7 @@ returns-3 : tie.Need-returns-3
 returns-3 c = add-small (shaped (c .before .before .before .before .before .before)) (sym (c .before .before .before .before .all-finite .ensures) ∙ not-false _ (c .before .before .before .if1 .left)) _ (c .first-not-finite2 .ensures) (sym (c .before .before .all-finite2 .ensures) ∙ not-true _ (c .before .if2 .taken))
 
 add-finite-requires : tie.Need-add-finite-requires
-add-finite-requires c κs = let s = shaped (c .before .before .before .before .before .before) in (full-grid s, small-grid s)
+add-finite-requires c κs = let s = shaped (c .before .before .before .before .before .before) in (full-grid (s .in-grid) (s .full), small-grid (s .in-grid) (s .small))
 
 -- both heights are finite
 finites : (c : tie.After-add-finite) → let a = c .before .before .before .before .before .before .before .before .before .before .before .before .args in (allFinite (now (a .map)) ≡ true) × (allFinite (now (a .delta)) ≡ true)
