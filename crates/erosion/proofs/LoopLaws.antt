@@ -11,6 +11,7 @@ use lib.Dec.{eqb}
 use lib.Ieee.{Float}
 use Rattle.lists.proofs.TestLaws.{either}
 use Rattle.lists.proofs.TurnLaws.{turns-none, turns-more}
+use Rattle.lists.proofs.LoopLaws.{at-end}
 use Rattle.generators.specs.Marks.{reportOf}
 use Rattle.runs.specs.Machine.{Course, State, start}
 use Rattle.runs.specs.Nested.{onePass, oneOpening, passesAfter, oneIteration, iterated, nested, Due, Underway, Bounded}
@@ -42,8 +43,8 @@ module _ (c : Course) (hs : List Float) where
   going-none = record { held = ap seen (sym (turns-none (λ i. oneIteration c) (start c hs))); on = refl }
 
   -- the last iteration is done
-  pub going-done : {it : ℕ} {map : List Float} {r : Reached} → Going c hs it map r → it ≡ c .iterations → worked map r ≡ seen (nested c hs)
-  going-done g e = g .held ∙ ap (λ (n : ℕ). seen (iterated c n hs)) e
+  pub going-done : {it : ℕ} {map : List Float} {r : Reached} → worked map r ≡ seen (iterated c it hs) → it ≤ c .iterations → c .iterations ≤ it → worked map r ≡ seen (nested c hs)
+  going-done e a b = at-end (λ (n : ℕ). seen (iterated c n hs)) e a b
 
   -- 21 or 22 ended the run in an iteration
   pub going-ended : (it : ℕ) {map : List Float} {r : Reached} → worked map r ≡ seen (iterated c it hs) → it ≤ c .iterations → (r .number ≡ 0 → ⊥)

@@ -26,7 +26,7 @@ use Rattle.runs.proofs.IterationLaws.{due-iterated}
 use Rattle.erosion.specs.Reached.{Worked, seen, begun, afterMade}
 use Rattle.erosion.specs.declared.Reached.{Reached}
 use Rattle.erosion.proofs.ReachedLaws.{worked, openedBy, made-cases}
-use Rattle.erosion.proofs.LoopLaws.{Going, going-none, going-ended, going-asked, going-incisions, going-opening}
+use Rattle.erosion.proofs.LoopLaws.{Going, going-none, going-done, going-ended, going-asked, going-incisions, going-opening}
 use Rattle.incision_step.specs.Opening.{cutOf, afterOpening, Counts}
 use Rattle.incision_step.proofs.OpeningLaws.{cut-any}
 use Rattle.fluvial_loop.specs.Loops.{courseBy, slidBy, Slides}
@@ -57,9 +57,7 @@ module _ (w h : ℕ) (plan : FluvialPlan) (stop : ℕ) (hs : List Float) (then :
   module _ (it : ℕ) (map : List Float) (r : Reached) (now : Lent) (i : Iterating course hs then it map r now) where
     -- the loop is left
     pub iterating-done : course .iterations ≤ it → worked map r ≡ seen (nested course hs)
-    iterating-done l =
-        let e : it ≡ course .iterations = omega (arith, i .within) in
-        i .held ∙ ap (λ (n : ℕ). seen (iterated course n hs)) e
+    iterating-done l = going-done course hs (i .held) (i .within) l
 
     pub iterating-ended : (r .number ≡ 0 → ⊥) → worked map r ≡ seen (nested course hs)
     iterating-ended z = going-ended course hs it (i .held) (i .within) z

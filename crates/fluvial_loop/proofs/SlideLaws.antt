@@ -1,5 +1,5 @@
 -- The passes of an iteration: the loop over them, and that what it leaves is the state after them.
-use Prim.Native.Nat.{ℕ, suc, _+_, _-_, _*_, _^_, _≤_, _<_}
+use Prim.Native.Nat.{ℕ, suc, _+_, _-_, _*_, _≤_, _<_}
 use mathlib.Core.Path.{_≡_, refl, sym, ap, _∙_}
 use mathlib.Core.Bool.{Bool, true, false}
 use mathlib.Core.List.{List}
@@ -15,12 +15,13 @@ use Rattle.floats.proofs.WholeLaws.{float-in}
 use Rattle.lists.specs.Loops.{turns}
 use Rattle.lists.proofs.TestLaws.{either}
 use Rattle.lists.proofs.TurnLaws.{turns-none, turns-more, turns-hold, turns-stay, turns-through}
+use Rattle.lists.proofs.LoopLaws.{at-end}
 use Rattle.thermal_erosion.specs.SlidePass.{Pass, rowsOf}
 use Rattle.thermal_erosion.proofs.PassLaws as Rows
 use Rattle.runs.specs.Machine.{Course, State}
-use Rattle.runs.specs.Nested.{onePass, oneOpening, oneIteration, Due, Underway, Bounded}
+use Rattle.runs.specs.Nested.{onePass, oneOpening, oneIteration, Due, Bounded}
 use Rattle.runs.proofs.PassLaws.{pass-ended}
-use Rattle.runs.proofs.IterationLaws.{Place, underway-opening, underway-pass, due-pass, pass-before, opening-before}
+use Rattle.runs.proofs.IterationLaws.{Place, place-opening, place-pass}
 use Rattle.erosion.specs.Reached.{Worked, seen, halted, afterPass, PassReady}
 use Rattle.erosion.specs.declared.Reached.{Reached}
 use Rattle.erosion.proofs.ReachedLaws.{worked, rowsBy, pass-seen, made-cases}
@@ -115,9 +116,7 @@ module _ (c : Course) (it : ℕ) (x : Worked) where
 
     -- all are done, or the run has ended
     pub slid-done : c .passes ≤ q → worked map r ≡ slidBy c it (c .passes) x
-    slid-done l =
-        let e : q ≡ c .passes = omega (arith, s .within) in
-        s .held ∙ ap (λ (n : ℕ). slidBy c it n x) e
+    slid-done l = at-end (λ (n : ℕ). slidBy c it n x) (s .held) (s .within) l
 
     pub slid-ended : (r .number ≡ 0 → ⊥) → worked map r ≡ slidBy c it (c .passes) x
     unfolding slidBy
@@ -140,8 +139,4 @@ module _ (c : Course) (it : ℕ) (s : State) (d : s .number ≡ 0 → Due c it s
   unfolding oneIteration slidBy
   slid-seen =
       turns-through (λ i. onePass c) (passedBy c it) seen (Place c it) (oneOpening c s) (c .passes)
-      (λ on. (λ m. underway-opening c it s (d (opening-before c s on)) on, λ e. let z : ⊥ = omega arith in absurd z))
-      (λ i t k p on.
-      let u : Underway c it i t = p (pass-before c t on) .0 (omega arith) in
-      (λ m. underway-pass c it t i u on m, λ e. due-pass c it t i u on e))
-      (λ i t k p. pass-through i t k p)
+      (place-opening c it s some d) (place-pass c it) (λ i t k p. pass-through i t k p)

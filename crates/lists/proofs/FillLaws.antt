@@ -5,6 +5,7 @@ use mathlib.Core.List.{List}
 use native.Mathlib.Omega.{arith}
 use lib.ListN.{length, getD, set}
 use Rattle.lists.specs.Loops.{tabulate}
+use Rattle.lists.proofs.LoopLaws.{at-end}
 use Rattle.lists.proofs.TableLaws.{filled, filled-none, filled-length, filled-more, filled-done, filled-at, filled-ahead, tabulate-getD}
 
 -- the list `old` after i stores is `new`
@@ -34,12 +35,10 @@ module _ {A : Type 0} {f : ℕ → A} {i : ℕ} {old new : List A} (p : Filling 
 
   -- a loop that has stored n values
   pub stored : {n : ℕ} → i ≤ n → n ≤ i → new ≡ filled f n old
-  stored {n} a b = let same : i ≡ n = omega arith in p .held ∙ ap (λ (k : ℕ). filled f k old) same
+  stored a b = at-end (λ (k : ℕ). filled f k old) (p .held) a b
 
   pub filling-done : (n : ℕ) → length old ≡ n → n ≤ i → new ≡ tabulate n f
-  filling-done n e l =
-      let s : i ≡ n = omega (arith, p .within) in
-      p .held ∙ ap (λ (k : ℕ). filled f k old) s ∙ filled-done f n old e
+  filling-done n e l = stored (omega (arith, p .within)) l ∙ filled-done f n old e
 
 -- a loop that copies the list hs
 pub copied : {A : Type 0} {hs old new : List A} {i : ℕ} (d : A) → Filling (λ k. getD hs k d) i old new → length old ≡ length hs → length hs ≤ i → new ≡ hs

@@ -8,6 +8,10 @@ use Rattle.lists.specs.Loops.{turns}
 use Rattle.lists.proofs.TestLaws.{both}
 use Rattle.lists.proofs.TurnLaws.{turns-none, turns-more}
 
+-- a value that i turns make is that of all n turns once i has come to n
+pub at-end : {A : Type 0} (f : ℕ → A) {x : A} {i n : ℕ} → x ≡ f i → i ≤ n → n ≤ i → x ≡ f n
+at-end f {i = i} {n} e a b = let same : i ≡ n = omega arith in e ∙ ap f same
+
 -- s is the state after i of n turns of f
 pub record Turning {S : Type 0} (f : ℕ → S → S) (n i : ℕ) (start s : S) : Type 0 where
   pub place : i ≤ n
@@ -21,7 +25,7 @@ module _ {S : Type 0} {f : ℕ → S → S} {n : ℕ} {start : S} where
   turning-more {i} p l e = record { place = omega arith; state = e ∙ ap (f i) (p .state) ∙ sym (turns-more f i start) }
 
   pub turning-done : {i : ℕ} {s : S} → Turning f n i start s → n ≤ i → s ≡ turns n f start
-  turning-done {i} p l = let same : i ≡ n = omega (arith, p .place) in p .state ∙ ap (λ (k : ℕ). turns k f start) same
+  turning-done p l = at-end (λ (k : ℕ). turns k f start) (p .state) (p .place) l
 
 -- every number passes
 pub all-pass : (n : ℕ) (f : ℕ → Bool) → turns n (λ i good. good && f i) true ≡ true → (i : ℕ) → i < n → f i ≡ true

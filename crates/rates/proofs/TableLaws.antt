@@ -1,17 +1,16 @@
 -- The table of rates: how it is filled, and what is read from it.
-use Prim.Native.Nat.{ℕ, _+_, _^_, _≤_, _<_}
+use Prim.Native.Nat.{ℕ, _≤_, _<_}
 use mathlib.Core.Path.{_≡_, sym, ap, _∙_, subst}
 use mathlib.Core.List.{List}
 use native.Mathlib.Omega.{arith}
-use lib.ListN.{length, getD, set, drop, replicate, length-replicate, List·getD-append}
+use lib.ListN.{length, getD, replicate}
 use lib.Dec.{T, le→leb}
 use lib.IntN.{pos}
 use lib.Ieee.{Float, nan, binary32, ofBits, mul, div, inFloat, inUnsigned, toUnsigned}
 use lib.Ieee.Back.{unsigned-back}
 use Rattle.floats.proofs.WholeLaws.{float-in}
-use Rattle.lists.specs.Loops.{tabulate}
-use Rattle.lists.proofs.TableLaws.{length-tabulate, getD-tabulate, filled, filled-more}
-use Rattle.lists.proofs.FillLaws.{Filling, filling-done}
+use Rattle.lists.proofs.TableLaws.{length-tabulate, getD-tabulate, filled-at}
+use Rattle.lists.proofs.FillLaws.{Filling, filling-done, stored}
 use Rattle.floats.specs.Stand.{maxOf}
 use Rattle.square_root.specs.Root.{rootOf}
 use Rattle.float_order.specs.Whole.{whole}
@@ -37,24 +36,15 @@ module _ {area : Float} (a : WholeArea area) where
 pub rate-is : (area n k : Float) {most r : Float} → most ≡ maxOf area (mul binary32 (ofBits binary32 0x38d1_b717) n) → r ≡ rootOf (div binary32 most n) → mul binary32 k r ≡ rateOf area n k
 rate-is area n k e f = ap (mul binary32 k) (f ∙ ap (λ (x : Float). rootOf (div binary32 x n)) e)
 
--- one rate more
-pub table-more : (n k : Float) (i : ℕ) (rates : List Float) {r : Float} → rates ≡ filled (λ j. rateOf (whole j) n k) i (replicate 1024 (ofBits binary32 0)) → i < 1024
-    → r ≡ rateOf (whole i) n k → set rates i r ≡ filled (λ j. rateOf (whole j) n k) (i + 1) (replicate 1024 (ofBits binary32 0))
-table-more n k i rates {r} e l f =
-    ap (set rates i) f ∙ ap (λ (t : List Float). set t i (rateOf (whole i) n k)) e
-    ∙ filled-more (λ j. rateOf (whole j) n k) i (replicate 1024 (ofBits binary32 0)) (omega (arith, length-replicate {A = Float} 1024 (ofBits binary32 0)))
-
--- all of them
-pub table-done : (n k : Float) (m i : ℕ) (rates : List Float) → rates ≡ filled (λ j. rateOf (whole j) n k) i (replicate 1024 (ofBits binary32 0)) → i ≤ m → m ≤ i → rates ≡ ratesOf m n k
-unfolding ratesOf
-table-done n k m i rates e a b = let same : i ≡ m = omega arith in e ∙ ap (λ (j : ℕ). filled (λ j. rateOf (whole j) n k) j (replicate 1024 (ofBits binary32 0))) same
-
 module _ (n k : Float) (m : ℕ) where
+  -- the table once it is filled
+  pub table-done : {i : ℕ} {rates : List Float} → Filling (λ j. rateOf (whole j) n k) i (replicate 1024 (ofBits binary32 0)) rates → i ≤ m → m ≤ i → rates ≡ ratesOf m n k
+  unfolding ratesOf
+  table-done p a b = stored p a b
+
   pub rates-at : (i : ℕ) → i < m → getD (ratesOf m n k) i nan ≡ rateOf (whole i) n k
   unfolding ratesOf
-  rates-at i l =
-      List·getD-append (tabulate m (λ j. rateOf (whole j) n k)) (drop m (replicate 1024 (ofBits binary32 0))) nan i (omega (arith, length-tabulate (λ j. rateOf (whole j) n k) m))
-      ∙ getD-tabulate (λ j. rateOf (whole j) n k) m i nan l
+  rates-at i l = filled-at (λ j. rateOf (whole j) n k) m (replicate 1024 (ofBits binary32 0)) i nan l
 
   -- the rate of an area whose number the table has
   pub rates-read : (rates : List Float) {area : Float} (a : WholeArea area) → rates ≡ ratesOf m n k → toUnsigned 32 area < m → getD rates (toUnsigned 32 area) nan ≡ rateOf area n k

@@ -6,14 +6,14 @@ use native.Mathlib.Omega.{arith}
 use lib.Ieee.{Float}
 use Rattle.grid.specs.Sides.{InRange}
 use Rattle.drainage.specs.Ground.{Ground}
+use Rattle.thermal_erosion.specs.declared.ThermalParams.{ThermalParams}
 use Rattle.runs.specs.Plan.{scaleOf, passesOf, fluvialPlan}
 use Rattle.runs.specs.Machine.{Course, steps}
-use Rattle.runs.specs.Run.{Choice, fluvialCourse, thermalCourse}
+use Rattle.runs.specs.Run.{Choice, fluvialCourse, slideCourse}
 use Rattle.runs.specs.Nested.{passesAfter, iterated, Bounded}
 use Rattle.runs.specs.declared.FluvialSettings.{FluvialSettings}
-use Rattle.runs.specs.declared.ThermalSettings.{ThermalSettings}
 use Rattle.runs.proofs.AskedLaws.{run-asked, opened-asked, steps-fluvial, steps-thermal}
-use Rattle.runs.proofs.PlanLaws.{Counted, thermal-passes, fluvial-passes}
+use Rattle.runs.proofs.PlanLaws.{Counted, fluvial-passes}
 
 module _ (w h : ℕ) (sides : InRange w h) where
   pub fluvial-bounded : (ground : List Float → Ground) (s : FluvialSettings) (stop : ℕ) (choose : Choice) → s .iterations ≤ 4096
@@ -33,19 +33,18 @@ module _ (w h : ℕ) (sides : InRange w h) where
         steps = steps-fluvial (fluvialCourse ground w h (fluvialPlan w h s) stop choose) its (p .few) (sides .high);
       }
 
-  pub thermal-bounded : (s : ThermalSettings) (stop : ℕ) → s .iterations ≤ 4096 → Bounded (thermalCourse w h s stop)
-  thermal-bounded s stop l =
-      let p : Counted 32768 (passesOf (s .iterations) (scaleOf w h)) = thermal-passes w h (sides .wide) (sides .high) (s .iterations) l in
+  pub slide-bounded : (params : ThermalParams) (passes stop : ℕ) → 0 < passes → passes ≤ 32768 → Bounded (slideCourse w h params passes stop)
+  slide-bounded params passes stop some few =
       record {
         columns = sides .columns;
         rows = sides .rows;
         wide = sides .wide;
         high = sides .high;
-        due = p .some;
+        due = some;
         some = omega arith;
-        iterations = p .few;
-        passes = omega (arith, p .few);
-        steps = steps-thermal (thermalCourse w h s stop) (p .few) (omega arith) (sides .high);
+        iterations = few;
+        passes = omega arith;
+        steps = steps-thermal (slideCourse w h params passes stop) few (omega arith) (sides .high);
       }
 
 -- the record before a pass leaves room for a question after each row, and so does the one before an opening

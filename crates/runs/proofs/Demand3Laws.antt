@@ -120,17 +120,13 @@ module _ (w h : ℕ) (s : FluvialSettings) (stop : ℕ) (map : List Float) (fit 
     abbrev end : Choice → List Float → State
     end choose hs = finished (courseOf w h s stop map choose) hs
 
+    -- both choices end in the same state from where the run begins
+    end-same : (hs : List Float) → beginsWith w h s stop map ≡ hs → allFinite hs ≡ true → end ours hs ≡ end (lent lists) hs
+    end-same hs at fin = subst (λ (hs : List Float). end ours hs ≡ end (lent lists) hs) at (states-same (ap allFinite at ∙ fin) (steps (courseOf w h s stop map ours)))
+
     ends-same : (o f : Bool) → own ≡ o → allFinite small ≡ f → ends o f (end ours map) (end ours small) ≡ ends o f (end (lent lists) map) (end (lent lists) small)
-    ends-same true f e g =
-        let at : beginsWith w h s stop map ≡ map = ap (λ (b : Bool). cond b map small) e in
-        let z : end ours map ≡ end (lent lists) map =
-        subst (λ (hs : List Float). end ours hs ≡ end (lent lists) hs) at (states-same (ap allFinite at ∙ ok .finite) (steps (courseOf w h s stop map ours))) in
-        ap (λ (t : State). ends true f t (end ours small)) z
-    ends-same false true e g =
-        let at : beginsWith w h s stop map ≡ small = ap (λ (b : Bool). cond b map small) e in
-        let z : end ours small ≡ end (lent lists) small =
-        subst (λ (hs : List Float). end ours hs ≡ end (lent lists) hs) at (states-same (ap allFinite at ∙ g) (steps (courseOf w h s stop map ours))) in
-        ap (λ (t : State). ends false true (end ours map) t) z
+    ends-same true f e g = ap (λ (t : State). ends true f t (end ours small)) (end-same map (ap (λ (b : Bool). cond b map small) e) (ok .finite))
+    ends-same false true e g = ap (λ (t : State). ends false true (end ours map) t) (end-same small (ap (λ (b : Bool). cond b map small) e) g)
     ends-same false false e g = refl
 
     runs-same : runBy w h s stop ours map ≡ runBy w h s stop (lent lists) map

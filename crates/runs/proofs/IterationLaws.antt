@@ -203,15 +203,20 @@ After c it n s = (n < c .passes → Underway c it n s) × (n ≡ c .passes → D
 abbrev pub Place : Course → ℕ → ℕ → State → Type 0
 Place c it n s = s .number ≡ 0 → After c it n s
 
+-- the opening of an iteration comes to its pass 0, and each pass to the next place
+pub place-opening : (c : Course) (it : ℕ) (s : State) → 0 < c .passes → (s .number ≡ 0 → Due c it s) → Place c it 0 (oneOpening c s)
+place-opening c it s some d on = (λ m. underway-opening c it s (d (opening-before c s on)) on, λ e. absurd (omega arith))
+
+pub place-pass : (c : Course) (it i : ℕ) (t : State) → i < c .passes → Place c it i t → Place c it (suc i) (onePass c t)
+place-pass c it i t l p on =
+    let u : Underway c it i t = p (pass-before c t on) .0 l in
+    (λ m. underway-pass c it t i u on m, λ e. due-pass c it t i u on e)
+
 module _ (c : Course) (some : 0 < c .passes) where
   module _ (it : ℕ) (s : State) (d : s .number ≡ 0 → Due c it s) where
     place-passes : (n : ℕ) → n ≤ c .passes → Place c it n (passesAfter c n s)
     place-passes n l =
-        turns-hold (λ i. onePass c) (Place c it) (oneOpening c s) n
-        (λ on. (λ m. underway-opening c it s (d (opening-before c s on)) on, λ e. let z : ⊥ = omega arith in absurd z))
-        (λ i t k p on.
-        let u : Underway c it i t = p (pass-before c t on) .0 (omega arith) in
-        (λ m. underway-pass c it t i u on m, λ e. due-pass c it t i u on e))
+        turns-hold (λ i. onePass c) (Place c it) (oneOpening c s) n (place-opening c it s some d) (λ i t k. place-pass c it i t (omega arith))
 
     -- after some passes of an iteration the run is at the next one
     pub underway-passes : (q : ℕ) → q < c .passes → passesAfter c q s .number ≡ 0 → Underway c it q (passesAfter c q s)

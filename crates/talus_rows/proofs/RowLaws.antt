@@ -6,6 +6,7 @@ use native.Mathlib.Omega.{arith}
 use lib.Ieee.{Float}
 use Rattle.lists.specs.Loops.{turns}
 use Rattle.lists.proofs.TurnLaws.{turns-same}
+use Rattle.lists.proofs.LoopLaws.{at-end}
 use Rattle.talus.specs.Talus.{slideCell, slideCells, slideRow}
 
 -- the whole row is the run of its w cells
@@ -31,7 +32,7 @@ module _ (w h : ℕ) (ts hs : List Float) (strength water : Float) (y : ℕ) (ou
 
   -- all of them
   pub cells-end : (x i n : ℕ) (s : List Float) → s ≡ slideCells w h ts hs strength water y x i out → i ≤ n → n ≤ i → s ≡ slideCells w h ts hs strength water y x n out
-  cells-end x i n s e a b = let same : i ≡ n = omega arith in e ∙ ap (λ (k : ℕ). slideCells w h ts hs strength water y x k out) same
+  cells-end x i n s e a b = at-end (λ (k : ℕ). slideCells w h ts hs strength water y x k out) e a b
 
   -- one block more
   pub cells-block : (x i b : ℕ) (s r : List Float)

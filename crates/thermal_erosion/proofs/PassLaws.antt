@@ -9,6 +9,7 @@ use lib.Ieee.{Float}
 use Rattle.lists.specs.Loops.{turns}
 use Rattle.lists.proofs.TestLaws.{either}
 use Rattle.lists.proofs.TurnLaws.{turns-none, turns-more, turns-stay, turns-keep}
+use Rattle.lists.proofs.LoopLaws.{at-end}
 use Rattle.float_order.specs.Fit.{Fit}
 use Rattle.generators.specs.Marks.{reportOf}
 use Rattle.generators.specs.declared.Progress.{Progress}
@@ -109,9 +110,7 @@ module _ {w h : ℕ} {ts : List Float} {strength water : Float} {hs : List Float
     rowed-stopped off = rows-stopped w h ts strength water hs from to stop m y (reached out marks) (a .state) h off (a .within)
 
     pub rowed-done : h ≤ y → reached out marks ≡ rowsOf w h ts strength water hs from to stop h m
-    rowed-done l =
-        let e : y ≡ h = omega (arith, a .within) in
-        a .state ∙ ap (λ (n : ℕ). rowsOf w h ts strength water hs from to stop n m) e
+    rowed-done l = at-end (λ (n : ℕ). rowsOf w h ts strength water hs from to stop n m) (a .state) (a .within) l
 
 -- the same pass by equal thresholds
 pub rows-with : (w h : ℕ) {ts us : List Float} → ts ≡ us → (strength water : Float) (hs : List Float) (from to : Float) (stop n : ℕ) (m : Progress)

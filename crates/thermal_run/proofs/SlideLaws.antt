@@ -12,11 +12,11 @@ use Rattle.talus.specs.Talus.{thresholdsOf}
 use Rattle.runs.specs.Machine.{Course}
 use Rattle.runs.specs.Run.{slideCourse}
 use Rattle.runs.specs.Nested.{iterated, nested, Bounded}
-use Rattle.runs.proofs.AskedLaws.{steps-thermal}
+use Rattle.runs.proofs.BoundLaws.{slide-bounded}
 use Rattle.erosion.specs.Reached.{Worked, seen, begun, afterPass, PassReady}
 use Rattle.erosion.specs.declared.Reached.{Reached}
 use Rattle.erosion.proofs.ReachedLaws.{worked, rowsBy}
-use Rattle.erosion.proofs.LoopLaws.{going-none, going-ended, Sliding, sliding-first, sliding-pass, sliding-done, sliding-ready}
+use Rattle.erosion.proofs.LoopLaws.{going-none, going-done, going-ended, Sliding, sliding-first, sliding-pass, sliding-done, sliding-ready}
 use Rattle.thermal_run.specs.ThermalRun.{Slides}
 
 -- before pass `it`, or once the run has ended
@@ -28,17 +28,7 @@ pub record Passing (c : Course) (hs : List Float) (copied it : ℕ) (map copy : 
 
 -- the counts of the run fit
 slides-bounded : {w h passes map copy : ℕ} (params : ThermalParams) (stop : ℕ) → Slides w h passes map copy → Bounded (slideCourse w h params passes stop)
-slides-bounded {w} {h} {passes} params stop s = record {
-  columns = s .sides .columns;
-  rows = s .sides .rows;
-  wide = s .sides .wide;
-  high = s .sides .high;
-  due = s .some;
-  some = omega arith;
-  iterations = s .few;
-  passes = omega (arith, s .few);
-  steps = steps-thermal (slideCourse w h params passes stop) (s .few) (omega arith) (s .sides .high);
-}
+slides-bounded {w} {h} {passes} params stop s = slide-bounded w h (s .sides) params passes stop (s .some) (s .few)
 
 module _ (w h : ℕ) (params : ThermalParams) (passes stop : ℕ) (hs : List Float) where
   abbrev course : Course
@@ -49,9 +39,7 @@ module _ (w h : ℕ) (params : ThermalParams) (passes stop : ℕ) (hs : List Flo
 
   module _ {copied it : ℕ} {map copy : List Float} {r : Reached} (p : Passing course hs copied it map copy r) where
     pub passing-done : passes ≤ it → worked map r ≡ seen (nested course hs)
-    passing-done l =
-        let e : it ≡ passes = omega (arith, p .most) in
-        p .held ∙ ap (λ (n : ℕ). seen (iterated course n hs)) e
+    passing-done l = going-done course hs (p .held) (p .most) l
 
     pub passing-ended : (r .number ≡ 0 → ⊥) → worked map r ≡ seen (nested course hs)
     passing-ended z = going-ended course hs it (p .held) (p .most) z

@@ -9,6 +9,7 @@ use lib.Ieee.{Float, binary32, ofBits}
 use native.Mathlib.Numerals.{add-one}
 use Rattle.lists.specs.Loops.{tabulate}
 use Rattle.lists.proofs.FillLaws.{Filling, filling-done}
+use Rattle.lists.proofs.LoopLaws.{at-end}
 use Rattle.drainage.specs.Ways.{areasAlong}
 use Rattle.ways.specs.Apart.{addedDown}
 
@@ -47,4 +48,4 @@ module _ {n : ℕ} {recv list : List ℕ} where
         }
 
     pub adding-done : k ≤ 0 → area ≡ areasAlong n recv list
-    adding-done h = let e : k ≡ 0 = omega arith in s .held ∙ ap (λ (j : ℕ). areasAlong n recv (drop j list)) e
+    adding-done h = at-end (λ (j : ℕ). areasAlong n recv (drop j list)) (s .held) h (omega arith)

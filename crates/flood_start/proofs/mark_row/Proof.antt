@@ -5,10 +5,11 @@ use Rattle.grid.specs.Sides.{cellOf}
 use Prim.Native.Nat.{_-_, _*_, _≤_, _<_}
 use native.Mathlib.Nat.{mul-le-mul-right, mul-comm}
 use native.Mathlib.Omega.{arith}
-use mathlib.Core.Path.{_≡_, refl, sym, ap, _∙_}
+use mathlib.Core.Path.{_≡_, refl, sym}
 use lib.ListN.{length, length-set}
 use Rattle.grid.proofs.SidesLaws.{cell-lt}
 use Rattle.lists.proofs.TurnLaws.{turns-none}
+use Rattle.lists.proofs.LoopLaws.{at-end}
 use Rattle.flood_start.proofs.mark_row.Statement.{statement}
 use Rattle.flood_start.proofs.mark_row.Tie as tie
 
@@ -59,8 +60,7 @@ same-length c = c .before .loop .inv .1
 returns : tie.Need-returns Inv-loop μ-loop
 returns c =
     let a = c .before .before .before .before .args in
-    let all : c .before .loop .x ≡ a .g .w = omega arith in
-    c .before .loop .inv .2 ∙ ap (λ x. rowBy (a .g .w) (markAt (a .g .w) (a .g .h) (a .h .now) (a .water)) (a .y) x (a .status .now)) all
+    at-end (λ x. rowBy (a .g .w) (markAt (a .g .w) (a .g .h) (a .h .now) (a .water)) (a .y) x (a .status .now)) (c .before .loop .inv .2) (omega arith) (c .loop-test .left)
 
 pub mark-row-spec : {M : Type 1} → statement M
 mark-row-spec =

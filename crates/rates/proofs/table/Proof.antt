@@ -1,25 +1,24 @@
 use Prim.Native.Nat.{_-_, _≤_}
-use mathlib.Core.Path.{_≡_}
 use native.Mathlib.Omega.{arith}
 use borrow.Author.Needs.{needs}
-use lib.ListN.{replicate}
-use lib.Ieee.{binary32, ofBits}
-use Rattle.lists.proofs.TableLaws.{filled, filled-none}
+use lib.ListN.{replicate, length-replicate}
+use lib.Ieee.{Float, binary32, ofBits}
+use Rattle.lists.proofs.FillLaws.{Filling, filling-none, filling-more}
 use Rattle.float_order.specs.Whole.{whole}
 use Rattle.rates.specs.Rate.{rateOf}
-use Rattle.rates.proofs.TableLaws.{place-float, table-more, table-done}
+use Rattle.rates.proofs.TableLaws.{place-float, table-done}
 use Rattle.rates.proofs.table.Statement.{statement}
 use Rattle.rates.proofs.table.Tie as tie
 
 abbrev Inv-loop : tie.InvT-loop
-Inv-loop m n-cells k rates₀ i₀ rates i = (rates ≡ filled (λ j. rateOf (whole j) n-cells k) i (replicate 1024 (ofBits binary32 0))) × (i ≤ m)
+Inv-loop m n-cells k rates₀ i₀ rates i = Filling (λ j. rateOf (whole j) n-cells k) i (replicate 1024 (ofBits binary32 0)) rates × (i ≤ m)
 
 abbrev μ-loop : tie.MeasureT-loop
 μ-loop m n-cells k rates₀ i₀ rates i = m - i
 
 -- src/lib.rt:31:5
 loop-holds : tie.Need-loop-holds Inv-loop μ-loop
-loop-holds c = (filled-none _ _, omega arith)
+loop-holds c = (filling-none, omega arith)
 
 -- src/lib.rt:32:25
 int-to-float-rate : tie.Need-int-to-float-rate Inv-loop μ-loop
@@ -47,11 +46,11 @@ loop-less c = omega (arith, c .before .before .loop-test .taken)
 
 -- src/lib.rt:31:5
 loop-again : tie.Need-loop-again Inv-loop μ-loop
-loop-again c = (table-more _ _ (c .before .before .before .loop .i) _ (c .before .before .before .loop .inv .0) (omega (arith, c .before .before .loop-test .taken, c .before .before .before .before .pre)) (c .rate .ensures), omega (arith, c .before .before .loop-test .taken))
+loop-again c = (filling-more (c .before .before .before .loop .inv .0) (c .rate .ensures) (omega (arith, length-replicate {A = Float} 1024 (ofBits binary32 0), c .before .before .loop-test .taken, c .before .before .before .before .pre)), omega (arith, c .before .before .loop-test .taken))
 
 -- src/lib.rt:25:1
 returns : tie.Need-returns Inv-loop μ-loop
-returns c = table-done _ _ _ (c .before .loop .i) _ (c .before .loop .inv .0) (c .before .loop .inv .1) (c .loop-test .left)
+returns c = table-done _ _ _ (c .before .loop .inv .0) (c .before .loop .inv .1) (c .loop-test .left)
 
 pub table-spec : {M : Type 1} → statement M
 table-spec =

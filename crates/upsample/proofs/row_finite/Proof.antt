@@ -6,6 +6,7 @@ use lib.ListN.{length, getD}
 use lib.Ieee.{Float, nan, binary32, add}
 use lib.Ieee.Scale.{finite}
 use Rattle.lists.specs.Loops.{tabulate}
+use Rattle.lists.proofs.LoopLaws.{at-end}
 use Rattle.grid.specs.Heights.{allFinite}
 use Rattle.upsample.specs.Samples.{summedRow}
 use Rattle.grid.proofs.HeightsLaws.{all-none, all-more}
@@ -61,8 +62,7 @@ returns : tie.Need-returns Inv-loop μ-loop
 unfolding summedRow
 returns c =
     let a = c .before .before .before .args in
-    let e : c .before .loop .x ≡ length (now (a .row)) = omega (arith, c .before .loop .inv .1, c .loop-test .left) in
-    c .before .loop .inv .0 ∙ ap (λ (n : ℕ). allFinite (tabulate n (sumAt (now (a .row)) (now (a .north)) (now (a .south)) (a .dy)))) e
+    at-end (λ (n : ℕ). allFinite (tabulate n (sumAt (now (a .row)) (now (a .north)) (now (a .south)) (a .dy)))) (c .before .loop .inv .0) (c .before .loop .inv .1) (c .loop-test .left)
 
 pub row-finite-spec : {M : Type 1} → statement M
 row-finite-spec =
