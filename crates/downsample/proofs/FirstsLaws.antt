@@ -1,6 +1,6 @@
 -- The first columns of all blocks read from their array, and the averages row by row.
 use Prim.Native.Nat.{ℕ, _+_, _-_, _*_, _^_, _≤_, _<_}
-use mathlib.Core.Path.{_≡_, sym, ap, ap₂, _∙_}
+use mathlib.Core.Path.{_≡_, sym, ap₂, _∙_}
 use mathlib.Core.List.{List}
 use native.Mathlib.Nat.{mul-comm, mul-le-mul, mul-le-mul-right}
 use native.Mathlib.Omega.{arith}
@@ -9,7 +9,7 @@ use lib.Arith.{digits-div, digits-mod}
 use lib.Ieee.{Float, binary32, div}
 use borrow.Rule.Slice.PartMut.{putMid}
 use Rattle.float_order.specs.Whole.{whole}
-use Rattle.lists.proofs.TableLaws.{tabulate-same, filled-at}
+use Rattle.lists.proofs.TableLaws.{tabulate-same, filled-read}
 use Rattle.lists.proofs.FillLaws.{Filling, stored}
 use Rattle.resample.specs.WorkSize.{Within}
 use Rattle.resample.specs.Places.{Block}
@@ -26,7 +26,7 @@ module _ (side reduced : ℕ) where
 
   pub first-read : {fs : List ℕ} (b : ℕ) → b ≤ reduced → fs ≡ firstsOf side reduced → getD fs b 0 ≡ firstOf side reduced b
   unfolding firstsOf
-  first-read b l e = ap (λ (t : List ℕ). getD t b 0) e ∙ filled-at (firstOf side reduced) (reduced + 1) (replicate 4097 0) b 0 (omega arith)
+  first-read b l e = filled-read (firstOf side reduced) (reduced + 1) (replicate 4097 0) e b 0 (omega arith)
 
 -- the blocks of the columns and of the rows, and row y of the averages, which lies within them
 module _ {w h dw dh : ℕ} (g : Within w h dw dh) where

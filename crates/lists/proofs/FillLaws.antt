@@ -6,7 +6,7 @@ use native.Mathlib.Omega.{arith}
 use lib.ListN.{length, getD, set}
 use Rattle.lists.specs.Loops.{tabulate}
 use Rattle.lists.proofs.LoopLaws.{at-end}
-use Rattle.lists.proofs.TableLaws.{filled, filled-none, filled-length, filled-more, filled-done, filled-at, filled-ahead, tabulate-getD}
+use Rattle.lists.proofs.TableLaws.{filled, filled-none, filled-length, filled-more, filled-done, filled-ahead, tabulate-getD}
 
 -- the list `old` after i stores is `new`
 pub record Filling {A : Type 0} (f : ℕ → A) (i : ℕ) (old new : List A) : Type 0 where
@@ -29,9 +29,6 @@ module _ {A : Type 0} {f : ℕ → A} {i : ℕ} {old new : List A} (p : Filling 
   -- the next place still holds what it held
   pub filling-next : (d : A) → getD new i d ≡ getD old i d
   filling-next d = ap (λ (l : List A). getD l i d) (p .held) ∙ filled-ahead f i i old d (omega arith)
-
-  pub filling-at : (k : ℕ) (d : A) → k < i → getD new k d ≡ f k
-  filling-at k d l = ap (λ (t : List A). getD t k d) (p .held) ∙ filled-at f i old k d l
 
   -- a loop that has stored n values
   pub stored : {n : ℕ} → i ≤ n → n ≤ i → new ≡ filled f n old

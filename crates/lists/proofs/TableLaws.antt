@@ -56,6 +56,9 @@ module _ {A : Type 0} (f : ℕ → A) where
   filled-at n old i d l =
       List·getD-append (tabulate n f) (drop n old) d i (subst (λ (k : ℕ). i < k) (sym (length-tabulate n)) l) ∙ getD-tabulate n i d l
 
+  pub filled-read : (n : ℕ) (old : List A) {new : List A} → new ≡ filled n old → (i : ℕ) (d : A) → i < n → getD new i d ≡ f i
+  filled-read n old e i d l = ap (λ (t : List A). getD t i d) e ∙ filled-at n old i d l
+
   -- what the loop has not reached yet is as it was
   pub filled-ahead : (i j : ℕ) (old : List A) (d : A) → i ≤ j → getD (filled i old) j d ≡ getD old j d
   filled-ahead i j old d h =

@@ -9,7 +9,7 @@ use lib.Dec.{eqb}
 use lib.ListN.{length, getD, set, drop}
 use lib.Ieee.{Float, nan}
 use Rattle.lists.specs.Loops.{tabulate}
-use Rattle.lists.proofs.TableLaws.{filled-length, filled-at}
+use Rattle.lists.proofs.TableLaws.{filled-length, filled-read}
 use Rattle.lists.proofs.FillLaws.{Filling, filling-next}
 use Rattle.grid.specs.Directions.{Adjacent}
 use Rattle.inner_cells.specs.Inner.{InnerRun}
@@ -37,10 +37,10 @@ module _ (w h : ℕ) (spill : List Float) (recv : List ℕ) (c n : ℕ) {cells c
       Begun w spill recv c n cells slopes cells′ slopes′ → cells″ ≡ tabulate n (steepestAt w h spill c cells′ slopes′) ++ drop n cells′ → (i : ℕ) → i < n
       → getD cells″ i 0 ≡ steepestFrom w h spill (c + i) (finderAs w spill (c + i) (getD recv (c + i) 0)) .cell
   block-offset b e i l =
-      ap (λ (t : List ℕ). getD t i 0) e ∙ filled-at (steepestAt w h spill c cells′ slopes′) n cells′ i 0 l
+      filled-read (steepestAt w h spill c cells′ slopes′) n cells′ e i 0 l
       ∙ ap₂ (λ (k : ℕ) (s : Float). steepestFrom w h spill (c + i) (record { cell = k; slope = s }) .cell)
-      (ap (λ (t : List ℕ). getD t i 0) (b .offsets) ∙ filled-at (λ i. finderAs w spill (c + i) (getD recv (c + i) 0) .cell) n cells i 0 l)
-      (ap (λ (t : List Float). getD t i nan) (b .downs) ∙ filled-at (λ i. finderAs w spill (c + i) (getD recv (c + i) 0) .slope) n slopes i nan l)
+      (filled-read (λ i. finderAs w spill (c + i) (getD recv (c + i) 0) .cell) n cells (b .offsets) i 0 l)
+      (filled-read (λ i. finderAs w spill (c + i) (getD recv (c + i) 0) .slope) n slopes (b .downs) i nan l)
 
 -- the receiver of cell c + i, whose offset o the block has found
 module _

@@ -1,12 +1,12 @@
 -- The arrays of columns, of ways and of mixes: what they hold once they are put there, and what is read from them.
 use Prim.Native.Nat.{ℕ, _≤_, _<_}
-use mathlib.Core.Path.{_≡_, sym, ap, ap₂, _∙_, subst}
+use mathlib.Core.Path.{_≡_, ap, ap₂, _∙_}
 use mathlib.Core.List.{List}
 use native.Mathlib.Omega.{arith}
 use lib.ListN.{length, getD}
 use lib.Ieee.{Float, nan}
 use Rattle.floats.specs.Stand.{fractOf, indexOf}
-use Rattle.lists.proofs.TableLaws.{filled-length, filled-at, filled-already}
+use Rattle.lists.proofs.TableLaws.{filled-length, filled-read, filled-already}
 use Rattle.grid.specs.Directions.{Place}
 use Rattle.bilinear.specs.Places.{Grid}
 use Rattle.bilinear.specs.Samples.{asSource, acrossOf}
@@ -32,8 +32,8 @@ module _ (w dw : ℕ) where
   -- the arrays that both were put into hold them
   pub columns-put : {cs cs′ : List ℕ} {ds ds′ : List Float} → ColumnsPut w dw cs ds cs′ ds′ → Columns w dw cs′ ds′
   columns-put {cs} {ds = ds} p = record {
-    column = λ x l. ap (λ (t : List ℕ). getD t x 0) (p .columns) ∙ filled-at (columnOf w dw) w cs x 0 l;
-    way = λ x l. ap (λ (t : List Float). getD t x nan) (p .ways) ∙ filled-at (wayOf w dw) w ds x nan l;
+    column = λ x l. filled-read (columnOf w dw) w cs (p .columns) x 0 l;
+    way = λ x l. filled-read (wayOf w dw) w ds (p .ways) x nan l;
   }
 
   module _ (x : ℕ) (l : x < w) {cs : List ℕ} {ds : List Float} (e : Columns w dw cs ds) where
@@ -48,7 +48,7 @@ module _ (w dw : ℕ) where
 module _ (delta : List Float) (dw dh w y south : ℕ) (row : List Float) (l : w ≤ 4096) where
   mix-put : {row′ : List Float} → row′ ≡ mixPut delta dw dh w y south row → length row ≡ 4096 → Mix delta dw dh w y south row′
   mix-put e m = record {
-    at = λ x h. ap (λ (t : List Float). getD t x nan) e ∙ filled-at (mixAt delta dw dh w y south) w row x nan h;
+    at = λ x h. filled-read (mixAt delta dw dh w y south) w row e x nan h;
     long = ap length e ∙ filled-length (mixAt delta dw dh w y south) w row (omega arith) ∙ m;
   }
 

@@ -9,16 +9,18 @@ use native.Mathlib.Decide.{ℕ-discrete}
 use lib.ListN.{getD, set}
 use lib.Ieee.{Float, nan, binary32, ofBits, sub, lt, le}
 use Rattle.lists.proofs.TurnLaws.{turns-keep}
-use Rattle.lists.proofs.FillLaws.{Filling, filling-at}
+use Rattle.lists.proofs.TableLaws.{filled-read}
 use Rattle.talus.specs.Talus.{shedOf, gainsOf, slideCell, slideCells}
 use Rattle.talus.proofs.CellLaws.{slide-under, slide-still, slide-moved}
-use Rattle.talus_blocks.specs.Blocks.{shedTotal, movedFrom, Sheds, shedders}
+use Rattle.talus_blocks.specs.Blocks.{shedTotal, movedFrom, Sheds, ShedsPut, shedders}
 
--- what the loop over n cells has stored
-pub sheds-done : (w h : ℕ) (ts hs : List Float) (strength water : Float) (y x n i : ℕ) {totals totals′ moved moved′ : List Float}
-    → Filling (λ j. shedTotal w h ts hs water (x + j + y * w)) i totals totals′ → Filling (λ j. movedFrom w h ts hs strength (x + j + y * w)) i moved moved′ → n ≤ i
-    → Sheds w h ts hs strength water y x n totals′ moved′
-sheds-done w h ts hs strength water y x n i p q l = record { total = λ j k. filling-at p j nan (omega arith); loss = λ j k. filling-at q j nan (omega arith) }
+-- the arrays that totals and losses were put into hold them
+pub sheds-put : {w h : ℕ} {ts hs : List Float} {strength water : Float} {y x n : ℕ} {totals moved totals′ moved′ : List Float}
+    → ShedsPut w h ts hs strength water y x n totals moved totals′ moved′ → Sheds w h ts hs strength water y x n totals′ moved′
+sheds-put {w} {h} {ts} {hs} {strength} {water} {y} {x} {n} {totals} {moved} p = record {
+  total = λ i l. filled-read (λ i. shedTotal w h ts hs water (x + i + y * w)) n totals (p .total) i nan l;
+  loss = λ i l. filled-read (λ i. movedFrom w h ts hs strength (x + i + y * w)) n moved (p .loss) i nan l;
+}
 
 zero-still : le (ofBits binary32 0) (ofBits binary32 0) ≡ true
 unfolding le ofBits

@@ -13,7 +13,7 @@ ghost use lib.Ieee.{binary32, ofBits, lt, le};
 ghost use Rattle.talus.specs.Talus.{shedOf, gainsOf, slideCell, slideCells};
 ghost use Rattle.inner_cells.specs.Inner.{Inner, offsetsOf};
 ghost use Rattle.talus_directions.specs.Parts.{InnerRow};
-ghost use Rattle.talus_blocks.specs.Blocks.{shedTotal, movedFrom, Sheds, shedders};
+ghost use Rattle.talus_blocks.specs.Blocks.{shedTotal, movedFrom, Sheds, ShedsPut, shedders};
 
 // A block of which fewer cells shed is slid cell by cell, which then takes less time than all directions.
 const FEW: u32 = 12;
@@ -118,7 +118,7 @@ fn shed_block(
     requires { ⌜ n ≤ 64 ⌝ }
     requires { ⌜ length (now totals) ≡ 64 ⌝ }
     requires { ⌜ length (now moved) ≡ 64 ⌝ }
-    ensures { λ _. ⌜ Sheds (size .w) (size .h) (now (ts .entry)) (now (hmap .entry)) strength water y x n (now (totals .exit)) (now (moved .exit)) ⌝ }
+    ensures { λ _. ⌜ ShedsPut (size .w) (size .h) (now (ts .entry)) (now (hmap .entry)) strength water y x n (now (totals .entry)) (now (moved .entry)) (now (totals .exit)) (now (moved .exit)) ⌝ }
 {
     let w = size.w;
     let mut i: usize = 0;

@@ -5,12 +5,11 @@ use native.Mathlib.Omega.{arith}
 use borrow.Author.Needs.{needs}
 use lib.ListN.{length, getD}
 use lib.Ieee.{nan, binary32, ofBits, mul, lt}
-use Rattle.lists.proofs.FillLaws.{Filling, filling-none, filling-more}
+use Rattle.lists.proofs.FillLaws.{Filling, filling-none, filling-more, stored}
 use Rattle.talus.specs.declared.Shed.{Shed}
 use Rattle.talus.proofs.RowLaws.{row-cell-below}
 use Rattle.talus_directions.proofs.PassLaws.{inner-column}
 use Rattle.talus_blocks.specs.Blocks.{shedTotal, movedFrom}
-use Rattle.talus_blocks.proofs.BlockLaws.{sheds-done}
 use Rattle.talus_blocks.proofs.shed_block.Statement.{statement}
 use Rattle.talus_blocks.proofs.shed_block.Tie as tie
 
@@ -73,7 +72,7 @@ loop-again : tie.Need-loop-again Inv-loop μ-loop
 loop-again c = (omega (arith, c .before .before .before .before .loop-test .taken), (filling-more (c .before .before .before .before .before .loop .inv .1 .0) (c .before .dry-total .ensures ∙ ap (λ (s : Shed). cond (lt (getD (c .before .before .before .before .before .before .before .args .hmap .now) (c .before .before .before .before .before .before .before .args .x + c .before .before .before .before .before .loop .i + c .before .before .before .before .before .before .before .args .y * c .before .before .before .before .before .before .before .args .size .w) nan) (c .before .before .before .before .before .before .before .args .water)) (ofBits binary32 0) (s .total)) (c .before .before .before .shed-inside .ensures)) (omega (arith, few (c .before .before .before .before), c .before .before .before .before .before .before .before .pre .1 .1 .1 .0)), filling-more (c .before .before .before .before .before .loop .inv .1 .1) (ap (λ (s : Shed). mul binary32 (c .before .before .before .before .before .before .before .args .strength) (s .greatest)) (c .before .before .before .shed-inside .ensures)) (omega (arith, few (c .before .before .before .before), c .before .before .before .before .before .before .before .pre .1 .1 .1 .1))))
 
 returns : tie.Need-returns Inv-loop μ-loop
-returns c = sheds-done _ _ _ _ _ _ _ _ _ (c .before .loop .i) (c .before .loop .inv .1 .0) (c .before .loop .inv .1 .1) (c .loop-test .left)
+returns c = let i = c .before .loop .inv in record { total = stored (i .1 .0) (i .0) (c .loop-test .left); loss = stored (i .1 .1) (i .0) (c .loop-test .left) }
 
 pub shed-block-spec : {M : Type 1} → statement M
 shed-block-spec =
