@@ -1,16 +1,16 @@
 //! The third part of the list: incision along lent receivers and lists.
-use crate::list::{self, call::INCISE, result, word, List, Slices};
+use crate::list::{self, call::INCISE, result, word, List, Numbers, Rest, ROOM};
 use crate::random::Random;
 use crate::rules::passes::incise as ask_incise;
 use crate::rules::Sides;
 use crate::source::erosion::{self, Incision};
 use crate::terrain::fault::{HEIGHT, LENGTH, LIST, RECEIVER, SETTING, SIDE};
 use crate::terrain::{
-    bad_length, bad_sides, faults, grid, not_finite, outside, relief, spoilt, water, words, EXTREME, FILL, KINDS,
-    RELIEFS, TINY,
+    bad_length, bad_sides, faults, grid, not_finite, outside, relief, spoilt, water, EXTREME, FILL, KINDS, RELIEFS,
+    TINY,
 };
 
-/// A task: sides, heights, settings, network and the lengths of the other slices.
+/// A task: sides, heights, settings, network and the length of the result.
 struct Task {
     size: Sides,
     h: Vec<f32>,
@@ -18,18 +18,18 @@ struct Task {
     recv: Vec<u32>,
     list: Vec<u32>,
     out: usize,
-    area: usize,
 }
 
 fn incise(l: &mut List, t: &Task) {
-    let mut out = vec![FILL; t.out];
-    let floats = Slices::of([&t.h, &out, &vec![FILL; t.area]]);
-    let lent = Slices { cells: [t.recv.clone(), t.list.clone()], ..floats };
-    let a = ask_incise(t.size, &t.h, &t.s, &t.recv, &t.list, &mut out, t.area);
+    let written = vec![FILL; t.out];
+    let mut out = written.clone();
+    let a = ask_incise(t.size, &t.h, &t.s, &t.recv, &t.list, &mut out, ROOM);
     l.ended("incise", &a);
+    let numbers = Numbers { size: t.size, ..Numbers::default() };
     let settings = [t.s.k, t.s.uplift, t.s.water_level];
-    let task = list::Task { lent, ..list::Task::of(INCISE, &words(t.size), &settings) };
-    l.plain(&task, word(&a, |_| 0), &Slices::of([&[], result(&a, &out)]));
+    let rest = Rest { cells: vec![t.recv.clone(), t.list.clone()], ..Rest::default() };
+    let task = list::Task { read: t.h.clone(), written, rest, ..list::Task::of(INCISE, numbers, &settings) };
+    l.task(&task, &Rest::default(), word(&a, |_| 0), result(&a, &out));
 }
 
 /// The neighbours of a cell.
@@ -103,7 +103,7 @@ fn task(r: &mut Random, size: Sides, kind: usize) -> Task {
     let s = settings(r, water_level);
     let (recv, list) = network(r, size, &h, water_level);
     let n = h.len();
-    Task { size, h, s, recv, list, out: n, area: n + r.below(3) }
+    Task { size, h, s, recv, list, out: n }
 }
 
 pub fn incisions(l: &mut List, r: &mut Random) {
@@ -120,7 +120,7 @@ pub fn incisions(l: &mut List, r: &mut Random) {
         let recv = erosion::route(size, &h, -0.5).recv;
         let list = another_list(r, &recv);
         let n = h.len();
-        incise(l, &Task { size, h, s: Incision { k, uplift: 0.001, water_level: -0.5 }, recv, list, out: n, area: n });
+        incise(l, &Task { size, h, s: Incision { k, uplift: 0.001, water_level: -0.5 }, recv, list, out: n });
     }
     refusals(l, r);
     damaged(l, r);
@@ -135,7 +135,6 @@ fn plates(l: &mut List) {
         recv: vec![0],
         list: vec![0],
         out: 1,
-        area: 1,
     };
     let above = f32::from_bits(64f32.to_bits() + 1);
     let over = f32::from_bits(0x3f80_0001);
@@ -188,12 +187,11 @@ fn refusals(l: &mut List, r: &mut Random) {
         }
         if f & LENGTH != 0 {
             let n = t.h.len();
-            match r.below(5) {
+            match r.below(4) {
                 0 => t.h.resize(bad_length(r, n), 0.0),
                 1 => t.recv.resize(bad_length(r, n), 0),
                 2 => t.list.resize(bad_length(r, n), 0),
-                3 => t.out = bad_length(r, n),
-                _ => t.area = n - 1,
+                _ => t.out = bad_length(r, n),
             }
         }
         if f & SIDE != 0 {

@@ -9,7 +9,6 @@ use crate::counts::{by_call, Counts};
 use crate::random::Random;
 use crate::rules::{Answer, Sides};
 use crate::source::Record;
-use crate::terrain::{words, FILL};
 
 const NAN_BITS: u32 = 0x7fc0_0000;
 
@@ -32,61 +31,61 @@ pub mod call {
     pub const RELIEF: u32 = 15;
 }
 
-/// How many numbers and floats a task has for its call.
-const NUMBERS: usize = 14;
+/// How many floats a task has.
 const FLOATS: usize = 5;
+
+/// The length of the program's scratch, and what it holds before a call: a number, the float of these bits, or a state of their low byte.
+pub const ROOM: usize = 10_500;
+const HELD: u32 = 0xc29b_0007;
 
 /// The crate of the program.
 const PROGRAM: &str = "replay";
 
-/// The five slices of a task, or what is written of them behind its answer.
+/// The numbers of a task, 0 where its call takes none.
+#[derive(Clone, Copy, Default)]
+pub struct Numbers {
+    pub size: Sides,
+    pub reduced: Sides,
+    pub stop: u32,
+    pub iterations: u32,
+    pub work_res: u32,
+}
+
+/// What stands behind the maps of a task and before the word of its answer: a record of stop marks, or slices of a network.
 #[derive(Default)]
-pub struct Slices {
-    pub floats: [Vec<f32>; 3],
-    pub cells: [Vec<u32>; 2],
+pub struct Rest {
+    pub record: Option<Record>,
+    pub floats: Vec<Vec<f32>>,
+    pub cells: Vec<Vec<u32>>,
 }
 
-impl Slices {
-    /// The first slices of floats alone.
-    pub fn of<const N: usize>(floats: [&[f32]; N]) -> Slices {
-        let mut s = Slices::default();
-        for (to, v) in s.floats.iter_mut().zip(floats) {
-            *to = v.to_vec();
-        }
-        s
-    }
-
-    fn lengths(&self) -> Vec<u32> {
-        let cells = self.cells.iter().map(Vec::len);
-        self.floats.iter().map(Vec::len).chain(cells).map(|n| n as u32).collect()
+impl From<Record> for Rest {
+    fn from(record: Record) -> Rest {
+        Rest { record: Some(record), ..Rest::default() }
     }
 }
 
-/// A task but for a stream: numbers and floats that are left out are 0.
+/// A task but for a stream: floats that are left out are 0, maps empty.
+#[derive(Default)]
 pub struct Task {
     pub call: u32,
-    pub numbers: Vec<u32>,
+    pub numbers: Numbers,
     pub floats: Vec<f32>,
-    pub record: Record,
-    pub lent: Slices,
+    /// the map that the call reads, and the one that it writes
+    pub read: Vec<f32>,
+    pub written: Vec<f32>,
+    pub rest: Rest,
 }
 
 impl Task {
-    /// A task that takes no record and no slice.
-    pub fn of(call: u32, numbers: &[u32], floats: &[f32]) -> Task {
-        let record = Record { last: 0.0, asked: 0, stopped: false };
-        Task { call, numbers: numbers.to_vec(), floats: floats.to_vec(), record, lent: Slices::default() }
+    /// A task without slices.
+    pub fn of(call: u32, numbers: Numbers, floats: &[f32]) -> Task {
+        Task { call, numbers, floats: floats.to_vec(), ..Task::default() }
     }
 }
 
-/// The numbers of a call with scratch: its sides and three more, from place 5 on the lengths of scratch, and at 13 what scratch of whole numbers holds.
-pub fn scratch_numbers(size: Sides, more: [u32; 3], lengths: &[usize]) -> Vec<u32> {
-    let mut numbers = words(size).to_vec();
-    numbers.extend(more);
-    numbers.extend(lengths.iter().map(|n| *n as u32));
-    numbers.resize(NUMBERS - 1, 0);
-    numbers.push(FILL.to_bits());
-    numbers
+fn words(v: &[f32]) -> Vec<u32> {
+    v.iter().map(|x| x.to_bits()).collect()
 }
 
 /// The bits that the library gives of a float.
@@ -106,13 +105,10 @@ pub fn word<T>(a: &Answer<T>, result: impl FnOnce(&T) -> u32) -> u64 {
     }
 }
 
-/// The result slice of a direct pass, which counts as scratch on 21 and 22 and is not written then.
-pub fn result<'a>(a: &Answer<()>, out: &'a [f32]) -> &'a [f32] {
-    if matches!(a, Err(r) if r.number >= 21) {
-        &[]
-    } else {
-        out
-    }
+/// The result slice of a direct pass, which counts as scratch on 21 and 22 and is not told then.
+pub fn result<'a>(a: &Answer<()>, out: &'a [f32]) -> Option<&'a [f32]> {
+    let scratch = matches!(a, Err(r) if r.number >= 21);
+    (!scratch).then_some(out)
 }
 
 pub struct List {
@@ -134,29 +130,28 @@ pub fn of(seed: u64, parts: &[fn(&mut List, &mut Random)]) -> List {
 }
 
 impl List {
-    /// A task with its answer: the word, the record after the call, and the values of the slices that are written behind them.
-    pub fn task(&mut self, t: &Task, word: u64, after: Record, shown: &Slices) {
-        let mut numbers = t.numbers.clone();
-        numbers.resize(NUMBERS, 0);
+    /// A task with its answer: the rest after the call, the word, and the map that was written, if that is told.
+    pub fn task(&mut self, t: &Task, after: &Rest, word: u64, written: Option<&[f32]>) {
+        let n = &t.numbers;
+        let shown = if written.is_some() { u32::MAX } else { 0 };
+        let sides = [n.size.0, n.size.1, n.reduced.0, n.reduced.1].map(|side| side as u32);
         let mut floats = t.floats.clone();
         floats.resize(FLOATS, 0.0);
-        self.ask(&[t.call]);
-        self.ask(&numbers);
-        self.ask(&[t.record.asked, t.record.stopped as u32]);
-        self.ask(&t.lent.lengths());
-        self.ask(&shown.lengths());
-        self.ask_floats(&floats);
-        self.ask_floats(&[t.record.last]);
-        t.lent.floats.iter().for_each(|v| self.ask_floats(v));
-        t.lent.cells.iter().for_each(|v| self.ask(v));
-        self.give(&[word as u32, (word >> 32) as u32, bits(after.last), after.asked, after.stopped as u32]);
-        shown.floats.iter().for_each(|v| self.give(&v.iter().map(|x| bits(*x)).collect::<Vec<u32>>()));
-        shown.cells.iter().for_each(|v| self.give(v));
+        self.ask(&[t.call, HELD, shown]);
+        self.ask(&sides);
+        self.ask(&[n.stop, n.iterations, n.work_res]);
+        self.ask(&words(&floats));
+        self.ask_slice(&words(&t.read));
+        self.ask_slice(&words(&t.written));
+        self.ask_rest(&t.rest);
+        self.give_rest(after);
+        self.give(&[word as u32, (word >> 32) as u32]);
+        self.give_floats(written.unwrap_or(&[]));
     }
 
-    /// A task whose call takes no record.
-    pub fn plain(&mut self, t: &Task, word: u64, shown: &Slices) {
-        self.task(t, word, t.record, shown);
+    /// A task with nothing behind its maps.
+    pub fn plain(&mut self, t: &Task, word: u64, written: &[f32]) {
+        self.task(t, &Rest::default(), word, Some(written));
     }
 
     fn ask(&mut self, words: &[u32]) {
@@ -165,17 +160,37 @@ impl List {
         }
     }
 
-    fn ask_floats(&mut self, v: &[f32]) {
-        for x in v {
-            self.ask(&[x.to_bits()]);
-        }
+    /// A slice behind its length.
+    fn ask_slice(&mut self, words: &[u32]) {
+        self.ask(&[words.len() as u32]);
+        self.ask(words);
     }
 
-    /// A task that is a stream, with the bytes that `relief` prints: each behind their length.
+    fn ask_rest(&mut self, r: &Rest) {
+        if let Some(m) = r.record {
+            self.ask(&[m.last.to_bits(), m.asked, m.stopped as u32]);
+        }
+        r.floats.iter().for_each(|v| self.ask_slice(&words(v)));
+        r.cells.iter().for_each(|v| self.ask_slice(v));
+    }
+
+    /// In the order in which the program writes it, cells before floats.
+    fn give_rest(&mut self, r: &Rest) {
+        if let Some(m) = r.record {
+            self.give(&[bits(m.last), m.asked, m.stopped as u32]);
+        }
+        r.cells.iter().for_each(|v| self.give(v));
+        r.floats.iter().for_each(|v| self.give_floats(v));
+    }
+
+    fn give_floats(&mut self, v: &[f32]) {
+        self.give(&v.iter().map(|x| bits(*x)).collect::<Vec<u32>>());
+    }
+
+    /// A task that is a stream, behind its length, with the bytes that `relief` prints.
     pub fn stream(&mut self, call: u32, bytes: &[u8], printed: &[u8]) {
         self.ask(&[call, bytes.len() as u32]);
         self.asked.extend_from_slice(bytes);
-        self.give(&[printed.len() as u32]);
         self.given.extend_from_slice(printed);
     }
 

@@ -1,9 +1,9 @@
 //! The first part of the list: extent and normalisation of a map, block average, bilinear sample and sum.
-use crate::list::{bits, call, word, List, Slices, Task};
+use crate::list::{bits, call, word, List, Numbers, Task};
 use crate::random::Random;
 use crate::rules::{self, Sides};
 use crate::terrain::fault::{COORDINATE, HEIGHT, LENGTH, OTHER_LENGTH, REDUCED, SIDE};
-use crate::terrain::{bad_sides, faults, grid, map, some_spoilt, spoilt, words, FILL, KINDS, TINY};
+use crate::terrain::{bad_sides, faults, grid, map, some_spoilt, spoilt, FILL, KINDS, TINY};
 
 pub fn list(l: &mut List, r: &mut Random) {
     extents(l, r);
@@ -15,18 +15,17 @@ pub fn list(l: &mut List, r: &mut Random) {
 fn get_min_max(l: &mut List, v: &[f32]) {
     let a = rules::get_min_max(v);
     l.ended("get_min_max", &a);
-    let lent = Slices::of([v]);
-    let least = Task { lent, ..Task::of(call::LEAST, &[], &[]) };
-    l.plain(&least, word(&a, |x| bits(x.0)), &Slices::default());
-    l.plain(&Task { call: call::GREATEST, ..least }, word(&a, |x| bits(x.1)), &Slices::default());
+    let least = Task { call: call::LEAST, read: v.to_vec(), ..Task::default() };
+    l.plain(&least, word(&a, |x| bits(x.0)), &[]);
+    l.plain(&Task { call: call::GREATEST, ..least }, word(&a, |x| bits(x.1)), &[]);
 }
 
 fn normalize(l: &mut List, v: &[f32], lo: f32, hi: f32) {
     let mut out = v.to_vec();
     let a = rules::normalize(&mut out, lo, hi);
     l.ended("normalize", &a);
-    let t = Task { lent: Slices::of([v]), ..Task::of(call::NORMALIZE, &[], &[lo, hi]) };
-    l.plain(&t, word(&a, |_| 0), &Slices::of([&out]));
+    let t = Task { written: v.to_vec(), ..Task::of(call::NORMALIZE, Numbers::default(), &[lo, hi]) };
+    l.plain(&t, word(&a, |_| 0), &out);
 }
 
 fn extents(l: &mut List, r: &mut Random) {
@@ -76,28 +75,30 @@ fn reduced(r: &mut Random, size: Sides) -> Sides {
 }
 
 fn downsample(l: &mut List, src: &[f32], size: Sides, len: usize, small: Sides) {
-    let mut dst = vec![FILL; len];
-    let lent = Slices::of([src, &dst]);
+    let written = vec![FILL; len];
+    let mut dst = written.clone();
     let a = rules::downsample(src, size, &mut dst, small);
     l.ended("downsample", &a);
-    let t = Task { lent, ..Task::of(call::DOWNSAMPLE, &[words(size), words(small)].concat(), &[]) };
-    l.plain(&t, word(&a, |_| 0), &Slices::of([&[], &dst]));
+    let numbers = Numbers { size, reduced: small, ..Numbers::default() };
+    let t = Task { read: src.to_vec(), written, ..Task::of(call::DOWNSAMPLE, numbers, &[]) };
+    l.plain(&t, word(&a, |_| 0), &dst);
 }
 
 fn add_upsampled(l: &mut List, map: &[f32], size: Sides, delta: &[f32], small: Sides) {
     let mut out = map.to_vec();
     let a = rules::add_upsampled(&mut out, size, delta, small);
     l.ended("add_upsampled", &a);
-    let lent = Slices::of([map, delta]);
-    let t = Task { lent, ..Task::of(call::ADD_UPSAMPLED, &[words(size), words(small)].concat(), &[]) };
-    l.plain(&t, word(&a, |_| 0), &Slices::of([&out]));
+    let numbers = Numbers { size, reduced: small, ..Numbers::default() };
+    let t = Task { read: delta.to_vec(), written: map.to_vec(), ..Task::of(call::ADD_UPSAMPLED, numbers, &[]) };
+    l.plain(&t, word(&a, |_| 0), &out);
 }
 
 fn bilinear(l: &mut List, v: &[f32], x: f32, y: f32, size: Sides) {
     let a = rules::bilinear(v, x, y, size);
     l.ended("bilinear", &a);
-    let t = Task { lent: Slices::of([v]), ..Task::of(call::BILINEAR, &words(size), &[x, y]) };
-    l.plain(&t, word(&a, |x| bits(*x)), &Slices::default());
+    let numbers = Numbers { size, ..Numbers::default() };
+    let t = Task { read: v.to_vec(), ..Task::of(call::BILINEAR, numbers, &[x, y]) };
+    l.plain(&t, word(&a, |x| bits(*x)), &[]);
 }
 
 /// each set of faults is tried so often

@@ -1,5 +1,5 @@
 //! The second part of the list: the square root, the working sides, the stop marks.
-use crate::list::{bits, call, word, List, Slices, Task};
+use crate::list::{bits, call, word, List, Numbers, Task};
 use crate::random::Random;
 use crate::rules;
 use crate::source::Record;
@@ -14,7 +14,7 @@ fn root(l: &mut List, operand: u32) {
     let x = f32::from_bits(operand);
     let a = rules::root(x);
     l.ended("root", &a);
-    l.plain(&Task::of(call::ROOT, &[], &[x]), word(&a, |r| bits(*r)), &Slices::default());
+    l.plain(&Task::of(call::ROOT, Numbers::default(), &[x]), word(&a, |r| bits(*r)), &[]);
 }
 
 fn roots(l: &mut List, r: &mut Random) {
@@ -57,10 +57,12 @@ fn roots(l: &mut List, r: &mut Random) {
 }
 
 fn work_size(l: &mut List, w: u32, h: u32, res: u32) {
-    let a = rules::work_size((w as usize, h as usize), res);
+    let size = (w as usize, h as usize);
+    let a = rules::work_size(size, res);
     l.ended("work_size", &a);
     let sides = word(&a, |s| (s.0 * 0x1_0000 + s.1) as u32);
-    l.plain(&Task::of(call::WORK_SIZE, &[w, h, res], &[]), sides, &Slices::default());
+    let numbers = Numbers { size, work_res: res, ..Numbers::default() };
+    l.plain(&Task::of(call::WORK_SIZE, numbers, &[]), sides, &[]);
 }
 
 /// Whether the exact side × res / longest, rounded half away from zero, is another number than the binary32 one.
@@ -116,8 +118,9 @@ fn work_sizes(l: &mut List, r: &mut Random) {
 fn report(l: &mut List, m: Record, p: f32, stop: u32) -> Record {
     let (a, next) = rules::report(m, p, stop);
     l.ended("report", &a);
-    let t = Task { record: m, ..Task::of(call::REPORT, &[0, 0, stop], &[p]) };
-    l.task(&t, word(&a, |go| *go as u32), next, &Slices::default());
+    let numbers = Numbers { stop, ..Numbers::default() };
+    let t = Task { rest: m.into(), ..Task::of(call::REPORT, numbers, &[p]) };
+    l.task(&t, &next.into(), word(&a, |go| *go as u32), None);
     next
 }
 

@@ -2,30 +2,16 @@
 use crate::list::{
     self,
     call::{FLUVIAL, THERMAL},
-    List, Slices,
+    List, Numbers, ROOM,
 };
 use crate::random::Random;
 use crate::rules::runs::{gen_fluvial_erosion, gen_thermal_erosion, Run};
 use crate::rules::Sides;
 use crate::source::erosion::Settings;
-use crate::terrain::fault::{HEIGHT, LENGTH, ROOM, SETTING, SIDE};
+use crate::terrain::fault::{HEIGHT, LENGTH, SETTING, SIDE};
 use crate::terrain::{
-    bad_length, bad_sides, faults, grid, not_finite, outside, relief, spoilt, water, EXTREME, FILL, KINDS, RELIEFS,
-    TINY,
+    bad_length, bad_sides, faults, grid, not_finite, outside, relief, spoilt, water, EXTREME, KINDS, RELIEFS, TINY,
 };
-
-/// how many scratch slices a run is lent: four of floats and four of whole numbers, or three of floats
-const FLUVIAL_ROOM: usize = 8;
-const THERMAL_ROOM: usize = 3;
-const FLOATS: usize = 4;
-
-fn slices(call: u32) -> usize {
-    if call == FLUVIAL {
-        FLUVIAL_ROOM
-    } else {
-        THERMAL_ROOM
-    }
-}
 
 pub struct Task {
     pub call: u32,
@@ -33,15 +19,11 @@ pub struct Task {
     pub map: Vec<f32>,
     pub s: Settings,
     pub stop: u32,
-    /// the lengths of the scratch slices, those of floats first
-    room: Vec<usize>,
 }
 
 impl Task {
-    /// A task of the call with scratch of n cells.
     fn new(call: u32, size: Sides, map: Vec<f32>, s: Settings) -> Task {
-        let room = vec![map.len(); slices(call)];
-        Task { call, size, map, s, stop: 0, room }
+        Task { call, size, map, s, stop: 0 }
     }
 }
 
@@ -54,20 +36,26 @@ fn word(ended: &Run) -> u64 {
     u64::from(upper) << 32 | u64::from(lower)
 }
 
+/// The end of a task with some stop number, and the map after it. All scratch is of one length, so one stands for all.
+fn ended(t: &Task, stop: u32) -> (Run, Vec<f32>) {
+    let mut map = t.map.clone();
+    let run = if t.call == FLUVIAL { gen_fluvial_erosion } else { gen_thermal_erosion };
+    (run(t.size, &mut map, &t.s, stop, &[ROOM]), map)
+}
+
 fn run(l: &mut List, t: &Task) -> Run {
     let s = &t.s;
-    let mut map = t.map.clone();
-    let (name, floats, ended) = if t.call == FLUVIAL {
-        let ended = gen_fluvial_erosion(t.size, &mut map, s, t.stop, &t.room);
-        ("gen_fluvial_erosion", [s.water_level, s.strength, s.talus, s.uplift, FILL], ended)
+    let (name, floats) = if t.call == FLUVIAL {
+        ("gen_fluvial_erosion", vec![s.water_level, s.strength, s.talus, s.uplift])
     } else {
-        let ended = gen_thermal_erosion(t.size, &mut map, s, t.stop, &t.room);
-        ("gen_thermal_erosion", [s.water_level, s.talus, s.strength, 0.0, FILL], ended)
+        ("gen_thermal_erosion", vec![s.water_level, s.talus, s.strength])
     };
-    let numbers = list::scratch_numbers(t.size, [t.stop, s.iterations, s.work_res], &t.room);
+    let (ended, map) = ended(t, t.stop);
     l.ended(name, &ended.answer);
-    let task = list::Task { lent: Slices::of([&t.map]), ..list::Task::of(t.call, &numbers, &floats) };
-    l.plain(&task, word(&ended), &Slices::of([&map]));
+    let numbers =
+        Numbers { size: t.size, stop: t.stop, iterations: s.iterations, work_res: s.work_res, ..Numbers::default() };
+    let task = list::Task { written: t.map.clone(), ..list::Task::of(t.call, numbers, &floats) };
+    l.plain(&task, word(&ended), &map);
     if let Some(place) = ended.ran_off {
         l.note(name, place);
     }
@@ -80,7 +68,6 @@ pub fn list(l: &mut List, r: &mut Random) {
     stops(l, r);
     run_offs(l, r);
     refusals(l, r);
-    short_slices(l, r);
 }
 
 /// Single cells: iterations whose questions depend on binary32, working sides, no iteration and the most.
@@ -123,11 +110,7 @@ fn settings(r: &mut Random, size: Sides, map: &[f32], most: usize) -> Settings {
 pub fn task(r: &mut Random, call: u32, size: Sides, kind: usize, most: usize) -> Task {
     let map = relief(r, size, kind);
     let s = settings(r, size, &map, most);
-    let mut t = Task::new(call, size, map, s);
-    for n in t.room.iter_mut().take(FLOATS) {
-        *n += r.below(3);
-    }
-    t
+    Task::new(call, size, map, s)
 }
 
 fn reliefs(l: &mut List, r: &mut Random) {
@@ -187,7 +170,7 @@ fn run_offs(l: &mut List, r: &mut Random) {
                 found += 1;
                 run(l, &t);
                 for stop in 1..=ended.counts.questions.min(6) {
-                    run(l, &Task { stop, map: t.map.clone(), room: t.room.clone(), ..t });
+                    run(l, &Task { stop, map: t.map.clone(), ..t });
                 }
             }
         }
@@ -198,12 +181,7 @@ pub type Maker = fn(&mut Random, u32) -> Task;
 
 /// The end of a task that is in no list.
 pub fn ask(t: &Task) -> Run {
-    let mut map = t.map.clone();
-    if t.call == FLUVIAL {
-        gen_fluvial_erosion(t.size, &mut map, &t.s, 0, &t.room)
-    } else {
-        gen_thermal_erosion(t.size, &mut map, &t.s, 0, &t.room)
-    }
+    ended(t, 0).0
 }
 
 /// A small grid with heights near the largest float.
@@ -226,14 +204,10 @@ pub fn deep(r: &mut Random, call: u32) -> Task {
 }
 
 fn refusals(l: &mut List, r: &mut Random) {
-    for f in faults(&[SIDE, LENGTH, ROOM, SETTING, HEIGHT]).repeat(24) {
+    for f in faults(&[SIDE, LENGTH, SETTING, HEIGHT]).repeat(24) {
         let size = (r.within(1, 4), r.within(2, 4));
         let call = r.pick(&[FLUVIAL, THERMAL]);
         let mut t = task(r, call, size, 0, 3);
-        if f & ROOM != 0 {
-            let which = r.below(t.room.len());
-            t.room[which] = t.map.len() - 1;
-        }
         if f & LENGTH != 0 {
             let n = t.map.len();
             t.map.resize(bad_length(r, n), 0.5);
@@ -254,17 +228,5 @@ fn refusals(l: &mut List, r: &mut Random) {
             t.size = bad_sides(r, size);
         }
         run(l, &t);
-    }
-}
-
-/// Each scratch slice in turn one shorter than the map.
-fn short_slices(l: &mut List, r: &mut Random) {
-    for call in [FLUVIAL, THERMAL] {
-        for which in 0..slices(call) {
-            let size = (r.within(1, 4), r.within(2, 4));
-            let mut t = task(r, call, size, 0, 3);
-            t.room[which] = t.map.len() - 1;
-            assert!(run(l, &t).answer.is_err_and(|e| e.number == 3));
-        }
     }
 }

@@ -1,5 +1,5 @@
 //! The third part of the list, behind the incisions: single talus passes with their stop marks.
-use crate::list::{self, call::SLIDE_PASS, result, word, List, Slices};
+use crate::list::{self, call::SLIDE_PASS, result, word, List, Numbers};
 use crate::random::Random;
 use crate::rules::passes::slide_pass as ask_slide_pass;
 use crate::rules::Sides;
@@ -7,8 +7,7 @@ use crate::source::erosion::{Pass, Talus};
 use crate::source::Record;
 use crate::terrain::fault::{HEIGHT, LENGTH, MARKS, SETTING, SIDE};
 use crate::terrain::{
-    bad_length, bad_sides, faults, grid, map, not_finite, outside, relief, spoilt, water, words, EXTREME, FILL,
-    RELIEFS, TINY,
+    bad_length, bad_sides, faults, grid, map, not_finite, outside, relief, spoilt, water, EXTREME, FILL, RELIEFS, TINY,
 };
 
 struct Task {
@@ -21,14 +20,15 @@ struct Task {
 /// The record after the call.
 fn slide_pass(l: &mut List, t: &Task) -> Record {
     let Pass { s, ends, r, stop } = t.p;
-    let mut out = vec![FILL; t.out];
-    let lent = Slices::of([&t.h, &out]);
+    let written = vec![FILL; t.out];
+    let mut out = written.clone();
     let (a, after) = ask_slide_pass(t.size, &t.h, &mut out, &t.p);
     l.ended("slide_pass", &a);
-    let [w, h] = words(t.size);
+    let numbers = Numbers { size: t.size, stop, ..Numbers::default() };
     let floats = [s.threshold, s.strength, s.water_level, ends.0, ends.1];
-    let task = list::Task { record: r, lent, ..list::Task::of(SLIDE_PASS, &[w, h, stop], &floats) };
-    l.task(&task, word(&a, |_| 0), after, &Slices::of([&[], result(&a, &out)]));
+    let of = list::Task::of(SLIDE_PASS, numbers, &floats);
+    let task = list::Task { read: t.h.clone(), written, rest: r.into(), ..of };
+    l.task(&task, &after.into(), word(&a, |_| 0), result(&a, &out));
     after
 }
 

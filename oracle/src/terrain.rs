@@ -102,17 +102,12 @@ pub fn grid(r: &mut Random, i: usize, most: usize) -> Sides {
     (w, h)
 }
 
-pub fn words(size: Sides) -> [u32; 2] {
-    [size.0 as u32, size.1 as u32]
-}
-
 /// The faults that a task can have, each a bit.
 pub mod fault {
     pub const SIDE: u32 = 1 << 0;
     pub const REDUCED: u32 = 1 << 1;
     pub const LENGTH: u32 = 1 << 2;
     pub const OTHER_LENGTH: u32 = 1 << 3;
-    pub const ROOM: u32 = 1 << 4;
     pub const COORDINATE: u32 = 1 << 5;
     pub const SETTING: u32 = 1 << 6;
     pub const MARKS: u32 = 1 << 7;

@@ -1,9 +1,10 @@
 // Replays the oracle's list: reads tasks, makes the calls, writes the answers, which the file stdout fixes. oracle/README.md has the words of
-// each task and answer. A task is the number of a call, 26 numbers, 6 floats and the values of five slices: three of floats, two of cells.
+// each task and answer. Scratch is a whole room, longer than any grid of the list.
+use floats::from_bits;
 use floats::to_bits;
-use fluvial_scratch::fluvial_asked;
 use harness::harness_incise;
 use harness::harness_report;
+use harness::harness_route;
 use harness::harness_slide_pass;
 use harness_calls::harness_add_upsampled;
 use harness_calls::harness_bilinear;
@@ -11,16 +12,17 @@ use harness_calls::harness_downsample;
 use harness_calls::harness_greatest;
 use harness_calls::harness_least;
 use harness_calls::harness_normalize;
+use harness_runs::harness_fluvial_run;
+use harness_runs::harness_thermal_run;
 use layout_calls::milofavurn_square_root;
 use layout_calls::milofavurn_working_sides;
 use output::Written;
-use own_scratch::route_asked;
-use own_scratch::thermal_asked;
 use words::bytes_held;
 use words::cell_room;
 use words::cells_held;
 use words::float_room;
 use words::floats_held;
+use words::state_room;
 use words::wide;
 
 // The next word of the input, 0 once it has ended.
@@ -30,223 +32,280 @@ fn word() -> u32 {
     words::word_at(&b, 0)
 }
 
-// Reads a slice of so many values into the front of a room.
-fn read_floats<'a>(room: &'a mut [f32], n: u32) -> &'a mut [f32] {
-    let k = floats_held(n, room);
-    let v = &mut room[..k];
+fn float() -> f32 {
+    from_bits(word())
+}
+
+// What a call takes beside slices and a record; before that what scratch holds, by its type, and how many values of each written slice are told.
+struct Task {
+    cell: u32,
+    state: u8,
+    height: f32,
+    shown: u32,
+    w: usize,
+    h: usize,
+    dw: usize,
+    dh: usize,
+    stop: u32,
+    iterations: u32,
+    side: u32,
+    f0: f32,
+    f1: f32,
+    f2: f32,
+    f3: f32,
+    f4: f32,
+}
+
+fn read_task() -> Task {
+    let held = word();
+    Task {
+        cell: held,
+        state: (held % 256) as u8,
+        height: from_bits(held),
+        shown: word(),
+        w: wide(word()),
+        h: wide(word()),
+        dw: wide(word()),
+        dh: wide(word()),
+        stop: word(),
+        iterations: word(),
+        side: word(),
+        f0: float(),
+        f1: float(),
+        f2: float(),
+        f3: float(),
+        f4: float(),
+    }
+}
+
+// The next n bytes of the input, at the front of a room.
+fn read_bytes(n: usize) -> [u8; 65536] {
     let mut space = io::large_buffer();
-    let m = bytes_held(4 * v.len(), &space);
-    let bytes = &mut space[..m];
-    io::read_full(0, bytes);
-    words::floats_from(bytes, v);
+    let k = bytes_held(n, &space);
+    io::read_full(0, &mut space[..k]);
+    space
+}
+
+// Reads a slice into the front of a room: its length and its values.
+fn read_floats<'a>(room: &'a mut [f32]) -> &'a mut [f32] {
+    let n = floats_held(word(), room);
+    let v = &mut room[..n];
+    let bytes = read_bytes(4 * v.len());
+    words::floats_from(&bytes, v);
     v
 }
 
-fn read_cells<'a>(room: &'a mut [u32], n: u32) -> &'a mut [u32] {
-    let k = cells_held(n, room);
-    let v = &mut room[..k];
-    let mut space = io::large_buffer();
-    let m = bytes_held(4 * v.len(), &space);
-    let bytes = &mut space[..m];
-    io::read_full(0, bytes);
-    words::cells_from(bytes, v);
+fn read_cells<'a>(room: &'a mut [u32]) -> &'a mut [u32] {
+    let n = cells_held(word(), room);
+    let v = &mut room[..n];
+    let bytes = read_bytes(4 * v.len());
+    words::cells_from(&bytes, v);
     v
 }
 
-// Writes the first values of a slice, as many as a task asks for.
-fn put_floats(v: &[f32], shown: u32) {
-    let k = floats_held(shown, v);
+// Writes the first n values of a slice.
+fn put_floats(v: &[f32], n: u32) {
+    let n = floats_held(n, v);
     let mut space = io::large_buffer();
-    let n = words::floats_into(&v[..k], &mut space);
-    io::write_all(1, &space[..n]);
+    let k = words::floats_into(&v[..n], &mut space);
+    io::write_all(1, &space[..k]);
 }
 
-fn put_cells(v: &[u32], shown: u32) {
-    let k = cells_held(shown, v);
+fn put_cells(v: &[u32], n: u32) {
+    let n = cells_held(n, v);
     let mut space = io::large_buffer();
-    let n = words::cells_into(&v[..k], &mut space);
-    io::write_all(1, &space[..n]);
+    let k = words::cells_into(&v[..n], &mut space);
+    io::write_all(1, &space[..k]);
 }
 
-// An answer: the call's word, and a record of stop marks.
-fn told(word: u64, last: f32, asked: u32, stopped: u32) -> [u32; 5] {
+fn put_answer(word: u64) {
     let low = (word % 0x1_0000_0000) as u32;
     let high = (word / 0x1_0000_0000) as u32;
-    [low, high, to_bits(last), asked, stopped]
+    put_cells(&[low, high], 2);
 }
 
-// The answer of a call that takes no record: the task's own comes back.
-fn plain(word: u64, n: &[u32; 26], f: &[f32; 6]) -> [u32; 5] {
-    told(word, f[5], n[14], n[15])
+fn put_record(last: f32, asked: u32, stopped: bool) {
+    put_cells(&[to_bits(last), asked, stopped as u32], 3);
 }
 
-fn flag(x: bool) -> u32 {
-    if x { 1 } else { 0 }
+fn report(t: Task) -> u64 {
+    let mut last = float();
+    let mut asked = word();
+    let mut stopped = word() == 1;
+    let answer = harness_report(&mut last, &mut asked, &mut stopped, t.f0, t.stop);
+    put_record(last, asked, stopped);
+    answer
 }
 
-fn report(n: &[u32; 26], f: &[f32; 6]) -> [u32; 5] {
-    let mut last = f[5];
-    let mut asked = n[14];
-    let mut stopped = n[15] == 1;
-    let word = harness_report(&mut last, &mut asked, &mut stopped, f[0], n[2]);
-    told(word, last, asked, flag(stopped))
-}
-
-fn slide_pass(n: &[u32; 26], f: &[f32; 6], map: &[f32], out: &mut [f32]) -> [u32; 5] {
-    let mut last = f[5];
-    let mut asked = n[14];
-    let mut stopped = n[15] == 1;
-    let word = harness_slide_pass(
-        wide(n[0]),
-        wide(n[1]),
+fn slide_pass(t: Task, map: &[f32], out: &mut [f32]) -> u64 {
+    let mut last = float();
+    let mut asked = word();
+    let mut stopped = word() == 1;
+    let answer = harness_slide_pass(
+        t.w,
+        t.h,
         map,
         out,
-        f[0],
-        f[1],
-        f[2],
-        f[3],
-        f[4],
+        t.f0,
+        t.f1,
+        t.f2,
+        t.f3,
+        t.f4,
         &mut last,
         &mut asked,
         &mut stopped,
-        n[2],
+        t.stop,
     );
-    told(word, last, asked, flag(stopped))
+    put_record(last, asked, stopped);
+    answer
 }
 
-// The calls on numbers and on maps.
-fn on_maps(call: u32, n: &[u32; 26], f: &[f32; 6], a: &mut [f32], b: &mut [f32]) -> u64 {
-    let w = wide(n[0]);
-    let h = wide(n[1]);
-    let dw = wide(n[2]);
-    let dh = wide(n[3]);
+fn incise(t: Task, map: &[f32], out: &mut [f32]) -> u64 {
+    let mut area = float_room(t.height);
+    let mut recv_room = cell_room(0);
+    let recv = read_cells(&mut recv_room);
+    let mut order_room = cell_room(0);
+    let order = read_cells(&mut order_room);
+    harness_incise(t.w, t.h, map, t.f0, t.f1, t.f2, recv, order, out, &mut area)
+}
+
+fn route_cells(t: Task, map: &[f32], spill: &mut [f32], area: &mut [f32]) -> u64 {
+    let mut order_room = cell_room(0);
+    let order = read_cells(&mut order_room);
+    let mut recv_room = cell_room(0);
+    let recv = read_cells(&mut recv_room);
+    let mut queue = cell_room(t.cell);
+    let mut status = state_room(t.state);
+    let answer = harness_route(
+        t.w,
+        t.h,
+        map,
+        t.f0,
+        order,
+        recv,
+        spill,
+        area,
+        &mut queue,
+        &mut status,
+    );
+    put_cells(order, t.shown);
+    put_cells(recv, t.shown);
+    answer
+}
+
+fn route(t: Task, map: &[f32], spill: &mut [f32]) -> u64 {
+    let mut area_room = float_room(0.0);
+    let area = read_floats(&mut area_room);
+    let answer = route_cells(t, map, spill, area);
+    put_floats(area, t.shown);
+    answer
+}
+
+fn thermal(t: Task, map: &mut [f32]) -> u64 {
+    let mut small = float_room(t.height);
+    let mut eroded = float_room(t.height);
+    let mut copy = float_room(t.height);
+    harness_thermal_run(
+        t.w,
+        t.h,
+        map,
+        t.f0,
+        t.f1,
+        t.f2,
+        t.iterations,
+        t.side,
+        t.stop,
+        &mut small,
+        &mut eroded,
+        &mut copy,
+    )
+}
+
+fn fluvial(t: Task, map: &mut [f32]) -> u64 {
+    let mut small = float_room(t.height);
+    let mut eroded = float_room(t.height);
+    let mut copy = float_room(t.height);
+    let mut area = float_room(t.height);
+    let mut order = cell_room(t.cell);
+    let mut recv = cell_room(t.cell);
+    let mut queue = cell_room(t.cell);
+    let mut status = state_room(t.state);
+    harness_fluvial_run(
+        t.w,
+        t.h,
+        map,
+        t.f0,
+        t.f1,
+        t.f2,
+        t.f3,
+        t.iterations,
+        t.side,
+        t.stop,
+        &mut small,
+        &mut eroded,
+        &mut copy,
+        &mut area,
+        &mut order,
+        &mut recv,
+        &mut queue,
+        &mut status,
+    )
+}
+
+// The call of a task, on the map that it reads and the one that it writes.
+fn perform(call: u32, t: Task, read: &[f32], written: &mut [f32]) -> u64 {
     match call {
-        1 => harness_least(a),
-        2 => harness_greatest(a),
-        3 => harness_normalize(a, f[0], f[1]),
-        4 => harness_downsample(a, w, h, b, dw, dh),
-        5 => harness_add_upsampled(a, w, h, b, dw, dh),
-        6 => harness_bilinear(a, f[0], f[1], w, h),
-        7 => milofavurn_square_root(f[0]),
-        _ => milofavurn_working_sides(w, h, n[2]),
+        1 => harness_least(read),
+        2 => harness_greatest(read),
+        3 => harness_normalize(written, t.f0, t.f1),
+        4 => harness_downsample(read, t.w, t.h, written, t.dw, t.dh),
+        5 => harness_add_upsampled(written, t.w, t.h, read, t.dw, t.dh),
+        6 => harness_bilinear(read, t.f0, t.f1, t.w, t.h),
+        7 => milofavurn_square_root(t.f0),
+        8 => milofavurn_working_sides(t.w, t.h, t.side),
+        9 => report(t),
+        10 => incise(t, read, written),
+        11 => slide_pass(t, read, written),
+        12 => route(t, read, written),
+        13 => fluvial(t, written),
+        _ => thermal(t, written),
     }
 }
 
-// Whole runs.
-fn on_runs(call: u32, n: &[u32; 26], f: &[f32; 6], a: &mut [f32]) -> u64 {
-    let w = wide(n[0]);
-    let h = wide(n[1]);
-    match call {
-        13 => fluvial_asked(w, h, n, f, a),
-        _ => thermal_asked(w, h, n, f, a),
-    }
+fn replay_call(call: u32, t: Task) {
+    let mut read_room = float_room(0.0);
+    let read = read_floats(&mut read_room);
+    let mut written_room = float_room(0.0);
+    let written = read_floats(&mut written_room);
+    put_answer(perform(call, t, read, written));
+    put_floats(written, t.shown);
 }
 
-// Routing and incision.
-fn on_networks(
-    call: u32,
-    n: &[u32; 26],
-    f: &[f32; 6],
-    a: &[f32],
-    b: &mut [f32],
-    c: &mut [f32],
-    d: &mut [u32],
-    e: &mut [u32],
-) -> u64 {
-    let w = wide(n[0]);
-    let h = wide(n[1]);
-    match call {
-        10 => harness_incise(w, h, a, f[0], f[1], f[2], d, e, b, c),
-        _ => route_asked(w, h, n, f, a, d, e, b, c),
-    }
-}
-
-// The call of a task on its slices.
-fn perform(
-    call: u32,
-    n: &[u32; 26],
-    f: &[f32; 6],
-    a: &mut [f32],
-    b: &mut [f32],
-    c: &mut [f32],
-    d: &mut [u32],
-    e: &mut [u32],
-) -> [u32; 5] {
-    match call {
-        1..=8 => plain(on_maps(call, n, f, a, b), n, f),
-        9 => report(n, f),
-        11 => slide_pass(n, f, a, b),
-        13..=14 => plain(on_runs(call, n, f, a), n, f),
-        _ => plain(on_networks(call, n, f, a, b, c, d, e), n, f),
-    }
-}
-
-// The rest of a task once its floats are read: reads its cells, makes its call, and writes the answer and those values of the slices that it asks for.
-fn replay_cells(
-    call: u32,
-    n: &[u32; 26],
-    f: &[f32; 6],
-    a: &mut [f32],
-    b: &mut [f32],
-    c: &mut [f32],
-) {
-    let mut d_room = cell_room(0);
-    let d = read_cells(&mut d_room, n[19]);
-    let mut e_room = cell_room(0);
-    let e = read_cells(&mut e_room, n[20]);
-    put_cells(&perform(call, n, f, a, b, c, d, e), 5);
-    put_floats(a, n[21]);
-    put_floats(b, n[22]);
-    put_floats(c, n[23]);
-    put_cells(d, n[24]);
-    put_cells(e, n[25]);
-}
-
-// A task but for its stream.
-fn replay_call(call: u32) {
-    let mut n = [0u32; 26];
-    read_cells(&mut n, 26);
-    let mut f = [0.0f32; 6];
-    read_floats(&mut f, 6);
-    let mut a_room = float_room(0.0);
-    let a = read_floats(&mut a_room, n[16]);
-    let mut b_room = float_room(0.0);
-    let b = read_floats(&mut b_room, n[17]);
-    let mut c_room = float_room(0.0);
-    let c = read_floats(&mut c_room, n[18]);
-    replay_cells(call, &n, &f, a, b, c);
-}
-
-// The output has room, so the writer does not refuse; the list has no output without a byte.
+// The output has room, so the writer does not refuse.
 fn put_relief(bytes: &[u8]) {
     let mut out = io::large_buffer();
     let written = stream_run::relief(bytes, &mut out);
-    match written {
-        Written::Bytes(n) => {
-            let n = bytes_held(n, &out);
-            put_cells(&[words::low_word(n)], 1);
-            io::write_all(1, &out[..n]);
-        }
-        Written::Refused(_) => put_cells(&[0], 1),
+    if let Written::Bytes(n) = written {
+        let n = bytes_held(n, &out);
+        io::write_all(1, &out[..n]);
     }
 }
 
 // A stream of at most 65,536 bytes.
 fn replay_relief() {
-    let mut space = io::large_buffer();
-    let n = bytes_held(wide(word()), &space);
-    let bytes = &mut space[..n];
-    io::read_full(0, bytes);
-    put_relief(bytes);
+    let n = wide(word());
+    let bytes = read_bytes(n);
+    let n = bytes_held(n, &bytes);
+    put_relief(&bytes[..n]);
 }
 
 // Replays one task. Answers false at the end of the list.
 fn replay_task() -> bool {
     let call = word();
     match call {
-        1..=14 => replay_call(call),
+        0 => return false,
         15 => replay_relief(),
-        _ => return false,
+        _ => replay_call(call, read_task()),
     }
     true
 }

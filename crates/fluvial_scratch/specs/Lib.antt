@@ -1,2 +1,0 @@
--- The fluvial run that a task of the replay list asks for.
-pub mod Fluvial

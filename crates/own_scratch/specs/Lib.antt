@@ -1,2 +1,0 @@
--- Calls with scratch of their own.
-pub mod Asked
