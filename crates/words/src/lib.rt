@@ -5,7 +5,7 @@ use grid::least;
 use stream_bytes::put_u32;
 use stream_bytes::read_u32;
 ghost use mathlib.Core.Path.{_≡_};
-ghost use Prim.Native.Nat.{_+_, _*_, _/_, _%_, _≤_, min};
+ghost use Prim.Native.Nat.{_+_, _*_, _≤_, min};
 ghost use lib.ListN.{length, replicate};
 ghost use lib.Seq.{sets};
 ghost use Rattle.lists.specs.Loops.{tabulate};
@@ -143,11 +143,4 @@ pub fn cells_into(v: &[u32], out: &mut [u8]) -> usize
     let n = least(v.len(), out.len() / 4);
     put_cells(out, v, n);
     4 * n
-}
-
-// The low word of a length.
-pub fn low_word(x: usize) -> u32
-    ensures { λ r. ⌜ r ≡ x % 0x1_0000_0000 ⌝ }
-{
-    (x % 0x1_0000_0000) as u32
 }
