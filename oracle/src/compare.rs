@@ -29,6 +29,7 @@ mod whole;
 
 use std::process::ExitCode;
 
+use passes::Land;
 use random::Random;
 use rules::Sides;
 use source::erosion::Settings;
@@ -60,6 +61,16 @@ fn small(rounds: usize) -> bool {
     }
     let a = grids.print(&format!("{} random small grids", rounds * GRIDS));
     numbers.print("numbers") && a
+}
+
+/// Each scratch slice of each call one shorter than a small grid: refused by 3, with every slice as it was.
+fn short() -> bool {
+    let mut t = Tally::default();
+    let h = (0..12).map(|c| c as f32).collect();
+    let land = Land { size: (4, 3), h, water_level: 0.0 };
+    passes::short(&mut t, &land);
+    whole::short(&mut t, &land);
+    t.print("each scratch slice one shorter than its grid") && t.all(3)
 }
 
 /// Slopes from the middle down to the border, with noise as high as sixteen steps of the slope.
@@ -114,8 +125,8 @@ fn large() -> bool {
 fn main() -> ExitCode {
     let thousands = std::env::args().nth(1).and_then(|a| a.parse().ok()).unwrap_or(100);
     println!("seed {SEED}");
-    let (a, b) = (small(thousands * 1000), large());
-    if a && b {
+    let (a, b, c) = (short(), small(thousands * 1000), large());
+    if a && b && c {
         println!("no difference");
         return ExitCode::SUCCESS;
     }

@@ -48,22 +48,34 @@ pub struct Scratch {
 
 impl Scratch {
     pub fn new(n: usize) -> Scratch {
-        Scratch::of(&[n; 4], n)
+        Scratch::of(&[n; 8], 0)
     }
 
-    /// The lengths of the slices of floats, and of the others.
-    pub fn of(floats: &[usize], n: usize) -> Scratch {
-        let floats = |i: usize| vec![0.0; floats.get(i).copied().unwrap_or(0)];
+    /// Slices of these lengths, in the order above, each full of one value; those left out are empty.
+    pub fn of(lengths: &[usize], held: u8) -> Scratch {
+        let len = |i: usize| lengths.get(i).copied().unwrap_or(0);
+        let floats = |i: usize| vec![held as f32; len(i)];
+        let cells = |i: usize| vec![held as u32; len(i)];
         Scratch {
             small: floats(0),
             eroded: floats(1),
             copy: floats(2),
             area: floats(3),
-            order: vec![0; n],
-            recv: vec![0; n],
-            queue: vec![0; n],
-            status: vec![0; n],
+            order: cells(4),
+            recv: cells(5),
+            queue: cells(6),
+            status: vec![held; len(7)],
         }
+    }
+
+    /// Whether every slice is still full of that value.
+    #[allow(dead_code)]
+    pub fn holds(&self, held: u8) -> bool {
+        let floats = [&self.small, &self.eroded, &self.copy, &self.area];
+        let cells = [&self.order, &self.recv, &self.queue];
+        floats.into_iter().flatten().all(|x| *x == held as f32)
+            && cells.into_iter().flatten().all(|c| *c == held as u32)
+            && self.status.iter().all(|s| *s == held)
     }
 
     /// The answer of a thermal run.

@@ -41,13 +41,18 @@ pub fn damaged(r: &mut Random, land: &mut Land) {
     }
 }
 
+/// Whether a slice that was full of one value before the call still is.
+fn untouched(v: &[f32]) -> bool {
+    v.iter().all(|x| x.to_bits() == FILL.to_bits())
+}
+
 /// The network that the library leaves; slices of the lengths given, filled before the call.
 fn routed(t: &mut Tally, l: &Land, room: RouteRoom) -> Network {
     let mut ours = Network::new(0);
-    let cell = FILL.to_bits();
+    let (cell, state) = (FILL.to_bits(), 7);
     (ours.order, ours.recv) = (vec![cell; room.order], vec![cell; room.recv]);
     (ours.spill, ours.area) = (vec![FILL; room.spill], vec![FILL; room.area]);
-    (ours.queue, ours.status) = (vec![cell; room.queue], vec![7; room.status]);
+    (ours.queue, ours.status) = (vec![cell; room.queue], vec![state; room.status]);
     let a = rules::route(l.size, &l.h, l.water_level, room);
     let w = ours.route(l.size, &l.h, l.water_level);
     let left = match &a {
@@ -55,8 +60,10 @@ fn routed(t: &mut Tally, l: &Land, room: RouteRoom) -> Network {
             ours.order == n.order && ours.recv == n.recv && same(&ours.spill, &n.spill) && same(&ours.area, &n.area)
         }
         Err(_) => {
-            let kept = |v: &[f32]| v.iter().all(|x| x.to_bits() == cell);
-            ours.order.iter().chain(&ours.recv).all(|c| *c == cell) && kept(&ours.spill) && kept(&ours.area)
+            ours.order.iter().chain(&ours.recv).chain(&ours.queue).all(|c| *c == cell)
+                && untouched(&ours.spill)
+                && untouched(&ours.area)
+                && ours.status.iter().all(|s| *s == state)
         }
     };
     let alike = w == word(&a, |_| 0) && left;
@@ -83,8 +90,10 @@ pub fn route(t: &mut Tally, r: &mut Random, i: usize) {
             _ => room.area = len,
         }
     }
-    if r.below(60) == 0 {
-        room.queue = l.h.len() - 1;
+    match r.below(60) {
+        0 => room.queue = l.h.len() - 1,
+        1 => room.status = l.h.len() - 1,
+        _ => {}
     }
     damaged(r, &mut l);
     routed(t, &l, room);
@@ -133,7 +142,9 @@ fn incised(t: &mut Tally, call: &'static str, l: &Land, s: &Incision, lent: &Len
     let net = calls::Lent { recv: lent.recv, list: lent.list };
     let w = calls::incise(l.size, &l.h, s, net, &mut ours, &mut area);
     // the result slice counts as scratch on 22
-    let alike = w == word(&a, |_| 0) && (number(&a) == 22 || same(&ours, &theirs));
+    let refused = (1..=9).contains(&number(&a));
+    let left = (number(&a) == 22 || same(&ours, &theirs)) && (!refused || untouched(&area));
+    let alike = w == word(&a, |_| 0) && left;
     let input = || {
         let settings = [s.k, s.uplift, s.water_level].map(f32::to_bits);
         format!("k, uplift, water {settings:08x?}, {}, {:?}, {:?}", shown(l.size, &l.h), lent.recv, lent.list)
@@ -183,6 +194,16 @@ pub fn incise(t: &mut Tally, r: &mut Random, i: usize) {
     s.water_level = l.water_level;
     let (out, area) = (if r.below(30) == 0 { n + 1 } else { n }, if r.below(30) == 0 { n - 1 } else { n + r.below(3) });
     incised(t, "incise, any receivers and list", &l, &s, &Lent { recv: &net.recv, list: &net.order, out, area });
+}
+
+/// Each scratch slice of routing and incision in turn one shorter than the grid.
+pub fn short(t: &mut Tally, l: &Land) {
+    let n = l.h.len();
+    routed(t, l, RouteRoom { queue: n - 1, ..room(n) });
+    routed(t, l, RouteRoom { status: n - 1, ..room(n) });
+    let all: Vec<u32> = (0..n as u32).collect();
+    let s = Incision { k: 1.0, uplift: 0.0, water_level: l.water_level };
+    incised(t, "incise", l, &s, &Lent { recv: &all, list: &all, out: n, area: n - 1 });
 }
 
 /// A pass into a result of some length.

@@ -48,6 +48,11 @@ impl Tally {
         }
     }
 
+    /// Whether every answer has that number.
+    pub fn all(&self, number: u32) -> bool {
+        self.counts.keys().all(|(_, n)| *n == number)
+    }
+
     /// Prints a row for each call; gives whether nothing differed.
     pub fn print(&self, title: &str) -> bool {
         let total: usize = self.counts.values().sum();

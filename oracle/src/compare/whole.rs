@@ -23,10 +23,13 @@ fn end_word(run: &Run) -> u64 {
         | (place + ((c.passes as u64) << 16 | c.questions as u64))
 }
 
-/// The questions that the run asked. `room`: the lengths of the scratch slices of floats.
+/// what scratch is full of before a run
+const HELD: u8 = 7;
+
+/// The questions that the run asked. `room`: the lengths of the scratch slices, which a refusal leaves as they were.
 fn compared(t: &mut Tally, kind: Kind, l: &Land, s: &Settings, stop: u32, room: &[usize]) -> u32 {
     let (mut ours, mut theirs) = (l.h.clone(), l.h.clone());
-    let mut scratch = Scratch::of(room, l.h.len() + 1);
+    let mut scratch = Scratch::of(room, HELD);
     let (name, run, w) = if kind == Kind::Fluvial {
         let run = gen_fluvial_erosion(l.size, &mut theirs, s, stop, room);
         ("gen_fluvial_erosion", run, scratch.fluvial(l.size, &mut ours, s, stop))
@@ -34,21 +37,35 @@ fn compared(t: &mut Tally, kind: Kind, l: &Land, s: &Settings, stop: u32, room: 
         let run = gen_thermal_erosion(l.size, &mut theirs, s, stop, room);
         ("gen_thermal_erosion", run, scratch.thermal(l.size, &mut ours, s, stop))
     };
-    let alike = w == end_word(&run) && same(&ours, &theirs);
+    let refused = (1..=9).contains(&number(&run.answer));
+    let alike = w == end_word(&run) && same(&ours, &theirs) && (!refused || scratch.holds(HELD));
     let input = || {
         let floats = [s.water_level, s.strength, s.talus, s.uplift].map(f32::to_bits);
         let rest = (s.iterations, s.work_res, stop);
-        format!("settings {floats:08x?}, iterations, working side, S {rest:?}, {}", shown(l.size, &l.h))
+        format!("settings {floats:08x?}, iterations, working side, S {rest:?}, scratch {room:?}, {}", shown(l.size, &l.h))
     };
     t.compared(name, number(&run.answer), alike, l.h.len(), input);
     run.counts.questions
 }
 
+/// How many scratch slices a run is lent.
 fn slices(kind: Kind) -> usize {
     if kind == Kind::Fluvial {
-        4
+        8
     } else {
         3
+    }
+}
+
+/// Each scratch slice of both runs in turn one shorter than the grid.
+pub fn short(t: &mut Tally, l: &Land) {
+    let s = Settings { water_level: 0.0, strength: 0.6, talus: 0.2, uplift: 0.001, iterations: 2, work_res: 512 };
+    for kind in [Kind::Fluvial, Kind::Thermal] {
+        for which in 0..slices(kind) {
+            let mut room = vec![l.h.len(); slices(kind)];
+            room[which] -= 1;
+            compared(t, kind, l, &s, 0, &room);
+        }
     }
 }
 
@@ -74,7 +91,7 @@ pub fn small(t: &mut Tally, r: &mut Random, i: usize) {
         _ => {}
     }
     let mut room = vec![l.h.len() + r.below(2); slices(kind)];
-    if r.below(40) == 0 {
+    if r.below(20) == 0 {
         let which = r.below(room.len());
         room[which] = l.h.len() - 1;
     }
