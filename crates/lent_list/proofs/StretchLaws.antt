@@ -8,6 +8,7 @@ use mathlib.Core.Bool.{Bool, true, false, true≢false}
 use mathlib.Core.List.{List}
 use lib.ListN.{length, getD, take}
 use lib.Dec.{ltb}
+use borrow.Author.Count.{below-more}
 use borrow.Author.Tests.{lt-ltb, ltb-true, ltb-false}
 use Rattle.drainage.proofs.TallyLaws.{one-same, one-other}
 use Rattle.drainage.specs.Ways.{one, times}
@@ -96,7 +97,7 @@ module _ {long n : ℕ} {recv list : List ℕ} {lo limit p : ℕ} {m : ℕ → B
 
     pub walk-more : p < limit → limit ≤ length list → entry < n → m (entry - lo) ≡ false → (lo ≤ below → below < lo + long → next (below - lo) ≡ true)
         → Walk long n recv list lo limit (p + 1) next
-    walk-more a b inside fresh after = record { place = omega arith; marks = seen-more (omega arith); earlier = λ i k. at i k (ℕ-discrete i p) }
+    walk-more a b inside fresh after = record { place = omega arith; marks = seen-more (omega arith); earlier = below-more (GoodWithin n recv list lo (lo + long)) p (w .earlier) here }
       where
         here : GoodWithin n recv list lo (lo + long) p
         here =
@@ -106,23 +107,18 @@ module _ {long n : ℕ} {recv list : List ℕ} {lo limit p : ℕ} {m : ℕ → B
               after = λ d x y u v. ltb-true 0 _ (sym (mark-at below u v) ∙ sym (put .other (below - lo) (λ e. d (omega arith))) ∙ after u v);
             }
 
-        at : (i : ℕ) → i < p + 1 → Dec (i ≡ p) → GoodWithin n recv list lo (lo + long) i
-        at i k (yes q) = rw q here
-        at i k (no q) = w .earlier i (omega arith)
-
   -- one entry more, outside the stretch
   pub walk-past : p < limit → limit ≤ length list → entry < n → (lo ≤ entry → entry < lo + long → ⊥) → Walk long n recv list lo limit (p + 1) m
   walk-past a b inside out =
-      record { place = omega arith; marks = λ i k. rw (add-one p) (still i k); earlier = λ i k. at i k (ℕ-discrete i p) }
+      record { place = omega arith; marks = λ i k. rw (add-one p) (still i k); earlier = below-more (GoodWithin n recv list lo (lo + long)) p (w .earlier) here }
     where
       still : (i : ℕ) → i < long → m i ≡ ltb 0 (times (lo + i) (take (suc p) list))
       still i k =
           let same : times (lo + i) (take (suc p) list) ≡ times (lo + i) (take p list) = omega (arith, times-more (lo + i) p list (omega arith), one-other entry (lo + i) (λ e. out (omega arith) (omega arith))) in
           w .marks i k ∙ ap (ltb 0) (sym same)
 
-      at : (i : ℕ) → i < p + 1 → Dec (i ≡ p) → GoodWithin n recv list lo (lo + long) i
-      at i k (yes q) = rw q (record { cell = inside; fresh = λ x y. absurd (out x y); after = λ d x y u v. absurd (out x y) })
-      at i k (no q) = w .earlier i (omega arith)
+      here : GoodWithin n recv list lo (lo + long) p
+      here = record { cell = inside; fresh = λ x y. absurd (out x y); after = λ d x y u v. absurd (out x y) }
 
 -- a walk in which every cell has a mark
 module _ {n : ℕ} {recv list : List ℕ} {p : ℕ} {m : ℕ → Bool} (w : Walk n n recv list 0 n p m) (inside : getD list p 0 < n) where
