@@ -49,6 +49,9 @@ cells-bound w h hw hh = mul-le-mul hw hh
 pub cells-fit : (w h : ℕ) → w ≤ 4096 → h ≤ 4096 → Fits w64 (w * h)
 cells-fit w h hw hh = record { fits = omega (arith, cells-bound w h hw hh) }
 
+pub range-fit : {w h : ℕ} → InRange w h → Fits w64 (w * h)
+range-fit {w} {h} r = cells-fit w h (r .wide) (r .high)
+
 pub coordinates : (w h : ℕ) → Coordinates w h
 coordinates w h =
     record {
@@ -76,6 +79,9 @@ good-sides w h e =
     let a = good-side w (t .0) in
     let b = good-side h (t .1) in
     record { columns = a .0; rows = b .0; wide = a .1; high = b .1 }
+
+pub sides-fit : (w h : ℕ) → badSides w h ≡ false → Fits w64 (w * h)
+sides-fit w h e = range-fit (good-sides w h e)
 
 pub in-range : {w h : ℕ} → InRange w h → badSides w h ≡ false
 in-range {w} {h} r = rw (side-in w (r .columns) (r .wide)) (side-in h (r .rows) (r .high))

@@ -9,15 +9,13 @@ use lib.Dec.{eqb}
 use lib.ListN.{length}
 use lib.Ieee.{Float, binary32, ofBits, neg}
 use lib.Ieee.Scale.{finite}
-use mir.Syntax.{w64}
-use mir.Val.{Fits}
 use Rattle.lists.proofs.TestLaws.{fourth}
 use Rattle.answers.specs.Outcome.{refusedAt, outsideOf}
 use Rattle.answers.specs.declared.Answer.{Answer}
 use Rattle.answers.specs.declared.Refusal.{Refusal}
 use Rattle.grid.specs.Sides.{badSides}
 use Rattle.grid.specs.Heights.{firstNotFinite, allFinite}
-use Rattle.grid.proofs.SidesLaws.{cells-fit, good-sides}
+use Rattle.grid.proofs.SidesLaws.{good-sides}
 use Rattle.generators.specs.declared.Progress.{Progress}
 use Rattle.grid.proofs.HeightsLaws.{all-finite, not-all-finite}
 use Rattle.thermal_erosion.specs.SlidePass.{Pass, passOf, Ready, badMarks, badPass, Passed, SlideMade}
@@ -26,9 +24,6 @@ use Rattle.thermal_erosion.specs.declared.Slid.{Slid}
 
 abbrev pub refusing : Refusal → Progress → Slid
 refusing r m = record { answer = Answer.Refused r; progress = m }
-
-pub cells-fit-sides : (w h : ℕ) → badSides w h ≡ false → Fits w64 (w * h)
-cells-fit-sides w h e = let r = good-sides w h e in cells-fit w h (r .wide) (r .high)
 
 asked-most : (p : ThermalParams) (from to : Float) (m : Progress) → badPass p from to m ≡ false → m .asked ≤ 2 ^ 31
 asked-most p from to m e =

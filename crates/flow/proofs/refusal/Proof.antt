@@ -2,7 +2,7 @@ use mathlib.Core.Path.{refl, sym, ap, _∙_}
 use mathlib.Core.Bool.{true, false}
 use borrow.Author.Tests.{not-true, not-false}
 use Rattle.answers.specs.Outcome.{refusedAt}
-use Rattle.grid.proofs.SidesLaws.{good-sides, cells-fit}
+use Rattle.grid.proofs.SidesLaws.{sides-fit}
 use Rattle.grid.proofs.HeightsLaws.{all-finite, not-all-finite}
 use Rattle.flow.proofs.RouteLaws.{answer-is, enough}
 use borrow.Author.Needs.{needs}
@@ -18,9 +18,7 @@ returns c =
     answer-is (a .size .w) (a .size .h) (a .h .now) (a .water-level) (a .l) true _ _ _ (sym (c .before .bad-sides .ensures) ∙ c .if1 .taken) refl refl refl
 
 mul-n : tie.Need-mul-n
-mul-n c =
-    let r = good-sides _ _ (sym (c .before .before .bad-sides .ensures) ∙ c .before .if1 .left) in
-    cells-fit _ _ (r .wide) (r .high)
+mul-n c = sides-fit _ _ (sym (c .before .before .bad-sides .ensures) ∙ c .before .if1 .left)
 
 bad-lengths-requires : tie.Need-bad-lengths-requires
 bad-lengths-requires c κs = search needs

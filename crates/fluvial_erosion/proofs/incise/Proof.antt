@@ -5,7 +5,7 @@ use Rattle.answers.specs.Outcome.{gives, answerOf}
 use Rattle.fluvial_erosion.specs.Along.{Drains}
 use Rattle.fluvial_erosion.proofs.RefusalLaws.{decided, Accepted, Sized, accepted, accepted-sizes, accepted-drains, made-refused, made-incised, answer-done, answer-off}
 use lib.Seq.{length-take-le}
-use Rattle.grid.proofs.SidesLaws.{cells-fit}
+use Rattle.grid.proofs.SidesLaws.{range-fit}
 use borrow.Author.Needs.{needs}
 use Rattle.fluvial_erosion.proofs.incise.Statement.{statement}
 use Rattle.fluvial_erosion.proofs.incise.Tie as tie
@@ -40,7 +40,7 @@ returns c = let a = c .before .before .before .before .before .before .before .b
 
 -- src/lib.rt:187:13
 mul-n : tie.Need-mul-n
-mul-n c = let r = drains (c .before) .sides in cells-fit _ _ (r .wide) (r .high)
+mul-n c = range-fit (drains (c .before) .sides)
 
 -- src/lib.rt:188:55
 slice-relend-prefix-incise-into : tie.Need-slice-relend-prefix-incise-into

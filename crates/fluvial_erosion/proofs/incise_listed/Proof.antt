@@ -2,7 +2,7 @@ use Prim.Native.Nat.{_-_}
 use mathlib.Core.Path.{sym, _∙_}
 use native.Mathlib.Omega.{arith}
 use lib.ListN.{length}
-use Rattle.grid.proofs.SidesLaws.{cells-fit}
+use Rattle.grid.proofs.SidesLaws.{range-fit}
 use Rattle.fluvial_erosion.proofs.CellLaws.{Incising, cells-float, steps-of, cell-of, incising-none, incising-more, incised-along}
 use Rattle.fluvial_erosion.proofs.incise_listed.Statement.{statement}
 use Rattle.fluvial_erosion.proofs.incise_listed.Tie as tie
@@ -15,7 +15,7 @@ abbrev μ-loop : tie.MeasureT-loop
 
 -- src/lib.rt:48:20
 mul-n-cells : tie.Need-mul-n-cells Inv-loop μ-loop
-mul-n-cells c = cells-fit _ _ (c .before .before .before .before .before .before .pre .0 .sides .wide) (c .before .before .before .before .before .before .pre .0 .sides .high)
+mul-n-cells c = range-fit (c .before .before .before .before .before .before .pre .0 .sides)
 
 -- src/lib.rt:48:19
 int-to-float-n-cells : tie.Need-int-to-float-n-cells Inv-loop μ-loop

@@ -5,7 +5,7 @@ use lib.Dec.{ltb}
 use lib.ListN.{length}
 use Rattle.grid.specs.Sides.{badSides}
 use Rattle.grid.specs.Heights.{allFinite}
-use Rattle.grid.proofs.SidesLaws.{cells-fit, good-sides}
+use Rattle.grid.proofs.SidesLaws.{sides-fit, good-sides}
 use Rattle.lent_receivers.specs.Receivers.{firstBadReceiver}
 use Rattle.fluvial_erosion.specs.Incise.{badLengths, badIncision}
 use Rattle.fluvial_erosion.proofs.RefusalLaws.{sized, network-of, near-network, found, found-none, height-found, height-none, ends-side, ends-length, ends-setting, ends-height, ends-receiver, ends-entry, ends-done}
@@ -39,7 +39,7 @@ returns c = let a = c .before .before .before .before .before .args in ends-side
 
 -- src/lib.rt:157:13
 mul-n : tie.Need-mul-n
-mul-n c = let r = good-sides _ _ (sides (c .before)) in cells-fit _ _ (r .wide) (r .high)
+mul-n c = sides-fit _ _ (sides (c .before))
 
 -- src/lib.rt:158:8
 bad-lengths-requires : tie.Need-bad-lengths-requires

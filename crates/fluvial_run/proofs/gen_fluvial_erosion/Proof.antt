@@ -2,7 +2,7 @@ use Prim.Native.Nat.{_*_}
 use mathlib.Core.Path.{_≡_, sym}
 use lib.Seq.{length-take-le}
 use Rattle.answers.specs.Outcome.{answerOf}
-use Rattle.grid.proofs.SidesLaws.{cells-fit}
+use Rattle.grid.proofs.SidesLaws.{range-fit}
 use Rattle.resample.specs.WorkSize.{Within}
 use Rattle.plans.proofs.InputLaws.{within-range}
 use Rattle.fluvial_grid.specs.Grids.{scratchOf}
@@ -55,7 +55,7 @@ plan-on-requires : tie.Need-plan-on-requires
 plan-on-requires c κs = let r = within-range (within c) in (r .wide, r .high)
 
 mul-m : tie.Need-mul-m
-mul-m c = let r = within-range (within (c .before .before)) in cells-fit _ _ (r .wide) (r .high)
+mul-m c = range-fit (within-range (within (c .before .before)))
 
 slice-relend-prefix-erode : tie.Need-slice-relend-prefix-erode
 slice-relend-prefix-erode c = rooms (c .before .before .before) .small

@@ -1,5 +1,5 @@
 use Rattle.grid.proofs.HeightsLaws.{all-finite, not-all-finite}
-use Rattle.grid.proofs.SidesLaws.{good-sides, cells-fit}
+use Rattle.grid.proofs.SidesLaws.{sides-fit}
 use borrow.Author.Tests.{eq-eqb, ne-eqb, lt-ltb, le-ltb}
 use mathlib.Core.Path.{sym, _∙_}
 use borrow.Author.Needs.{needs}
@@ -13,9 +13,7 @@ returns : tie.Need-returns
 returns c = rw (sym (c .before .bad-sides .ensures) ∙ c .if1 .taken)
 
 mul-n : tie.Need-mul-n
-mul-n c =
-    let r = good-sides _ _ (sym (c .before .before .bad-sides .ensures) ∙ c .before .if1 .left) in
-    cells-fit _ _ (r .wide) (r .high)
+mul-n c = sides-fit _ _ (sym (c .before .before .bad-sides .ensures) ∙ c .before .if1 .left)
 
 returns-2 : tie.Need-returns-2
 returns-2 c = rw (sym (c .before .before .before .bad-sides .ensures) ∙ c .before .before .if1 .left, ne-eqb _ _ (c .if2 .taken))

@@ -1,5 +1,6 @@
 use mathlib.Core.Path.{sym, _∙_}
-use Rattle.thermal_erosion.proofs.SlideLaws.{cells-fit-sides, slide-ready, slide-side, slide-map, slide-copy, slide-setting, slide-height, slide-accepted}
+use Rattle.grid.proofs.SidesLaws.{sides-fit}
+use Rattle.thermal_erosion.proofs.SlideLaws.{slide-ready, slide-side, slide-map, slide-copy, slide-setting, slide-height, slide-accepted}
 use borrow.Author.Needs.{needs}
 use Rattle.thermal_erosion.proofs.slide_pass.Statement.{statement}
 use Rattle.thermal_erosion.proofs.slide_pass.Tie as tie
@@ -14,7 +15,7 @@ returns : tie.Need-returns
 returns c = rw (c .refused .ensures) (slide-side _ _ _ _ _ _ _ _ _ (sym (c .before .before .bad-sides .ensures) ∙ c .before .if1 .taken))
 
 mul-n : tie.Need-mul-n
-mul-n c = cells-fit-sides _ _ (sym (c .before .before .bad-sides .ensures) ∙ c .before .if1 .left)
+mul-n c = sides-fit _ _ (sym (c .before .before .bad-sides .ensures) ∙ c .before .if1 .left)
 
 refused-requires-2 : tie.Need-refused-requires-2
 refused-requires-2 c κs = search needs

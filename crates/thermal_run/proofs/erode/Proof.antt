@@ -1,6 +1,6 @@
 use mathlib.Core.Path.{sym, _∙_}
 use lib.Seq.{length-take-le}
-use Rattle.grid.proofs.SidesLaws.{cells-fit}
+use Rattle.grid.proofs.SidesLaws.{range-fit}
 use Rattle.plans.proofs.InputLaws.{within-range}
 use Rattle.runs.specs.Run.{slideCourse}
 use Rattle.erosion.proofs.WholeLaws.{whole-on-map}
@@ -10,7 +10,7 @@ use Rattle.thermal_run.proofs.erode.Statement.{statement}
 use Rattle.thermal_run.proofs.erode.Tie as tie
 
 mul-m : tie.Need-mul-m
-mul-m c = let r = within-range (c .before .before .before .before .before .pre .sides) in cells-fit _ _ (r .wide) (r .high)
+mul-m c = range-fit (within-range (c .before .before .before .before .before .pre .sides))
 
 on-map-requires : tie.Need-on-map-requires
 on-map-requires c κs = search needs
