@@ -1,66 +1,121 @@
--- The heights of a stream: each stands inside it; the first that is not finite; and the map that they fill.
-use Prim.Native.Nat.{ℕ, suc, _+_, _*_, _^_, _%_, _/_, _≤_, _<_}
-use mathlib.Core.Path.{_≡_, sym, ap, subst, _∙_}
+-- The heights of a stream: each stands inside it; a walk along their rows; the first that is not finite; and the map that they fill.
+use Prim.Native.Nat.{ℕ, suc, _+_, _*_, _^_, _≤_, _<_}
+use mathlib.Core.Path.{_≡_, sym, ap, ap₂, subst, _∙_}
 use mathlib.Core.Bool.{Bool, true, false, not}
-use mathlib.Core.List.{List}
-use native.Mathlib.Nat.{mul-le-mul}
+use mathlib.Core.List.{List, _++_}
+use native.Mathlib.Nat.{mul-comm, mul-le-mul}
 use native.Mathlib.Omega.{arith}
 use borrow.Author.Tests.{not-true, not-false}
-use lib.ListN.{length, getD}
+use lib.ListN.{length, getD, set}
 use lib.Ieee.{Float, nan}
 use lib.Ieee.Scale.{finite}
+use Rattle.lists.specs.Loops.{tabulate}
 use Rattle.lists.proofs.TableLaws.{length-tabulate, getD-tabulate}
-use Rattle.lists.proofs.FillLaws.{Filling, filling-done}
+use Rattle.lists.proofs.FillLaws.{Filling, filling-none, filling-length, filling-more, filling-done}
+use Rattle.resample.proofs.RowFillLaws.{filling-drop}
+use Rattle.grid.specs.Sides.{cellOf}
 use Rattle.grid.specs.Heights.{firstNotFinite, FiniteBelow}
-use Rattle.grid.proofs.SidesLaws.{column-lt, row-lt, cells-bound}
+use Rattle.grid.proofs.SidesLaws.{column-cell, row-cell, cell-lt, cells-bound}
 use Rattle.grid.proofs.HeightsLaws.{below-none, below-more, first-at, first-none}
-use Rattle.stream.specs.Stream.{rowLength, cellAt, heightsAt, Framed}
+use Rattle.stream.specs.Stream.{rowLength, heightAt, cellAt, heightsAt, Framed}
+
+-- a walk along the rows: P holds of the number of cells before column x of row y
+pub record Walked (w h : ℕ) (P : ℕ → Type 0) (x y : ℕ) : Type 0 where
+  pub column : x ≤ w
+  pub row : y ≤ h
+  pub cells : P (cellOf w x y)
+
+walked-none : {w h : ℕ} {P : ℕ → Type 0} → P 0 → Walked w h P 0 0
+walked-none {w} {h} {P} p =
+    let e : 0 ≡ cellOf w 0 0 = omega arith in
+    record { column = omega arith; row = omega arith; cells = subst P e p }
+
+walked-more : {w h x y : ℕ} {P Q : ℕ → Type 0} → Walked w h P x y → x < w → Q (cellOf w x y + 1) → Walked w h Q (x + 1) y
+walked-more {w} {h} {x} {y} {P} {Q} p hx q =
+    let e : cellOf w x y + 1 ≡ cellOf w (x + 1) y = omega arith in
+    record { column = omega arith; row = p .row; cells = subst Q e q }
+
+pub walked-row : {w h x y : ℕ} {P : ℕ → Type 0} → Walked w h P x y → w ≤ x → y < h → Walked w h P 0 (y + 1)
+walked-row {w} {h} {x} {y} {P} p l hy =
+    let e : cellOf w x y ≡ cellOf w 0 (y + 1) = omega (arith, p .column) in
+    record { column = omega arith; row = omega arith; cells = subst P e (p .cells) }
+
+walked-done : {w h y : ℕ} {P : ℕ → Type 0} → Walked w h P 0 y → h ≤ y → P (w * h)
+walked-done {w} {h} {y} {P} p l =
+    let same : y ≡ h = omega (arith, p .row) in
+    let e : cellOf w 0 y ≡ w * h = omega (arith, ap (λ (k : ℕ). k * w) same, mul-comm w h) in
+    subst P e (p .cells)
+
+-- a list as a loop that fills it has left it
+settled : {f : ℕ → Float} {i : ℕ} {old new : List Float} → Filling f i old new → Filling f i new new
+settled {f} {i} {old} {new} p =
+    record { held = p .held ∙ ap (λ (l : List Float). tabulate i f ++ l) (sym (filling-drop p)); within = omega (arith, p .within, filling-length p) }
 
 module _ {s : List ℕ} {rows w h : ℕ} (f : Framed s rows w h) where
   pub cells-few : w * h ≤ 2 ^ 24
   cells-few = cells-bound w h (f .sides .wide) (f .sides .high)
 
-  pub cell-inside : (i : ℕ) → i < w * h → rows + i / w * (2 + 4 * w) + (2 + 4 * (i % w)) + 4 ≤ length s
-  cell-inside i l =
-      let below : suc (i / w) ≤ h = row-lt w h i l in
-      let n : suc (i / w) * rowLength w ≤ h * rowLength w = mul-le-mul below (omega arith) in
-      omega (arith, f .whole, column-lt w h i l, n)
+  module _ {x y : ℕ} (hx : x < w) (hy : y < h) where
+    pub cell-few : cellOf w x y < 2 ^ 24
+    cell-few = omega (arith, cells-few, cell-lt w x y hx h hy)
+
+    pub height-inside : rows + y * (2 + 4 * w) + (2 + 4 * x) + 4 ≤ length s
+    height-inside =
+        let n : suc y * rowLength w ≤ h * rowLength w = mul-le-mul hy (omega arith) in
+        omega (arith, f .whole, n)
 
 module _ (s : List ℕ) (rows w h : ℕ) where
   pub heights-length : length (heightsAt s rows w h) ≡ w * h
   unfolding heightsAt
   heights-length = length-tabulate (cellAt s rows w) (w * h)
 
-  height-is : (i : ℕ) → i < w * h → getD (heightsAt s rows w h) i nan ≡ cellAt s rows w i
+  -- the search: no cell before column x of row y is bad
+  abbrev pub Sought : ℕ → ℕ → Type 0
+  Sought = Walked w h (FiniteBelow (heightsAt s rows w h))
+
+  -- the map holds the first i heights
+  pub record Loaded (map : List Float) (i : ℕ) : Type 0 where
+    pub full : length map ≡ w * h
+    pub values : Filling (cellAt s rows w) i map map
+
+  abbrev pub Loading : List Float → ℕ → ℕ → Type 0
+  Loading map = Walked w h (Loaded map)
+
+  pub sought-none : Sought 0 0
+  sought-none = walked-none (below-none (heightsAt s rows w h) 0 (omega arith))
+
+  pub loading-none : {map : List Float} → length map ≡ w * h → Loading map 0 0
+  loading-none n = walked-none (record { full = n; values = filling-none })
+
+  module _ {x y : ℕ} (hx : x < w) (hy : y < h) {v : Float} (e : v ≡ heightAt s rows w x y) where
+    inside : cellOf w x y < w * h
+    inside = cell-lt w x y hx h hy
+
+    cell-is : v ≡ cellAt s rows w (cellOf w x y)
+    cell-is = e ∙ sym (ap₂ (heightAt s rows w) (column-cell w x y hx) (row-cell w x y hx))
+
+    module _ (found : Sought x y) {b : Bool} (g : b ≡ finite v) where
+      here : b ≡ finite (getD (heightsAt s rows w h) (cellOf w x y) nan)
+      unfolding heightsAt
+      here = g ∙ ap finite (cell-is ∙ sym (getD-tabulate (cellAt s rows w) (w * h) (cellOf w x y) nan inside))
+
+      pub sought-bad : not b ≡ true → cellOf w x y ≡ firstNotFinite (heightsAt s rows w h)
+      sought-bad t =
+          sym (first-at (record { place = omega (arith, inside, heights-length); bad = sym here ∙ not-true b t; earlier = found .cells }))
+
+      pub sought-more : not b ≡ false → Sought (x + 1) y
+      sought-more t = walked-more found hx (below-more (omega arith) (found .cells) (sym here ∙ not-false b t))
+
+    pub loading-more : {map : List Float} → Loading map x y → Loading (set map (cellOf w x y) v) (x + 1) y
+    loading-more {map} p =
+        let n = p .cells .full in
+        let q = filling-more (p .cells .values) cell-is (omega (arith, n, inside)) in
+        walked-more p hx (record { full = filling-length q ∙ n; values = settled q })
+
+  pub sought-done : {y : ℕ} → Sought 0 y → h ≤ y → w * h ≡ firstNotFinite (heightsAt s rows w h)
+  sought-done found l =
+      sym (first-none (heightsAt s rows w h) (rw heights-length (walked-done found l)) ∙ heights-length)
+
+  pub loading-done : {y : ℕ} {map : List Float} → Loading map 0 y → h ≤ y → map ≡ heightsAt s rows w h
   unfolding heightsAt
-  height-is i l = getD-tabulate (cellAt s rows w) (w * h) i nan l
-
-  -- the search: no cell before i is bad
-  pub record Sought (i : ℕ) : Type 0 where
-    pub within : i ≤ w * h
-    pub below : FiniteBelow (heightsAt s rows w h) i
-
-  pub sought-none : Sought 0
-  sought-none = record { within = omega arith; below = below-none (heightsAt s rows w h) 0 (omega arith) }
-
-  module _ {i : ℕ} (found : Sought i) (l : i < w * h) {x : Float} (e : x ≡ cellAt s rows w i) {b : Bool} (g : b ≡ finite x) where
-    here : b ≡ finite (getD (heightsAt s rows w h) i nan)
-    here = g ∙ ap finite (e ∙ sym (height-is i l))
-
-    pub sought-bad : not b ≡ true → i ≡ firstNotFinite (heightsAt s rows w h)
-    sought-bad t =
-        sym (first-at (record { place = subst (λ (n : ℕ). i < n) (sym heights-length) l; bad = sym here ∙ not-true b t; earlier = found .below }))
-
-    pub sought-more : not b ≡ false → Sought (i + 1)
-    sought-more t = record { within = omega arith; below = below-more (omega arith) (found .below) (sym here ∙ not-false b t) }
-
-  pub sought-done : {i : ℕ} → Sought i → w * h ≤ i → w * h ≡ firstNotFinite (heightsAt s rows w h)
-  sought-done {i} found l =
-      let e : i ≡ length (heightsAt s rows w h) = omega (arith, found .within, heights-length) in
-      sym (first-none (heightsAt s rows w h) (subst (FiniteBelow (heightsAt s rows w h)) e (found .below)) ∙ heights-length)
-
--- the loop that loads the map has loaded every height
-pub loaded-done : (s : List ℕ) (rows w h : ℕ) {old new : List Float} {i : ℕ} → Filling (cellAt s rows w) i old new → length old ≡ w * h → w * h ≤ i
-    → new ≡ heightsAt s rows w h
-unfolding heightsAt
-loaded-done s rows w h p n l = filling-done p (w * h) n l
+  loading-done p l = let all = walked-done p l in filling-done (all .values) (w * h) (all .full) (omega arith)

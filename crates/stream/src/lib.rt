@@ -19,7 +19,7 @@ ghost use lib.ListN.{length};
 ghost use Rattle.grid.specs.Sides.{InRange};
 ghost use Rattle.grid.specs.Heights.{firstNotFinite};
 ghost use Rattle.stream_bytes.specs.Bytes.{markAt};
-ghost use Rattle.stream.specs.Stream.{sidesAt, settingsLength, settingsAt, Recorded, headerAt, rowLength, rowsMarked, heightsAt, parsedOf, badGrid, badRest, badSettings, Framed, Whole, fluvialAt, thermalAt, cellAt, valuesOf, readStream, readOf};
+ghost use Rattle.stream.specs.Stream.{sidesAt, settingsLength, settingsAt, Recorded, headerAt, rowLength, rowsMarked, heightsAt, parsedOf, badGrid, badRest, badSettings, Framed, Whole, fluvialAt, thermalAt, heightAt, valuesOf, readStream, readOf};
 
 // The mark of each record.
 pub const GRID: [u8; 2] = *b"GR";
@@ -204,30 +204,39 @@ fn too_many(limited: bool, size: Sides) -> bool
     false
 }
 
-// The height of a cell, where the rows begin at a place.
-fn height(bytes: &[u8], rows: usize, size: Sides, i: usize) -> f32
+// The height of column x, row y, where the rows begin at a place.
+fn height_at(bytes: &[u8], rows: usize, size: Sides, x: usize, y: usize) -> f32
     requires { ⌜ Framed (now bytes) rows (size .w) (size .h) ⌝ }
-    requires { ⌜ i < size .w * size .h ⌝ }
-    ensures { λ r. ⌜ r ≡ cellAt (now (bytes .entry)) rows (size .w) i ⌝ }
+    requires { ⌜ x < size .w ⌝ }
+    requires { ⌜ y < size .h ⌝ }
+    ensures { λ r. ⌜ r ≡ heightAt (now (bytes .entry)) rows (size .w) x y ⌝ }
 {
-    let row = i / size.w * (2 + 4 * size.w);
-    read_f32(bytes, rows + row + (2 + 4 * (i % size.w)))
+    let row = rows + y * (2 + 4 * size.w);
+    read_f32(bytes, row + (2 + 4 * x))
 }
 
-// The first cell whose height is not finite; the number of cells where every height is finite.
+// The first cell, row by row, whose height is not finite; w × h where every height is finite.
 fn first_bad_height(bytes: &[u8], rows: usize, size: Sides) -> usize
     requires { ⌜ Framed (now bytes) rows (size .w) (size .h) ⌝ }
     ensures { λ r. ⌜ r ≡ firstNotFinite (heightsAt (now (bytes .entry)) rows (size .w) (size .h)) ⌝ }
 {
-    let n = size.w * size.h;
-    let mut i: usize = 0;
-    while i < n {
-        if !is_finite(height(bytes, rows, size, i)) {
-            return i;
+    let w = size.w;
+    let h = size.h;
+    let mut y: usize = 0;
+    'rows: loop {
+        if h <= y {
+            break 'rows w * h;
         }
-        i += 1;
+        let mut x: usize = 0;
+        while x < w {
+            let cell = x + y * w;
+            if !is_finite(height_at(bytes, rows, size, x, y)) {
+                break 'rows cell;
+            }
+            x += 1;
+        }
+        y += 1;
     }
-    n
 }
 
 // Writes the heights of the stream into the map.
@@ -236,11 +245,16 @@ pub fn load(bytes: &[u8], rows: usize, size: Sides, map: &mut [f32])
     requires { ⌜ length (now map) ≡ size .w * size .h ⌝ }
     ensures { λ _. ⌜ now (map .exit) ≡ heightsAt (now (bytes .entry)) rows (size .w) (size .h) ⌝ }
 {
-    let n = size.w * size.h;
-    let mut i: usize = 0;
-    while i < n {
-        map[i] = height(bytes, rows, size, i);
-        i += 1;
+    let w = size.w;
+    let h = size.h;
+    let mut y: usize = 0;
+    while y < h {
+        let mut x: usize = 0;
+        while x < w {
+            map[x + y * w] = height_at(bytes, rows, size, x, y);
+            x += 1;
+        }
+        y += 1;
     }
 }
 

@@ -1,42 +1,66 @@
-use borrow.Author.Needs.{needs}
+use Prim.Native.Nat.{_-_}
 use native.Mathlib.Omega.{arith}
-use Prim.Native.Nat.{_-_, _*_}
-use Rattle.stream.proofs.CellLaws.{cells-few, Sought, sought-none, sought-bad, sought-more, sought-done}
+use borrow.Author.Needs.{needs}
+use Rattle.stream.proofs.CellLaws.{walked-row, cells-few, cell-few, Sought, sought-none, sought-bad, sought-more, sought-done}
 use Rattle.stream.proofs.first_bad_height.Statement.{statement}
 use Rattle.stream.proofs.first_bad_height.Tie as tie
 
 abbrev Inv-loop : tie.InvT-loop
-Inv-loop bytes rows size n i₀ i = Sought bytes rows (size .w) (size .h) i
+Inv-loop bytes rows size w h y x₀ x = Sought bytes rows w h x y
 
 abbrev μ-loop : tie.MeasureT-loop
-μ-loop bytes rows size n i₀ i = size .w * size .h - i
+μ-loop bytes rows size w h y x₀ x = w - x
 
-mul-n : tie.Need-mul-n Inv-loop μ-loop
-mul-n c = omega (arith, cells-few (c .before .before .pre))
+abbrev Inv-rows : tie.InvT-rows
+Inv-rows bytes rows size w h y₀ y = Sought bytes rows w h 0 y
 
-loop-holds : tie.Need-loop-holds Inv-loop μ-loop
-loop-holds c = sought-none _ _ _ _
+abbrev μ-rows : tie.MeasureT-rows
+μ-rows bytes rows size w h y₀ y = h - y
 
-height-requires : tie.Need-height-requires Inv-loop μ-loop
-height-requires c κs = (c .before .before .before .before .pre, c .loop-test .taken)
+rows-holds : tie.Need-rows-holds Inv-loop μ-loop Inv-rows μ-rows
+rows-holds c = sought-none _ _ _ _
 
-is-finite-requires : tie.Need-is-finite-requires Inv-loop μ-loop
+mul-result : tie.Need-mul-result Inv-loop μ-loop Inv-rows μ-rows
+mul-result c = omega (arith, cells-few (c .before .before .before .pre))
+
+loop-holds : tie.Need-loop-holds Inv-loop μ-loop Inv-rows μ-rows
+loop-holds c = c .before .rows .inv
+
+mul-cell : tie.Need-mul-cell Inv-loop μ-loop Inv-rows μ-rows
+mul-cell c = omega (arith, cell-few (c .before .before .before .before .before .pre) (c .loop-test .taken) (c .before .before .if1 .left))
+
+add-cell : tie.Need-add-cell Inv-loop μ-loop Inv-rows μ-rows
+add-cell c = omega (arith, cell-few (c .before .before .before .before .before .pre) (c .loop-test .taken) (c .before .before .if1 .left))
+
+height-at-requires : tie.Need-height-at-requires Inv-loop μ-loop Inv-rows μ-rows
+height-at-requires c κs = (c .before .before .before .before .before .pre, (c .loop-test .taken, c .before .before .if1 .left))
+
+is-finite-requires : tie.Need-is-finite-requires Inv-loop μ-loop Inv-rows μ-rows
 is-finite-requires c κs = search needs
 
-returns : tie.Need-returns Inv-loop μ-loop
-returns c = sought-bad _ _ _ _ (c .before .before .before .before .loop .inv) (c .before .before .before .loop-test .taken) (c .before .before .height .ensures) (c .before .is-finite .ensures) (c .if1 .taken)
+add-x : tie.Need-add-x Inv-loop μ-loop Inv-rows μ-rows
+add-x c = omega arith
 
-add-i : tie.Need-add-i Inv-loop μ-loop
-add-i c = omega (arith, cells-few (c .before .before .before .before .before .before .before .pre), c .before .before .before .loop-test .taken)
+loop-less : tie.Need-loop-less Inv-loop μ-loop Inv-rows μ-rows
+loop-less c = omega arith
 
-loop-less : tie.Need-loop-less Inv-loop μ-loop
-loop-less c = omega (arith, c .before .before .before .loop-test .taken)
+loop-again : tie.Need-loop-again Inv-loop μ-loop Inv-rows μ-rows
+loop-again c = sought-more _ _ _ _ (c .before .before .before .loop-test .taken) (c .before .before .before .before .before .if1 .left) (c .before .before .height-at .ensures) (c .before .before .before .before .loop .inv) (c .before .is-finite .ensures) (c .if2 .left)
 
-loop-again : tie.Need-loop-again Inv-loop μ-loop
-loop-again c = sought-more _ _ _ _ (c .before .before .before .before .loop .inv) (c .before .before .before .loop-test .taken) (c .before .before .height .ensures) (c .before .is-finite .ensures) (c .if1 .left)
+add-y : tie.Need-add-y Inv-loop μ-loop Inv-rows μ-rows
+add-y c = omega arith
 
-returns-2 : tie.Need-returns-2 Inv-loop μ-loop
-returns-2 c = sought-done _ _ _ _ (c .before .loop .inv) (c .loop-test .left)
+rows-less : tie.Need-rows-less Inv-loop μ-loop Inv-rows μ-rows
+rows-less c = omega arith
+
+rows-again : tie.Need-rows-again Inv-loop μ-loop Inv-rows μ-rows
+rows-again c = walked-row (c .before .loop .inv) (c .loop-test .left) (c .before .before .if1 .left)
+
+returns : tie.Need-returns Inv-loop μ-loop Inv-rows μ-rows
+returns c = sought-done _ _ _ _ (c .before .rows .inv) (c .if1 .taken)
+
+returns-2 : tie.Need-returns-2 Inv-loop μ-loop Inv-rows μ-rows
+returns-2 c = sought-bad _ _ _ _ (c .before .before .before .loop-test .taken) (c .before .before .before .before .before .if1 .left) (c .before .before .height-at .ensures) (c .before .before .before .before .loop .inv) (c .before .is-finite .ensures) (c .if2 .taken)
 
 pub first-bad-height-spec : {M : Type 1} → statement M
 first-bad-height-spec =
@@ -44,12 +68,20 @@ first-bad-height-spec =
     (tie.spec
     Inv-loop
     μ-loop
-    mul-n
+    Inv-rows
+    μ-rows
+    rows-holds
+    mul-result
     loop-holds
-    height-requires
+    mul-cell
+    add-cell
+    height-at-requires
     is-finite-requires
-    returns
-    add-i
+    add-x
     loop-less
     loop-again
+    add-y
+    rows-less
+    rows-again
+    returns
     returns-2)
