@@ -26,9 +26,7 @@ pub mod call {
     pub const INCISE: u32 = 10;
     pub const SLIDE_PASS: u32 = 11;
     pub const ROUTE: u32 = 12;
-    pub const FLUVIAL: u32 = 13;
-    pub const THERMAL: u32 = 14;
-    pub const RELIEF: u32 = 15;
+    pub const RELIEF: u32 = 13;
 }
 
 /// How many floats a task has.
@@ -47,7 +45,6 @@ pub struct Numbers {
     pub size: Sides,
     pub reduced: Sides,
     pub stop: u32,
-    pub iterations: u32,
     pub work_res: u32,
 }
 
@@ -139,7 +136,7 @@ impl List {
         floats.resize(FLOATS, 0.0);
         self.ask(&[t.call, HELD, shown]);
         self.ask(&sides);
-        self.ask(&[n.stop, n.iterations, n.work_res]);
+        self.ask(&[n.stop, n.work_res]);
         self.ask(&words(&floats));
         self.ask_slice(&words(&t.read));
         self.ask_slice(&words(&t.written));

@@ -12,7 +12,6 @@ mod plates;
 mod random;
 mod routes;
 mod rules;
-mod runs;
 mod slides;
 mod source;
 mod standins;
@@ -29,7 +28,7 @@ const SEED: u64 = 7_616_167;
 fn main() -> ExitCode {
     let args: Vec<String> = std::env::args().skip(1).collect();
     let words: Vec<&str> = args.iter().map(String::as_str).collect();
-    let list = || list::of(SEED, &[maps::list, numbers::list, passes::list, routes::list, runs::list, streams::list]);
+    let list = || list::of(SEED, &[maps::list, numbers::list, passes::list, routes::list, streams::list]);
     match words.as_slice() {
         ["list", crates] => {
             let l = list();
@@ -65,7 +64,7 @@ fn main() -> ExitCode {
             ExitCode::SUCCESS
         }
         _ => {
-            eprintln!("usage: oracle list CRATES | oracle verify CRATES | oracle powf");
+            eprintln!("usage: oracle list CRATES | oracle verify CRATES | oracle relief | oracle powf");
             ExitCode::FAILURE
         }
     }

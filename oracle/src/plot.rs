@@ -91,7 +91,9 @@ fn main() {
     let (cells, times) = ((least, most.max(least * 4.0)), ends(&rows));
     let width = LEFT + (PANEL.0 + LEFT) * terrains.len() as f64;
     let height = TOP + PANEL.1 + 40.0 + 20.0 * calls.len() as f64;
-    println!(r##"<svg xmlns="http://www.w3.org/2000/svg" viewBox="0 0 {width} {height}" font-family="sans-serif" font-size="12">"##);
+    println!(
+        r##"<svg xmlns="http://www.w3.org/2000/svg" viewBox="0 0 {width} {height}" font-family="sans-serif" font-size="12">"##
+    );
     println!(r##"<rect width="{width}" height="{height}" fill="white"/>"##);
     for (p, terrain) in terrains.iter().enumerate() {
         let x = LEFT + (PANEL.0 + LEFT) * p as f64;

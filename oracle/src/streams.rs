@@ -1,13 +1,14 @@
 //! The last part of the list: streams, whole and damaged, with what `relief` prints.
 mod damage;
+mod runs;
 
 use crate::list::{call, List};
 use crate::random::Random;
 use crate::rules::streams::{grid_record, relief, row_records, Asked, Kind, Printed, FLUVIAL, THERMAL};
 use crate::rules::Sides;
-use crate::runs::{self, Maker, Task};
 use crate::source::erosion::Settings;
 use crate::terrain::{self, grid, EXTREME, KINDS, RELIEFS, TINY};
+use runs::{deep, on_relief, steep, Maker};
 
 const BOTH: [Kind; 2] = [Kind::Fluvial, Kind::Thermal];
 
@@ -43,19 +44,6 @@ fn asked(kind: Kind, size: Sides, s: Settings, map: Vec<f32>) -> Asked {
     Asked { kind, size, s, stop: 0, map }
 }
 
-/// A run of the list as a stream.
-fn task(t: Task) -> Asked {
-    let kind = if t.call == call::FLUVIAL { Kind::Fluvial } else { Kind::Thermal };
-    Asked { kind, size: t.size, s: t.s, stop: t.stop, map: t.map }
-}
-
-fn call(kind: Kind) -> u32 {
-    match kind {
-        Kind::Fluvial => call::FLUVIAL,
-        Kind::Thermal => call::THERMAL,
-    }
-}
-
 /// A stream of the list, counted by what it comes to.
 fn put(l: &mut List, bytes: &[u8]) -> Printed {
     let p = relief(bytes);
@@ -84,58 +72,62 @@ pub fn list(l: &mut List, r: &mut Random) {
     run_offs(l, r);
 }
 
-/// Document 01's example with S 0 to 3, and other runs on one cell.
+/// Document 01's example with S 0 to 3, and other runs on one cell: iterations whose questions depend on binary32, working sides, no iteration and
+/// the most.
 fn cells(l: &mut List) {
     for kind in BOTH {
         let one = |s: Settings, h: f32| asked(kind, (1, 1), s, vec![h]);
         for stop in [0, 1, 2, 3, u32::MAX] {
             put(l, &stream(&Asked { stop, ..one(EXAMPLE, 1.0) }));
         }
-        for iterations in [0, 2, 51, 100, 4096] {
-            for work_res in [0, 512, u32::MAX] {
+        for iterations in [0, 1, 2, 50, 51, 99, 100, 101, 511, 512, 513, 4095, 4096] {
+            for work_res in [0, 1, 512, u32::MAX] {
                 put(l, &stream(&one(Settings { iterations, work_res, ..EXAMPLE }, 1.0)));
             }
         }
         for h in [0.0, -0.0, TINY, -1.0, f32::MAX] {
-            put(l, &stream(&one(Settings { uplift: 1.0, ..EXAMPLE }, h)));
+            put(l, &stream(&one(Settings { uplift: 1.0, iterations: 3, ..EXAMPLE }, h)));
         }
     }
 }
 
 /// Random settings on every kind of relief; then large grids, up to the longest stream that is accepted.
 fn reliefs(l: &mut List, r: &mut Random) {
-    for i in 0..208 {
-        let size = grid(r, i / 2, if i % 52 < 2 { 20 } else { 7 });
-        let mut t = runs::task(r, call(BOTH[i % 2]), size, i / 2 % RELIEFS, if i % 10 < 2 { 60 } else { 5 });
-        t.stop = r.pick(&[0, 0, 0, 2, 7, 40]);
-        put(l, &stream(&task(t)));
+    for i in 0..600 {
+        let size = grid(r, i / 2 / RELIEFS, if i % 40 < 2 { 30 } else { 9 });
+        let most = if i % 10 < 2 { 60 } else { 5 };
+        let mut a = on_relief(r, BOTH[i % 2], size, i / 2 % RELIEFS, most);
+        a.stop = r.pick(&[0, 0, 0, 2, 7, 40]);
+        put(l, &stream(&a));
     }
-    for (kind, size, shape, iterations, work_res) in [
-        (Kind::Fluvial, (64, 64), 0, 6, 512),
-        (Kind::Thermal, (64, 64), KINDS + 2, 90, 31),
-        (Kind::Fluvial, (60, 40), KINDS + 4, 9, 33),
-        (Kind::Thermal, (40, 60), 0, 60, 60),
-        (Kind::Fluvial, (300, 1), 0, 2, 512),
-        (Kind::Thermal, (1, 300), 0, 5, 100),
-        (Kind::Fluvial, (1, 4096), 0, 1, 777),
-        (Kind::Thermal, (4096, 1), 0, 1, 4096),
-    ] {
-        let map = terrain::relief(r, size, shape);
-        let mut bytes = stream(&asked(kind, size, Settings { iterations, work_res, ..LAND }, map));
-        put(l, &bytes);
-        if size == (1, 4096) {
-            bytes.push(0);
+    for kind in BOTH {
+        for (size, shape, iterations, work_res) in [
+            ((64, 64), 0, 6, 512),
+            ((64, 64), KINDS + 2, 20, 31),
+            ((60, 40), KINDS + 4, 9, 60),
+            ((40, 60), 0, 30, 47),
+            ((1100, 3), 0, 2, 4096),
+            ((2, 1100), 0, 3, 777),
+            ((4096, 1), 0, 1, 4096),
+            ((1, 4096), 0, 1, 777),
+        ] {
+            let map = terrain::relief(r, size, shape);
+            let mut bytes = stream(&asked(kind, size, Settings { iterations, work_res, ..LAND }, map));
             put(l, &bytes);
+            if size == (1, 4096) {
+                bytes.push(0);
+                put(l, &bytes);
+            }
         }
     }
 }
 
-/// S at each question and past the last.
+/// S at each question and past the last, of full-grid and of reduced runs.
 fn stops(l: &mut List, r: &mut Random) {
-    for i in 0..16 {
-        let size = grid(r, i / 2, 4);
+    for i in 0..24 {
+        let size = grid(r, i / 2, 5);
         let shape = if i % 8 < 2 { EXTREME } else { i / 2 % RELIEFS };
-        let mut a = task(runs::task(r, call(BOTH[i % 2]), size, shape, 3));
+        let mut a = on_relief(r, BOTH[i % 2], size, shape, 3);
         let asked = put(l, &stream(&a)).ran.map_or(0, |(_, run)| run.counts.questions);
         for stop in 1..=asked + 1 {
             a.stop = stop;
@@ -146,7 +138,7 @@ fn stops(l: &mut List, r: &mut Random) {
 
 /// Runs that run off, until each place has some, with a stop at their first questions.
 fn run_offs(l: &mut List, r: &mut Random) {
-    let (steep, deep): (Maker, Maker) = (runs::steep, runs::deep);
+    let (steep, deep): (Maker, Maker) = (steep, deep);
     for (kind, place, make) in [
         (Kind::Fluvial, "downsampling", steep),
         (Kind::Fluvial, "an incision", steep),
@@ -157,13 +149,12 @@ fn run_offs(l: &mut List, r: &mut Random) {
         (Kind::Thermal, "a pass", steep),
     ] {
         let mut found = 0;
-        while found < 5 {
-            let t = make(r, call(kind));
-            let ended = runs::ask(&t);
-            if ended.ran_off == Some(place) {
+        while found < 8 {
+            let mut a = make(r, kind);
+            let Some((_, run)) = relief(&stream(&a)).ran else { continue };
+            if run.ran_off == Some(place) {
                 found += 1;
-                let mut a = task(t);
-                for stop in 0..=ended.counts.questions.min(3) {
+                for stop in 0..=run.counts.questions.min(6) {
                     a.stop = stop;
                     put(l, &stream(&a));
                 }

@@ -1,5 +1,5 @@
 // Replays the oracle's list: reads tasks, makes the calls, writes the answers, which the file stdout fixes. oracle/README.md has the words of
-// each task and answer. Scratch is a whole room, longer than any grid of the list.
+// each task and answer. Scratch is a whole room, longer than any grid of the list; whole runs are streams for `relief`.
 use floats::from_bits;
 use floats::to_bits;
 use harness::harness_incise;
@@ -12,8 +12,6 @@ use harness_calls::harness_downsample;
 use harness_calls::harness_greatest;
 use harness_calls::harness_least;
 use harness_calls::harness_normalize;
-use harness_runs::harness_fluvial_run;
-use harness_runs::harness_thermal_run;
 use layout_calls::milofavurn_square_root;
 use layout_calls::milofavurn_working_sides;
 use output::Written;
@@ -47,7 +45,6 @@ struct Task {
     dw: usize,
     dh: usize,
     stop: u32,
-    iterations: u32,
     side: u32,
     f0: f32,
     f1: f32,
@@ -68,7 +65,6 @@ fn read_task() -> Task {
         dw: wide(word()),
         dh: wide(word()),
         stop: word(),
-        iterations: word(),
         side: word(),
         f0: float(),
         f1: float(),
@@ -201,57 +197,6 @@ fn route(t: Task, map: &[f32], spill: &mut [f32]) -> u64 {
     answer
 }
 
-fn thermal(t: Task, map: &mut [f32]) -> u64 {
-    let mut small = float_room(t.height);
-    let mut eroded = float_room(t.height);
-    let mut copy = float_room(t.height);
-    harness_thermal_run(
-        t.w,
-        t.h,
-        map,
-        t.f0,
-        t.f1,
-        t.f2,
-        t.iterations,
-        t.side,
-        t.stop,
-        &mut small,
-        &mut eroded,
-        &mut copy,
-    )
-}
-
-fn fluvial(t: Task, map: &mut [f32]) -> u64 {
-    let mut small = float_room(t.height);
-    let mut eroded = float_room(t.height);
-    let mut copy = float_room(t.height);
-    let mut area = float_room(t.height);
-    let mut order = cell_room(t.cell);
-    let mut recv = cell_room(t.cell);
-    let mut queue = cell_room(t.cell);
-    let mut status = state_room(t.state);
-    harness_fluvial_run(
-        t.w,
-        t.h,
-        map,
-        t.f0,
-        t.f1,
-        t.f2,
-        t.f3,
-        t.iterations,
-        t.side,
-        t.stop,
-        &mut small,
-        &mut eroded,
-        &mut copy,
-        &mut area,
-        &mut order,
-        &mut recv,
-        &mut queue,
-        &mut status,
-    )
-}
-
 // The call of a task, on the map that it reads and the one that it writes.
 fn perform(call: u32, t: Task, read: &[f32], written: &mut [f32]) -> u64 {
     match call {
@@ -266,9 +211,7 @@ fn perform(call: u32, t: Task, read: &[f32], written: &mut [f32]) -> u64 {
         9 => report(t),
         10 => incise(t, read, written),
         11 => slide_pass(t, read, written),
-        12 => route(t, read, written),
-        13 => fluvial(t, written),
-        _ => thermal(t, written),
+        _ => route(t, read, written),
     }
 }
 
@@ -304,7 +247,7 @@ fn replay_task() -> bool {
     let call = word();
     match call {
         0 => return false,
-        15 => replay_relief(),
+        13 => replay_relief(),
         _ => replay_call(call, read_task()),
     }
     true

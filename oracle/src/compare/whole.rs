@@ -42,7 +42,10 @@ fn compared(t: &mut Tally, kind: Kind, l: &Land, s: &Settings, stop: u32, room: 
     let input = || {
         let floats = [s.water_level, s.strength, s.talus, s.uplift].map(f32::to_bits);
         let rest = (s.iterations, s.work_res, stop);
-        format!("settings {floats:08x?}, iterations, working side, S {rest:?}, scratch {room:?}, {}", shown(l.size, &l.h))
+        format!(
+            "settings {floats:08x?}, iterations, working side, S {rest:?}, scratch {room:?}, {}",
+            shown(l.size, &l.h)
+        )
     };
     t.compared(name, number(&run.answer), alike, l.h.len(), input);
     run.counts.questions
