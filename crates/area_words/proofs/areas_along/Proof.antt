@@ -4,27 +4,21 @@ use borrow.Author.Needs.{needs}
 use Rattle.area_words.proofs.areas_along.Statement.{statement}
 use Rattle.area_words.proofs.areas_along.Tie as tie
 
--- src/lib.rt:94:13
 areas-by-words-requires : tie.Need-areas-by-words-requires
 areas-by-words-requires c κs = network-of (c .before .if2 .taken) (c .before .before .before .before .before .before .pre .0) (c .before .before .before .before .before .before .pre .1)
 
--- src/lib.rt:95:13
 same-length : tie.Need-same-length
 same-length c = search needs
 
--- src/lib.rt:95:13
 returns : tie.Need-returns
 returns c = search needs
 
--- src/lib.rt:98:5
 accumulate-requires : tie.Need-accumulate-requires
 accumulate-requires c κs = along-of (c .before .before .before .before .before .pre .0) (c .before .before .before .before .before .pre .1)
 
--- src/lib.rt:87:1
 same-length-2 : tie.Need-same-length-2
 same-length-2 c = search needs
 
--- src/lib.rt:87:1
 returns-2 : tie.Need-returns-2
 returns-2 c = search needs
 

@@ -14,51 +14,39 @@ Inv-loop width recv order area₀ k₀ area k = Summing width recv order k area
 abbrev μ-loop : tie.MeasureT-loop
 μ-loop width recv order area₀ k₀ area k = k
 
--- src/lib.rt:77:5
 first-words-requires : tie.Need-first-words-requires Inv-loop μ-loop
 first-words-requires c κs = c .before .before .before .before .pre .0
 
--- src/lib.rt:79:5
 loop-holds : tie.Need-loop-holds Inv-loop μ-loop
 loop-holds c = summing-none (c .before .before .before .before .before .before .before .pre .0) (c .before .before .first-words .ensures)
 
--- src/lib.rt:80:9
 sub-k : tie.Need-sub-k Inv-loop μ-loop
 sub-k c = omega (arith, c .loop-test .taken)
 
--- src/lib.rt:81:30
 mul-pass-on : tie.Need-mul-pass-on Inv-loop μ-loop
 mul-pass-on c = omega (arith, c .before .before .loop .inv .place, list-length (c .before .before .before .before .before .before .before .before .before .before .pre .1), c .before .before .before .before .before .before .before .before .before .before .pre .0 .steps .few)
 
--- src/lib.rt:81:30
 shared-slice-read-pass-on : tie.Need-shared-slice-read-pass-on Inv-loop μ-loop
 shared-slice-read-pass-on c = omega (arith, c .before .before .before .loop .inv .place, c .before .before .loop-test .taken)
 
--- src/lib.rt:81:30
 cast-pass-on : tie.Need-cast-pass-on Inv-loop μ-loop
 cast-pass-on c = omega (arith, entry (c .before .before .before .before .before .before .before .before .before .before .before .pre .0) (c .before .before .before .loop .inv) (c .before .before .before .before .before .before .before .before .before .before .before .pre .1) (c .before .before .loop-test .taken), c .before .before .before .before .before .before .before .before .before .before .before .pre .0 .steps .few)
 
--- src/lib.rt:81:9
 pass-on-requires : tie.Need-pass-on-requires Inv-loop μ-loop
 pass-on-requires c κs = summing-passing (c .before .before .before .before .before .before .before .before .before .before .before .pre .0) (c .before .before .before .loop .inv) _ (entry (c .before .before .before .before .before .before .before .before .before .before .before .pre .0) (c .before .before .before .loop .inv) (c .before .before .before .before .before .before .before .before .before .before .before .pre .1) (c .before .before .loop-test .taken))
 
--- src/lib.rt:79:5
 loop-less : tie.Need-loop-less Inv-loop μ-loop
 loop-less c = omega (arith, c .before .before .before .before .before .loop-test .taken)
 
--- src/lib.rt:79:5
 loop-again : tie.Need-loop-again Inv-loop μ-loop
 loop-again c = summing-more (c .before .before .before .before .before .before .before .before .before .before .before .before .before .before .pre .0) (c .before .before .before .before .before .before .loop .inv) (c .before .before .before .before .before .before .before .before .before .before .before .before .before .before .pre .1) (c .before .before .before .before .before .loop-test .taken) (c .before .before .pass-on .ensures) (c .before .before .pass-on .kept .1 .0)
 
--- src/lib.rt:83:5
 read-areas-requires : tie.Need-read-areas-requires Inv-loop μ-loop
 read-areas-requires c κs = summing-words (c .before .before .before .before .before .before .before .before .before .before .pre .0) (c .before .before .loop .inv)
 
--- src/lib.rt:72:1
 same-length : tie.Need-same-length Inv-loop μ-loop
 same-length c = c .before .before .read-areas .kept .0 ∙ c .before .before .before .before .before .loop .inv .long ∙ sym (c .before .before .before .before .before .before .before .before .before .before .before .before .before .pre .0 .long)
 
--- src/lib.rt:72:1
 returns : tie.Need-returns Inv-loop μ-loop
 returns c = c .before .before .read-areas .ensures ∙ summing-done (c .before .before .before .before .before .before .before .before .before .before .before .before .before .pre .0) (c .before .before .before .before .before .loop .inv) (c .before .before .before .before .before .before .before .before .before .before .before .before .before .pre .1) (c .before .before .before .before .loop-test .left) ∙ rw (c .before .before .before .before .before .before .before .before .before .before .before .before .before .pre .0 .long)
 

@@ -16,63 +16,48 @@ Inv-loop width recv words₀ w n i₀ words i = Filling (λ c. ofBits binary32 (
 abbrev μ-loop : tie.MeasureT-loop
 μ-loop width recv words₀ w n i₀ words i = length recv - i
 
--- src/lib.rt:35:13
 cast-w : tie.Need-cast-w Inv-loop μ-loop
 cast-w c = omega (arith, c .before .before .pre .steps .wide)
 
--- src/lib.rt:38:5
 loop-holds : tie.Need-loop-holds Inv-loop μ-loop
 loop-holds c = filling-none
 
--- src/lib.rt:39:48
 cast-step-of : tie.Need-cast-step-of Inv-loop μ-loop
 cast-step-of c = omega (arith, c .loop-test .taken, c .before .before .before .before .pre .steps .few)
 
--- src/lib.rt:39:58
 mul-step-of : tie.Need-mul-step-of Inv-loop μ-loop
 mul-step-of c = omega (arith, c .loop-test .taken, c .before .before .before .before .pre .steps .few)
 
--- src/lib.rt:39:58
 shared-slice-read-step-of : tie.Need-shared-slice-read-step-of Inv-loop μ-loop
 shared-slice-read-step-of c = omega (arith, c .before .loop-test .taken)
 
--- src/lib.rt:39:40
 step-of-requires : tie.Need-step-of-requires Inv-loop μ-loop
 step-of-requires c κs = let p = c .before .before .before .before .before .pre in let l = c .before .loop-test .taken in (p .steps .near _ l, (p .columns, omega (arith, l, p .steps .few), omega (arith, p .steps .inside _ l, p .steps .few)))
 
--- src/lib.rt:39:35
 add-words : tie.Need-add-words Inv-loop μ-loop
 add-words c = omega (arith, step-small (c .before .before .before .before .before .before .pre) (c .before .before .loop-test .taken), c .step-of .ensures)
 
--- src/lib.rt:39:20
 float-from-bits-words : tie.Need-float-from-bits-words Inv-loop μ-loop
 float-from-bits-words c = no-nan-pattern _ (omega (arith, step-small (c .before .before .before .before .before .before .pre) (c .before .before .loop-test .taken), c .step-of .ensures))
 
--- src/lib.rt:39:9
 mul-words : tie.Need-mul-words Inv-loop μ-loop
 mul-words c = omega (arith, c .before .before .loop-test .taken, c .before .before .before .before .before .before .pre .steps .few)
 
--- src/lib.rt:39:9
 slice-write-words : tie.Need-slice-write-words Inv-loop μ-loop
 slice-write-words c = omega (arith, c .before .before .loop-test .taken, filling-length (c .before .before .before .loop .inv), c .before .before .before .before .before .before .pre .long)
 
--- src/lib.rt:40:9
 add-i : tie.Need-add-i Inv-loop μ-loop
 add-i c = omega (arith, c .before .before .loop-test .taken, c .before .before .before .before .before .before .pre .steps .few)
 
--- src/lib.rt:38:5
 loop-less : tie.Need-loop-less Inv-loop μ-loop
 loop-less c = omega (arith, c .before .before .loop-test .taken)
 
--- src/lib.rt:38:5
 loop-again : tie.Need-loop-again Inv-loop μ-loop
 loop-again c = filling-more (c .before .before .before .loop .inv) (ap (λ (s : ℕ). ofBits binary32 (16 + s)) (c .step-of .ensures)) (omega (arith, c .before .before .loop-test .taken, c .before .before .before .before .before .before .pre .long))
 
--- src/lib.rt:31:1
 same-length : tie.Need-same-length Inv-loop μ-loop
 same-length c = filling-length (c .before .loop .inv)
 
--- src/lib.rt:31:1
 returns : tie.Need-returns Inv-loop μ-loop
 returns c = filling-done (c .before .loop .inv) _ (c .before .before .before .before .pre .long) (c .loop-test .left)
 

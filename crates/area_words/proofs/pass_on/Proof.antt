@@ -6,83 +6,63 @@ use Rattle.area_words.proofs.WordLaws.{word-plain, word-small}
 use Rattle.area_words.proofs.pass_on.Statement.{statement}
 use Rattle.area_words.proofs.pass_on.Tie as tie
 
--- src/lib.rt:49:29
 mul-word : tie.Need-mul-word
 mul-word c = search needs
 
--- src/lib.rt:49:29
 slice-read-word : tie.Need-slice-read-word
 slice-read-word c = search needs
 
--- src/lib.rt:49:16
 float-to-bits-word : tie.Need-float-to-bits-word
 float-to-bits-word c = word-plain (c .before .pre .all _ (c .before .pre .cell))
 
--- src/lib.rt:50:16
 cast-step : tie.Need-cast-step
 cast-step c = search needs
 
--- src/lib.rt:51:13
 add-r : tie.Need-add-r
 add-r c = search needs
 
--- src/lib.rt:51:28
 mul-r : tie.Need-mul-r
 mul-r c = search needs
 
--- src/lib.rt:51:13
 add-r-2 : tie.Need-add-r-2
 add-r-2 c = search needs
 
--- src/lib.rt:51:13
 sub-r : tie.Need-sub-r
 sub-r c = search needs
 
--- src/lib.rt:51:13
 sub-r-2 : tie.Need-sub-r-2
 sub-r-2 c = search needs
 
--- src/lib.rt:53:9
 returns : tie.Need-returns
 returns c = rw (eq-eqb _ _ (c .if1 .taken))
 
--- src/lib.rt:55:44
 mul-words : tie.Need-mul-words
 mul-words c = search needs
 
--- src/lib.rt:55:44
 slice-read-words : tie.Need-slice-read-words
 slice-read-words c = search needs
 
--- src/lib.rt:55:31
 float-to-bits-words : tie.Need-float-to-bits-words
 float-to-bits-words c = word-plain (c .before .before .before .pre .all _ (c .before .before .before .pre .inside))
 
--- src/lib.rt:55:57
 sub-words : tie.Need-sub-words
 sub-words c = search needs
 
--- src/lib.rt:55:31
 add-words : tie.Need-add-words
 add-words c = omega (arith, word-small (c .before .before .before .pre .all _ (c .before .before .before .pre .cell)), word-small (c .before .before .before .pre .all _ (c .before .before .before .pre .inside)))
 
--- src/lib.rt:55:16
 float-from-bits-words : tie.Need-float-from-bits-words
 float-from-bits-words c = no-nan-pattern _ (omega (arith, word-small (c .before .before .before .pre .all _ (c .before .before .before .pre .cell)), word-small (c .before .before .before .pre .all _ (c .before .before .before .pre .inside))))
 
--- src/lib.rt:55:5
 mul-words-2 : tie.Need-mul-words-2
 mul-words-2 c = search needs
 
--- src/lib.rt:55:5
 slice-write-words : tie.Need-slice-write-words
 slice-write-words c = search needs
 
--- src/lib.rt:45:1
 same-length : tie.Need-same-length
 same-length c = search needs
 
--- src/lib.rt:45:1
 returns-2 : tie.Need-returns-2
 returns-2 c = rw (ne-eqb _ _ (c .before .if1 .left))
 

@@ -15,51 +15,39 @@ Inv-loop words₀ n i₀ words i = Filling (λ c. areaIn (getD words₀ c nan)) 
 abbrev μ-loop : tie.MeasureT-loop
 μ-loop words₀ n i₀ words i = length words₀ - i
 
--- src/lib.rt:65:5
 loop-holds : tie.Need-loop-holds Inv-loop μ-loop
 loop-holds c = filling-none
 
--- src/lib.rt:66:34
 mul-words : tie.Need-mul-words Inv-loop μ-loop
 mul-words c = omega (arith, c .loop-test .taken)
 
--- src/lib.rt:66:34
 slice-read-words : tie.Need-slice-read-words Inv-loop μ-loop
 slice-read-words c = omega (arith, c .before .loop-test .taken, filling-length (c .before .before .loop .inv))
 
--- src/lib.rt:66:21
 float-to-bits-words : tie.Need-float-to-bits-words Inv-loop μ-loop
 float-to-bits-words c = word-plain (subst Word (sym (filling-next (c .before .before .loop .inv) nan)) (c .before .before .before .pre _ (c .before .loop-test .taken)))
 
--- src/lib.rt:66:20
 int-to-float-words : tie.Need-int-to-float-words Inv-loop μ-loop
 int-to-float-words c = word-float (subst Word (sym (filling-next (c .before .before .before .loop .inv) nan)) (c .before .before .before .before .pre _ (c .before .before .loop-test .taken)))
 
--- src/lib.rt:66:9
 mul-words-2 : tie.Need-mul-words-2 Inv-loop μ-loop
 mul-words-2 c = omega (arith, c .before .before .loop-test .taken)
 
--- src/lib.rt:66:9
 slice-write-words : tie.Need-slice-write-words Inv-loop μ-loop
 slice-write-words c = omega (arith, c .before .before .loop-test .taken, filling-length (c .before .before .before .loop .inv))
 
--- src/lib.rt:67:9
 add-i : tie.Need-add-i Inv-loop μ-loop
 add-i c = omega (arith, c .before .before .loop-test .taken)
 
--- src/lib.rt:65:5
 loop-less : tie.Need-loop-less Inv-loop μ-loop
 loop-less c = omega (arith, c .before .before .loop-test .taken)
 
--- src/lib.rt:65:5
 loop-again : tie.Need-loop-again Inv-loop μ-loop
 loop-again c = filling-more (c .before .before .before .loop .inv) (ap areaIn (filling-next (c .before .before .before .loop .inv) nan)) (c .before .before .loop-test .taken)
 
--- src/lib.rt:59:1
 same-length : tie.Need-same-length Inv-loop μ-loop
 same-length c = filling-length (c .before .loop .inv)
 
--- src/lib.rt:59:1
 returns : tie.Need-returns Inv-loop μ-loop
 returns c = filling-done (c .before .loop .inv) _ refl (c .loop-test .left)
 

@@ -3,31 +3,24 @@ use borrow.Author.Needs.{needs}
 use Rattle.cuts.proofs.distance.Statement.{statement}
 use Rattle.cuts.proofs.distance.Tie as tie
 
--- src/lib.rt:30:9
 receiver-distance-requires : tie.Need-receiver-distance-requires
 receiver-distance-requires c κs = search needs
 
--- src/lib.rt:30:9
 returns : tie.Need-returns
 returns c = search needs
 
--- src/lib.rt:32:8
 aslant-requires : tie.Need-aslant-requires
 aslant-requires c κs = search needs
 
--- src/lib.rt:33:16
 element-copy-out-result : tie.Need-element-copy-out-result
 element-copy-out-result c = search needs
 
--- src/lib.rt:33:9
 returns-2 : tie.Need-returns-2
 returns-2 c = distance-aslant (c .before .before .before .before .pre .0) (c .before .before .before .before .pre .1 .0) (c .before .before .before .if1 .left) (c .before .before .aslant .ensures) (c .before .if2 .taken)
 
--- src/lib.rt:35:5
 element-copy-out-result-2 : tie.Need-element-copy-out-result-2
 element-copy-out-result-2 c = search needs
 
--- src/lib.rt:23:1
 returns-3 : tie.Need-returns-3
 returns-3 c = distance-straight (c .before .before .before .before .pre .0) (c .before .before .before .before .pre .1 .0) (c .before .before .before .if1 .left) (c .before .before .aslant .ensures) (c .before .if2 .left)
 

@@ -16,67 +16,51 @@ Inv-loop width recv rates₀ ds w n i₀ rates i = Filling (λ c. div binary32 (
 abbrev μ-loop : tie.MeasureT-loop
 μ-loop width recv rates₀ ds w n i₀ rates i = length rates₀ - i
 
--- src/lib.rt:43:14
 distances-requires : tie.Need-distances-requires Inv-loop μ-loop
 distances-requires c κs = search needs
 
--- src/lib.rt:44:13
 cast-w : tie.Need-cast-w Inv-loop μ-loop
 cast-w c = omega (arith, c .before .before .before .pre .wide)
 
--- src/lib.rt:47:5
 loop-holds : tie.Need-loop-holds Inv-loop μ-loop
 loop-holds c = filling-none
 
--- src/lib.rt:48:20
 mul-rates : tie.Need-mul-rates Inv-loop μ-loop
 mul-rates c = omega (arith, c .loop-test .taken, c .before .before .before .before .before .good)
 
--- src/lib.rt:48:20
 slice-read-rates : tie.Need-slice-read-rates Inv-loop μ-loop
 slice-read-rates c = omega (arith, c .before .loop-test .taken, filling-length (c .before .before .loop .inv))
 
--- src/lib.rt:48:45
 cast-distance : tie.Need-cast-distance Inv-loop μ-loop
 cast-distance c = omega (arith, c .before .before .loop-test .taken, c .before .before .before .before .before .before .before .pre .few)
 
--- src/lib.rt:48:55
 mul-distance : tie.Need-mul-distance Inv-loop μ-loop
 mul-distance c = omega (arith, c .before .before .loop-test .taken, c .before .before .before .before .before .before .before .pre .few)
 
--- src/lib.rt:48:55
 shared-slice-read-distance : tie.Need-shared-slice-read-distance Inv-loop μ-loop
 shared-slice-read-distance c = omega (arith, c .before .before .before .loop-test .taken, c .before .before .before .before .before .before .before .before .pre .receivers)
 
--- src/lib.rt:48:31
 distance-requires : tie.Need-distance-requires Inv-loop μ-loop
 distance-requires c κs = (c .before .before .before .before .before .distances .ensures, (c .before .before .before .before .before .before .before .before .pre .near _ (c .before .before .before .loop-test .taken), (omega (arith, c .before .before .before .loop-test .taken, c .before .before .before .before .before .before .before .before .pre .few), omega (arith, c .before .before .before .before .before .before .before .before .pre .inside _ (c .before .before .before .loop-test .taken), c .before .before .before .before .before .before .before .before .pre .few))))
 
--- src/lib.rt:48:9
 mul-rates-2 : tie.Need-mul-rates-2 Inv-loop μ-loop
 mul-rates-2 c = omega (arith, c .before .before .before .before .loop-test .taken, c .before .before .before .before .before .before .before .before .before .pre .few)
 
--- src/lib.rt:48:9
 slice-write-rates : tie.Need-slice-write-rates Inv-loop μ-loop
 slice-write-rates c = omega (arith, c .before .before .before .before .loop-test .taken, filling-length (c .before .before .before .before .before .loop .inv))
 
--- src/lib.rt:49:9
 add-i : tie.Need-add-i Inv-loop μ-loop
 add-i c = omega (arith, c .before .before .before .before .loop-test .taken, c .before .before .before .before .before .before .before .before .before .pre .few)
 
--- src/lib.rt:47:5
 loop-less : tie.Need-loop-less Inv-loop μ-loop
 loop-less c = omega (arith, c .before .before .before .before .loop-test .taken)
 
--- src/lib.rt:47:5
 loop-again : tie.Need-loop-again Inv-loop μ-loop
 loop-again c = filling-more (c .before .before .before .before .before .loop .inv) (ap₂ (div binary32) (filling-next (c .before .before .before .before .before .loop .inv) nan) (c .distance .ensures)) (c .before .before .before .before .loop-test .taken)
 
--- src/lib.rt:39:1
 same-length : tie.Need-same-length Inv-loop μ-loop
 same-length c = filling-length (c .before .loop .inv)
 
--- src/lib.rt:39:1
 returns : tie.Need-returns Inv-loop μ-loop
 returns c = divided _ _ (c .before .loop .inv) refl (c .loop-test .left)
 

@@ -3,15 +3,12 @@ use borrow.Author.Needs.{needs}
 use Rattle.cuts.proofs.drains_to.Statement.{statement}
 use Rattle.cuts.proofs.drains_to.Tie as tie
 
--- src/lib.rt:37:9
 returns : tie.Need-returns
 returns c = rw (eq-eqb _ _ (c .if1 .taken))
 
--- src/lib.rt:39:5
 max-requires : tie.Need-max-requires
 max-requires c κs = search needs
 
--- src/lib.rt:33:1
 returns-2 : tie.Need-returns-2
 returns-2 c = rw (ne-eqb _ _ (c .before .if1 .left)) (c .max .ensures)
 

@@ -5,63 +5,48 @@ use borrow.Author.Needs.{needs}
 use Rattle.cuts.proofs.incise_cell.Statement.{statement}
 use Rattle.cuts.proofs.incise_cell.Tie as tie
 
--- src/lib.rt:85:13
 mul-r : tie.Need-mul-r
 mul-r c = search needs
 
--- src/lib.rt:85:13
 shared-slice-read-r : tie.Need-shared-slice-read-r
 shared-slice-read-r c = search needs
 
--- src/lib.rt:85:13
 cast-r : tie.Need-cast-r
 cast-r c = search needs
 
--- src/lib.rt:86:32
 mul-drains-to : tie.Need-mul-drains-to
 mul-drains-to c = search needs
 
--- src/lib.rt:86:32
 slice-read-drains-to : tie.Need-slice-read-drains-to
 slice-read-drains-to c = search needs
 
--- src/lib.rt:86:9
 drains-to-requires : tie.Need-drains-to-requires
 drains-to-requires c κs = search needs
 
--- src/lib.rt:87:18
 mul-cut : tie.Need-mul-cut
 mul-cut c = search needs
 
--- src/lib.rt:87:18
 shared-slice-read-cut : tie.Need-shared-slice-read-cut
 shared-slice-read-cut c = search needs
 
--- src/lib.rt:87:42
 mul-cut-2 : tie.Need-mul-cut-2
 mul-cut-2 c = search needs
 
--- src/lib.rt:87:42
 slice-read-cut : tie.Need-slice-read-cut
 slice-read-cut c = search needs
 
--- src/lib.rt:87:14
 cut-requires : tie.Need-cut-requires
 cut-requires c κs = search needs
 
--- src/lib.rt:87:5
 mul-out : tie.Need-mul-out
 mul-out c = search needs
 
--- src/lib.rt:87:5
 slice-write-out : tie.Need-slice-write-out
 slice-write-out c = search needs
 
--- src/lib.rt:74:1
 same-length : tie.Need-same-length
 same-length c = search needs
 
--- src/lib.rt:74:1
 returns : tie.Need-returns
 returns c = let a = c .before .before .before .before .before .before .before .before .before .args in ap (set (a .out .now) (a .c)) (c .cut .ensures ∙ ap (cutOf _ _ _ _) (c .before .before .before .drains-to .ensures))
 

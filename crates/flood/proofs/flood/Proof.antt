@@ -9,6 +9,7 @@ use Rattle.flood.proofs.RunLaws.{Running, running-none, running-more, r
 use Rattle.flood.proofs.flood.Statement.{statement}
 use Rattle.flood.proofs.flood.Tie as tie
 
+-- After some turns i cells have left: the slices hold the flood after i steps; each turn brings a cell to the order or the scan onward.
 abbrev Inv-loop : tie.InvT-loop
 Inv-loop g h water order₀ recv₀ spill₀ queue₀ status₀ n os sorted s₀ i₀ order recv spill queue status s i =
     (i ≤ g .w * g .h) × (length order ≡ length order₀) × (length queue ≡ length queue₀) × Sizes (g .w * g .h) h status spill recv queue × Running (g .w) (g .h) water h i s status spill recv order queue

@@ -4,27 +4,21 @@ use borrow.Author.Needs.{needs}
 use Rattle.fluvial_erosion.proofs.bad_incision.Statement.{statement}
 use Rattle.fluvial_erosion.proofs.bad_incision.Tie as tie
 
--- src/lib.rt:141:8
 outside-requires : tie.Need-outside-requires
 outside-requires c κs = search needs
 
--- src/lib.rt:142:9
 returns : tie.Need-returns
 returns c = rw (sym (c .before .outside .ensures) ∙ c .if1 .taken)
 
--- src/lib.rt:144:8
 outside-requires-2 : tie.Need-outside-requires-2
 outside-requires-2 c κs = search needs
 
--- src/lib.rt:145:9
 returns-2 : tie.Need-returns-2
 returns-2 c = rw (sym (c .before .before .before .outside .ensures) ∙ c .before .before .if1 .left, sym (c .before .outside2 .ensures) ∙ c .if2 .taken)
 
--- src/lib.rt:147:6
 is-finite-requires : tie.Need-is-finite-requires
 is-finite-requires c κs = search needs
 
--- src/lib.rt:138:1
 returns-3 : tie.Need-returns-3
 returns-3 c = rw (sym (c .before .before .before .before .outside .ensures) ∙ c .before .before .before .if1 .left, sym (c .before .before .outside2 .ensures) ∙ c .before .if2 .left) (ap not (c .is-finite .ensures))
 

@@ -23,62 +23,48 @@ sizes c = let a = c .before .before .before .before .before .before .before .bef
 drains : (c : tie.After-enum-told) → let a = c .before .before .before .before .before .before .before .before .args in Drains (a .size .w) (a .size .h) (a .recv .now) (a .order .now)
 drains c = let a = c .before .before .before .before .before .before .before .before .args in accepted-drains (a .size .w) (a .size .h) (a .hmap .now) (a .params) (a .recv .now) (a .order .now) (length (a .out .now)) (length (a .area .now)) (accepts c)
 
--- src/lib.rt:183:9
 refusal-requires : tie.Need-refusal-requires
 refusal-requires c κs = search needs
 
 enum-told : tie.Need-enum-told
 enum-told c = search needs
 
--- src/lib.rt:185:9
 enum-told-2 : tie.Need-enum-told-2
 enum-told-2 c = search needs
 
--- src/lib.rt:185:9
 returns : tie.Need-returns
 returns c = let a = c .before .before .before .before .before .before .before .before .args in made-refused (a .size .w) (a .size .h) (a .hmap .now) (a .params) (a .recv .now) (a .order .now) (a .out .now) (a .area .now) _ (c .enum-told2 .given .0 .0) (c .before .before .refusal .ensures) (c .enum-told2 .given .1)
 
--- src/lib.rt:187:13
 mul-n : tie.Need-mul-n
 mul-n c = range-fit (drains (c .before) .sides)
 
--- src/lib.rt:188:55
 slice-relend-prefix-incise-into : tie.Need-slice-relend-prefix-incise-into
 slice-relend-prefix-incise-into c = sizes (c .before .before) .areas
 
--- src/lib.rt:188:55
 slice-aggregate-incise-into : tie.Need-slice-aggregate-incise-into
 slice-aggregate-incise-into c = sym (length-take-le _ _ (sizes (c .before .before .before) .areas))
 
--- src/lib.rt:188:5
 incise-into-requires : tie.Need-incise-into-requires
 incise-into-requires c κs = (drains (c .before .before .before), record { heights = sizes (c .before .before .before) .map; result = sizes (c .before .before .before) .out; areas = length-take-le _ _ (sizes (c .before .before .before) .areas) })
 
--- src/lib.rt:189:8
 all-finite-requires : tie.Need-all-finite-requires
 all-finite-requires c κs = c .before .before .before .before .before .incise-into .kept .1 .1 .1 .1 .1 .0 ∙ sizes (c .before .before .before .before .before .before .before .before .before) .out
 
--- src/lib.rt:190:9
 same-length : tie.Need-same-length
 same-length c = search needs
 
--- src/lib.rt:190:9
 same-length-2 : tie.Need-same-length-2
 same-length-2 c = search needs
 
--- src/lib.rt:190:9
 returns-2 : tie.Need-returns-2
 returns-2 c = let a = c .before .before .before .before .before .before .before .before .before .before .before .before .before .before .before .before .before .before .before .args in made-incised (a .size .w) (a .size .h) (a .hmap .now) (a .params) (a .recv .now) (a .order .now) (a .out .now) (a .area .now) (told (c .before .before .before .before .before .before .before .before .before .before .before)) (answer-done _ (c .before .all-finite .ensures) (c .if1 .taken)) (c .before .before .before .before .before .before .before .incise-into .ensures) refl
 
--- src/lib.rt:180:1
 same-length-3 : tie.Need-same-length-3
 same-length-3 c = search needs
 
--- src/lib.rt:180:1
 same-length-4 : tie.Need-same-length-4
 same-length-4 c = search needs
 
--- src/lib.rt:180:1
 returns-3 : tie.Need-returns-3
 returns-3 c = let a = c .before .before .before .before .before .before .before .before .before .before .before .before .before .before .before .before .before .before .before .args in made-incised (a .size .w) (a .size .h) (a .hmap .now) (a .params) (a .recv .now) (a .order .now) (a .out .now) (a .area .now) (told (c .before .before .before .before .before .before .before .before .before .before .before)) (answer-off _ (c .before .all-finite .ensures) (c .if1 .left)) (c .before .before .before .before .before .before .before .incise-into .ensures) refl
 

@@ -5,35 +5,27 @@ use borrow.Author.Needs.{needs}
 use Rattle.fluvial_erosion.proofs.incise_along.Statement.{statement}
 use Rattle.fluvial_erosion.proofs.incise_along.Tie as tie
 
--- src/lib.rt:83:13
 mul-n : tie.Need-mul-n
 mul-n c = search needs
 
--- src/lib.rt:87:20
 int-to-float-t11 : tie.Need-int-to-float-t11
 int-to-float-t11 c = cells-float (c .before .before .before .before .before .before .before .before .pre .0 .sides)
 
--- src/lib.rt:92:9
 incise-ways-requires : tie.Need-incise-ways-requires
 incise-ways-requires c κs = let p = c .before .before .before .before .before .before .before .before .before .pre in ways-of (p .0) (p .1 .0) (p .1 .1) (c .before .before .if1 .taken)
 
--- src/lib.rt:93:9
 same-length : tie.Need-same-length
 same-length c = search needs
 
--- src/lib.rt:93:9
 returns : tie.Need-returns
 returns c = let p = c .before .before .before .before .before .before .before .before .before .before .before .before .pre in c .before .before .incise-ways .ensures ∙ ways-along (p .0) _ _ _ (p .1 .0 .heights)
 
--- src/lib.rt:95:5
 incise-listed-requires : tie.Need-incise-listed-requires
 incise-listed-requires c κs = search needs
 
--- src/lib.rt:70:1
 same-length-2 : tie.Need-same-length-2
 same-length-2 c = search needs
 
--- src/lib.rt:70:1
 returns-2 : tie.Need-returns-2
 returns-2 c = search needs
 

@@ -13,59 +13,45 @@ Inv-loop hmap params area recv order out₀ n-cells len i₀ out i = Incising pa
 abbrev μ-loop : tie.MeasureT-loop
 μ-loop hmap params area recv order out₀ n-cells len i₀ out i = length order - i
 
--- src/lib.rt:48:20
 mul-n-cells : tie.Need-mul-n-cells Inv-loop μ-loop
 mul-n-cells c = range-fit (c .before .before .before .before .before .before .pre .0 .sides)
 
--- src/lib.rt:48:19
 int-to-float-n-cells : tie.Need-int-to-float-n-cells Inv-loop μ-loop
 int-to-float-n-cells c = cells-float (c .before .before .before .before .before .before .before .pre .0 .sides)
 
--- src/lib.rt:49:5
 rates-of-requires : tie.Need-rates-of-requires Inv-loop μ-loop
 rates-of-requires c κs = let p = c .before .before .before .before .before .before .before .before .pre .1 in (p .0 .result ∙ sym (p .0 .areas), p .1)
 
--- src/lib.rt:50:5
 divide-by-distances-requires : tie.Need-divide-by-distances-requires Inv-loop μ-loop
 divide-by-distances-requires c κs = steps-of (c .before .before .before .before .before .before .before .before .before .before .before .before .pre .0) (c .before .before .before .rates-of .kept .1 .1 .1 .0 ∙ c .before .before .before .before .before .before .before .before .before .before .before .before .pre .1 .0 .result)
 
--- src/lib.rt:53:5
 loop-holds : tie.Need-loop-holds Inv-loop μ-loop
 loop-holds c = incising-none
 
--- src/lib.rt:60:13
 mul-incise-cell : tie.Need-mul-incise-cell Inv-loop μ-loop
 mul-incise-cell c = omega (arith, c .before .loop-test .taken, c .before .before .before .before .before .before .before .before .before .before .before .before .before .before .before .before .before .before .good)
 
--- src/lib.rt:60:13
 shared-slice-read-incise-cell : tie.Need-shared-slice-read-incise-cell Inv-loop μ-loop
 shared-slice-read-incise-cell c = c .before .before .loop-test .taken
 
--- src/lib.rt:60:13
 cast-incise-cell : tie.Need-cast-incise-cell Inv-loop μ-loop
 cast-incise-cell c = omega (arith, c .shared-slice-known5 .given (c .before .before .before .loop .i))
 
--- src/lib.rt:54:9
 incise-cell-requires : tie.Need-incise-cell-requires Inv-loop μ-loop
 incise-cell-requires c κs = let p = c .before .before .before .before .before .before .before .before .before .before .before .before .before .before .before .before .before .before .before .pre in cell-of (p .0) _ _ _ (p .0 .along .entries _ (c .before .before .loop-test .taken)) (p .1 .0 .heights) (c .before .before .before .loop .inv .long ∙ c .before .before .before .before .before .before .divide-by-distances .kept .1 .1 .0 ∙ c .before .before .before .before .before .before .before .before .before .before .rates-of .kept .1 .1 .1 .0 ∙ p .1 .0 .result)
 
--- src/lib.rt:62:9
 add-i : tie.Need-add-i Inv-loop μ-loop
 add-i c = omega (arith, c .before .before .before .before .before .loop-test .taken, c .before .before .before .before .before .before .before .before .before .before .before .before .before .before .before .before .before .before .before .before .before .before .good)
 
--- src/lib.rt:53:5
 loop-less : tie.Need-loop-less Inv-loop μ-loop
 loop-less c = omega (arith, c .before .before .before .before .before .loop-test .taken)
 
--- src/lib.rt:53:5
 loop-again : tie.Need-loop-again Inv-loop μ-loop
 loop-again c = incising-more (c .before .before .before .before .before .before .loop .inv) (c .before .before .before .before .before .loop-test .taken) (c .before .before .incise-cell .ensures)
 
--- src/lib.rt:35:1
 same-length : tie.Need-same-length Inv-loop μ-loop
 same-length c = c .before .loop .inv .long ∙ c .before .before .before .before .divide-by-distances .kept .1 .1 .0 ∙ c .before .before .before .before .before .before .before .before .rates-of .kept .1 .1 .1 .0
 
--- src/lib.rt:35:1
 returns : tie.Need-returns Inv-loop μ-loop
 returns c = let p = c .before .before .before .before .before .before .before .before .before .before .before .before .before .before .before .before .before .pre in incised-along _ _ _ _ (p .0) (p .1 .0 .heights) (p .1 .0 .areas) (c .before .before .before .before .before .before .before .before .rates-of .ensures) (c .before .before .before .before .divide-by-distances .ensures) (c .before .loop .inv) (c .loop-test .left)
 

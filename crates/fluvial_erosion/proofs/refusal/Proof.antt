@@ -29,61 +29,47 @@ heights c = height-none _ (sized _ _ _ _ _ _ (lengths (c .before .before .before
 receivers : (c : tie.Else5) → let a = c .before .before .before .before .before .before .before .before .before .before .before .before .before .before .args in ltb (firstBadReceiver (a .size .w) (a .size .h) (a .recv .now)) (a .size .w * a .size .h) ≡ false
 receivers c = found-none (c .before .first-bad-receiver .ensures) (c .if5 .left)
 
--- src/lib.rt:154:8
 bad-sides-requires : tie.Need-bad-sides-requires
 bad-sides-requires c κs = search needs
 
--- src/lib.rt:155:9
 returns : tie.Need-returns
 returns c = let a = c .before .before .before .before .before .args in ends-side (a .size .w) (a .size .h) (a .hmap .now) (a .params) (a .recv .now) (a .order .now) (a .result) (a .scratch) (c .before .bad-sides .ensures) (c .if1 .taken)
 
--- src/lib.rt:157:13
 mul-n : tie.Need-mul-n
 mul-n c = sides-fit _ _ (sides (c .before))
 
--- src/lib.rt:158:8
 bad-lengths-requires : tie.Need-bad-lengths-requires
 bad-lengths-requires c κs = search needs
 
--- src/lib.rt:159:9
 returns-2 : tie.Need-returns-2
 returns-2 c = let a = c .before .before .before .before .before .before .before .before .args in ends-length (a .size .w) (a .size .h) (a .hmap .now) (a .params) (a .recv .now) (a .order .now) (a .result) (a .scratch) (sides (c .before .before .before)) (c .before .bad-lengths .ensures) (c .if2 .taken)
 
--- src/lib.rt:161:8
 bad-incision-requires : tie.Need-bad-incision-requires
 bad-incision-requires c κs = search needs
 
--- src/lib.rt:162:9
 returns-3 : tie.Need-returns-3
 returns-3 c = let a = c .before .before .before .before .before .before .before .before .before .before .args in ends-setting (a .size .w) (a .size .h) (a .hmap .now) (a .params) (a .recv .now) (a .order .now) (a .result) (a .scratch) (sides (c .before .before .before .before .before)) (lengths (c .before .before)) (c .before .bad-incision .ensures) (c .if3 .taken)
 
--- src/lib.rt:164:9
 first-not-finite-requires : tie.Need-first-not-finite-requires
 first-not-finite-requires c κs = sized _ _ _ _ _ _ (lengths (c .before .before)) .map
 
--- src/lib.rt:166:9
 returns-4 : tie.Need-returns-4
 returns-4 c = let a = c .before .before .before .before .before .before .before .before .before .before .before .before .args in ends-height (a .size .w) (a .size .h) (a .hmap .now) (a .params) (a .recv .now) (a .order .now) (a .result) (a .scratch) (sides (c .before .before .before .before .before .before .before)) (lengths (c .before .before .before .before)) (setting (c .before .before)) (height-found _ (sized _ _ _ _ _ _ (lengths (c .before .before .before .before)) .map) (c .before .first-not-finite .ensures) (c .if4 .taken)) (c .before .first-not-finite .ensures)
 
--- src/lib.rt:168:9
 first-bad-receiver-requires : tie.Need-first-bad-receiver-requires
 first-bad-receiver-requires c κs = (good-sides _ _ (sides (c .before .before .before .before .before .before .before)), sized _ _ _ _ _ _ (lengths (c .before .before .before .before)) .receivers)
 
--- src/lib.rt:170:9
 returns-5 : tie.Need-returns-5
 returns-5 c = let a = c .before .before .before .before .before .before .before .before .before .before .before .before .before .before .args in ends-receiver (a .size .w) (a .size .h) (a .hmap .now) (a .params) (a .recv .now) (a .order .now) (a .result) (a .scratch) (sides (c .before .before .before .before .before .before .before .before .before)) (lengths (c .before .before .before .before .before .before)) (setting (c .before .before .before .before)) (heights (c .before .before)) (found (c .before .first-bad-receiver .ensures) (c .if5 .taken)) (c .before .first-bad-receiver .ensures)
 
--- src/lib.rt:172:17
 first-bad-entry-requires : tie.Need-first-bad-entry-requires
 first-bad-entry-requires c κs =
     let z = sized _ _ _ _ _ _ (lengths (c .before .before .before .before .before .before)) in
     (network-of _ _ _ _ (z .receivers) (z .entries) (receivers (c)), near-network _ _ _ (good-sides _ _ (sides (c .before .before .before .before .before .before .before .before .before))) (receivers (c)))
 
--- src/lib.rt:174:9
 returns-6 : tie.Need-returns-6
 returns-6 c = let a = c .before .before .before .before .before .before .before .before .before .before .before .before .before .before .before .before .args in ends-entry (a .size .w) (a .size .h) (a .hmap .now) (a .params) (a .recv .now) (a .order .now) (a .result) (a .scratch) (sides (c .before .before .before .before .before .before .before .before .before .before .before)) (lengths (c .before .before .before .before .before .before .before .before)) (setting (c .before .before .before .before .before .before)) (heights (c .before .before .before .before)) (receivers (c .before .before)) (found (c .before .first-bad-entry .ensures) (c .if6 .taken)) (c .before .first-bad-entry .ensures)
 
--- src/lib.rt:151:1
 returns-7 : tie.Need-returns-7
 returns-7 c = let a = c .before .before .before .before .before .before .before .before .before .before .before .before .before .before .before .before .args in ends-done (a .size .w) (a .size .h) (a .hmap .now) (a .params) (a .recv .now) (a .order .now) (a .result) (a .scratch) (record { sides = sides (c .before .before .before .before .before .before .before .before .before .before .before); lengths = lengths (c .before .before .before .before .before .before .before .before); setting = setting (c .before .before .before .before .before .before); heights = heights (c .before .before .before .before); receivers = receivers (c .before .before); entries = found-none (c .before .first-bad-entry .ensures) (c .if6 .left) })
 

@@ -10,6 +10,7 @@ use Rattle.fluvial_loop.proofs.IterateLaws.{lent-same, Iterating, itera
 use Rattle.fluvial_loop.proofs.run_iterations.Statement.{statement}
 use Rattle.fluvial_loop.proofs.run_iterations.Tie as tie
 
+-- After `it` iterations map and counts are those of the run by its loops.
 abbrev Inv-loop : tie.InvT-loop
 Inv-loop size hmap₀ plan stop copy₀ area₀ order₀ recv₀ queue₀ status₀ iterations r₀ it₀ hmap copy area order recv queue status r it = Iterating (courseBy (size .w) (size .h) plan stop) hmap₀ (lentOf hmap₀ order₀ recv₀ copy₀ area₀ queue₀ status₀) it hmap r (lentOf hmap order recv copy area queue status)
 

@@ -5,11 +5,9 @@ use borrow.Author.Needs.{needs}
 use Rattle.incision_step.proofs.carve.Statement.{statement}
 use Rattle.incision_step.proofs.carve.Tie as tie
 
--- src/lib.rt:35:5
 route-grid-requires : tie.Need-route-grid-requires
 route-grid-requires c κs = search needs
 
--- src/lib.rt:46:5
 incise-along-requires : tie.Need-incise-along-requires
 incise-along-requires c κs =
     let p = c .before .before .before .before .before .before .before .before .before .before .before .before .before .before .before .before .before .before .before .before .before .before .before .before .before .before .before .before .before .before .pre in
@@ -18,31 +16,24 @@ incise-along-requires c κs =
     let drains = routing-drains _ _ _ _ (p .0) (c .before .before .before .before .before .before .before .before .before .before .before .before .before .before .before .before .before .before .before .before .before .before .before .before .before .before .before .before .before .shared-slice-known .given) (route .ensures) (k .0 ∙ p .1 .receivers) in
     (drains, (record { heights = p .0 .cells; result = k .1 .0 ∙ p .1 .spill; areas = k .1 .1 .0 ∙ p .1 .areas }, whole-areas drains refl (routed-areas (route .ensures))))
 
--- src/lib.rt:20:1
 same-length : tie.Need-same-length
 same-length c = search needs
 
--- src/lib.rt:20:1
 same-length-2 : tie.Need-same-length-2
 same-length-2 c = search needs
 
--- src/lib.rt:20:1
 same-length-3 : tie.Need-same-length-3
 same-length-3 c = search needs
 
--- src/lib.rt:20:1
 same-length-4 : tie.Need-same-length-4
 same-length-4 c = search needs
 
--- src/lib.rt:20:1
 same-length-5 : tie.Need-same-length-5
 same-length-5 c = search needs
 
--- src/lib.rt:20:1
 same-length-6 : tie.Need-same-length-6
 same-length-6 c = search needs
 
--- src/lib.rt:20:1
 returns : tie.Need-returns
 returns c = carves _ _ _ _ _ (c .before .before .before .before .before .before .before .before .before .before .before .before .before .before .before .before .before .before .before .route-grid .ensures) (c .before .before .incise-along .ensures)
 

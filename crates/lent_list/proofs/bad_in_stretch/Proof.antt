@@ -6,55 +6,42 @@ use borrow.Author.Needs.{needs}
 use Rattle.lent_list.proofs.bad_in_stretch.Statement.{statement}
 use Rattle.lent_list.proofs.bad_in_stretch.Tie as tie
 
--- src/lib.rt:62:8
 in-stretch-requires : tie.Need-in-stretch-requires
 in-stretch-requires c κs = search needs
 
--- src/lib.rt:63:17
 sub-i : tie.Need-sub-i
 sub-i c = inside span _ _ (sym (c .before .in-stretch .ensures) ∙ c .if1 .taken) .0
 
--- src/lib.rt:64:12
 marked-requires : tie.Need-marked-requires
 marked-requires c κs = let p = inside span (c .before .before .before .before .before .args .lo) (c .before .before .before .before .before .args .c) (sym (c .before .before .in-stretch .ensures) ∙ c .before .if1 .taken) in omega (arith, p .0, p .1, c .before .before .before .before .before .pre .0)
 
--- src/lib.rt:65:13
 same-length : tie.Need-same-length
 same-length c = search needs
 
--- src/lib.rt:65:13
 returns : tie.Need-returns
 returns c = taken-stood (sym (c .before .before .before .before .in-stretch .ensures) ∙ c .before .before .before .if1 .taken) (sym (c .before .marked .ensures) ∙ c .if2 .taken)
 
--- src/lib.rt:67:9
 mark-requires : tie.Need-mark-requires
 mark-requires c κs = let p = inside span (c .before .before .before .before .before .before .before .before .args .lo) (c .before .before .before .before .before .before .before .before .args .c) (sym (c .before .before .before .before .before .in-stretch .ensures) ∙ c .before .before .before .before .if1 .taken) in omega (arith, p .0, p .1, c .before .before .before .before .before .before .before .before .pre .0)
 
--- src/lib.rt:68:34
 mul-missing : tie.Need-mul-missing
 mul-missing c = search needs
 
--- src/lib.rt:68:34
 shared-slice-read-missing : tie.Need-shared-slice-read-missing
 shared-slice-read-missing c = search needs
 
--- src/lib.rt:68:34
 cast-missing : tie.Need-cast-missing
 cast-missing c = omega (arith, c .shared-slice-known2 .given (c .before .before .before .before .before .before .before .before .before .before .before .before .before .args .c))
 
--- src/lib.rt:68:9
 missing-requires : tie.Need-missing-requires
 missing-requires c κs = search needs
 
--- src/lib.rt:68:9
 same-length-2 : tie.Need-same-length-2
 same-length-2 c = search needs
 
--- src/lib.rt:68:9
 returns-2 : tie.Need-returns-2
 returns-2 c = taken-marked (sym (c .before .before .before .before .before .before .before .before .before .before .before .in-stretch .ensures) ∙ c .before .before .before .before .before .before .before .before .before .before .if1 .taken) (sym (c .before .before .before .before .before .before .before .before .marked .ensures) ∙ c .before .before .before .before .before .before .before .if2 .left) (c .before .before .before .before .before .mark .ensures) (c .missing .ensures)
 
--- src/lib.rt:57:1
 returns-3 : tie.Need-returns-3
 returns-3 c = taken-outside (sym (c .before .in-stretch .ensures) ∙ c .if1 .left)
 

@@ -10,27 +10,21 @@ Inv-loop n recv list bad₀ lo₀ bad lo = Stretches n recv list lo bad
 abbrev μ-loop : tie.MeasureT-loop
 μ-loop n recv list bad₀ lo₀ bad lo = n - lo
 
--- src/lib.rt:180:5
 loop-holds : tie.Need-loop-holds Inv-loop μ-loop
 loop-holds c = stretches-none
 
--- src/lib.rt:181:9
 first-in-stretch-requires : tie.Need-first-in-stretch-requires Inv-loop μ-loop
 first-in-stretch-requires c κs = (c .before .before .before .before .pre .0, c .before .loop .inv .bound)
 
--- src/lib.rt:182:9
 add-lo : tie.Need-add-lo Inv-loop μ-loop
 add-lo c = omega (arith, c .before .before .before .before .before .pre .1 .few, c .before .loop-test .taken)
 
--- src/lib.rt:180:5
 loop-less : tie.Need-loop-less Inv-loop μ-loop
 loop-less c = omega (arith, c .before .loop-test .taken)
 
--- src/lib.rt:180:5
 loop-again : tie.Need-loop-again Inv-loop μ-loop
 loop-again c = stretches-more (c .before .before .before .before .before .pre .1) (c .before .before .loop .inv) (c .first-in-stretch .ensures)
 
--- src/lib.rt:173:1
 returns : tie.Need-returns Inv-loop μ-loop
 returns c = stretches-done (c .before .loop .inv) (c .loop-test .left)
 

@@ -5,15 +5,12 @@ use Rattle.lent_list.proofs.SeenLaws.{blank-at}
 use Rattle.lent_list.proofs.first_of_many.Statement.{statement}
 use Rattle.lent_list.proofs.first_of_many.Tie as tie
 
--- src/lib.rt:129:35
 slice-aggregate-first-in-bytes : tie.Need-slice-aggregate-first-in-bytes
 slice-aggregate-first-in-bytes c = sym (length-replicate {A = ℕ} 1048576 0)
 
--- src/lib.rt:129:5
 first-in-bytes-requires : tie.Need-first-in-bytes-requires
 first-in-bytes-requires c κs = (c .before .before .before .pre .0, blank-at 1048576 (c .before .before .before .pre .1))
 
--- src/lib.rt:123:1
 returns : tie.Need-returns
 returns c = c .before .first-in-bytes .ensures
 

@@ -3,11 +3,9 @@ use Rattle.lent_list.proofs.SeenLaws.{stretch-before, stretch-from}
 use Rattle.lent_list.proofs.in_stretch.Statement.{statement}
 use Rattle.lent_list.proofs.in_stretch.Tie as tie
 
--- src/lib.rt:39:9
 returns : tie.Need-returns
 returns c = sym (stretch-before _ _ _ (c .if1 .taken))
 
--- src/lib.rt:35:1
 returns-2 : tie.Need-returns-2
 returns-2 c = sym (stretch-from _ _ _ (c .if1 .left))
 

@@ -6,31 +6,24 @@ use Rattle.lent_list.proofs.SeenLaws.{shifted-one}
 use Rattle.lent_list.proofs.mark.Statement.{statement}
 use Rattle.lent_list.proofs.mark.Tie as tie
 
--- src/lib.rt:31:18
 mul-seen : tie.Need-mul-seen
 mul-seen c = search needs
 
--- src/lib.rt:31:18
 slice-read-seen : tie.Need-slice-read-seen
 slice-read-seen c = search needs
 
--- src/lib.rt:31:32
 shl-seen : tie.Need-shl-seen
 shl-seen c = search needs
 
--- src/lib.rt:31:5
 mul-seen-2 : tie.Need-mul-seen-2
 mul-seen-2 c = search needs
 
--- src/lib.rt:31:5
 slice-write-seen : tie.Need-slice-write-seen
 slice-write-seen c = search needs
 
--- src/lib.rt:26:1
 same-length : tie.Need-same-length
 same-length c = search needs
 
--- src/lib.rt:26:1
 returns : tie.Need-returns
 unfolding marking
 returns c = rw (shifted-one (c .before .args .i % 64) (omega arith))

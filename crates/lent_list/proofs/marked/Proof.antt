@@ -4,19 +4,15 @@ use Rattle.lent_list.specs.Seen.{isMarked}
 use Rattle.lent_list.proofs.marked.Statement.{statement}
 use Rattle.lent_list.proofs.marked.Tie as tie
 
--- src/lib.rt:14:6
 mul-result : tie.Need-mul-result
 mul-result c = search needs
 
--- src/lib.rt:14:6
 shared-slice-read-result : tie.Need-shared-slice-read-result
 shared-slice-read-result c = search needs
 
--- src/lib.rt:14:6
 shr-result : tie.Need-shr-result
 shr-result c = search needs
 
--- src/lib.rt:10:1
 returns : tie.Need-returns
 unfolding isMarked
 returns c = refl

@@ -7,23 +7,18 @@ use borrow.Author.Needs.{needs}
 use Rattle.lent_list.proofs.missing.Statement.{statement}
 use Rattle.lent_list.proofs.missing.Tie as tie
 
--- src/lib.rt:49:8
 in-stretch-requires : tie.Need-in-stretch-requires
 in-stretch-requires c κs = search needs
 
--- src/lib.rt:50:31
 sub-marked : tie.Need-sub-marked
 sub-marked c = inside span (c .before .before .before .args .lo) (c .before .before .before .args .r) (sym (c .before .in-stretch .ensures) ∙ c .if1 .taken) .0
 
--- src/lib.rt:50:9
 marked-requires : tie.Need-marked-requires
 marked-requires c κs = let p = inside span (c .before .before .before .args .lo) (c .before .before .before .args .r) (sym (c .before .in-stretch .ensures) ∙ c .if1 .taken) in omega (arith, p .0, p .1, c .before .before .before .pre)
 
--- src/lib.rt:50:9
 returns : tie.Need-returns
 returns c = rw (sym (c .before .before .in-stretch .ensures) ∙ c .before .if1 .taken) (ap not (c .marked .ensures))
 
--- src/lib.rt:45:1
 returns-2 : tie.Need-returns-2
 returns-2 c = rw (sym (c .before .in-stretch .ensures) ∙ c .if1 .left)
 

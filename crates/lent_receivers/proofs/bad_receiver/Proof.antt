@@ -4,71 +4,54 @@ use Rattle.lent_receivers.proofs.ReceiverLaws.{place-bound, no-cell, of
 use Rattle.lent_receivers.proofs.bad_receiver.Statement.{statement}
 use Rattle.lent_receivers.proofs.bad_receiver.Tie as tie
 
--- src/lib.rt:40:8
 mul-if1 : tie.Need-mul-if1
 mul-if1 c = cells-fit _ _ (c .before .pre .wide) (c .before .pre .high)
 
--- src/lib.rt:41:9
 returns : tie.Need-returns
 returns c = no-cell _ _ _ _ (c .if1 .taken)
 
--- src/lib.rt:43:17
 mul-c : tie.Need-mul-c
 mul-c c = omega (arith, place-bound (c .before .before .pre))
 
--- src/lib.rt:43:13
 add-c : tie.Need-add-c
 add-c c = omega (arith, place-bound (c .before .before .pre))
 
--- src/lib.rt:44:9
 cell-before-requires : tie.Need-cell-before-requires
 cell-before-requires c κs = omega arith
 
--- src/lib.rt:45:9
 cell-after-requires : tie.Need-cell-after-requires
 cell-after-requires c κs = omega (arith, place-bound (c .before .before .before .pre), c .before .before .before .pre)
 
--- src/lib.rt:46:8
 add-if2 : tie.Need-add-if2
 add-if2 c = omega (arith, place-bound (c .before .before .before .before .pre))
 
--- src/lib.rt:47:9
 returns-2 : tie.Need-returns-2
 returns-2 c = off-bands _ _ _ _ (c .before .before .before .before .before .pre .column) (c .before .before .before .before .before .pre .row) _ _ _ (c .before .before .cell-before .ensures) (c .before .cell-after .ensures) (λ p q. omega arith) (λ p q. omega arith) (λ p q. omega arith)
 
--- src/lib.rt:49:8
 add-if3 : tie.Need-add-if3
 add-if3 c = omega (arith, place-bound (c .before .before .before .before .before .pre))
 
--- src/lib.rt:50:9
 returns-3 : tie.Need-returns-3
 returns-3 c = on-above _ _ _ _ (c .before .before .before .before .before .before .pre .column) (c .before .before .before .before .before .before .pre .row) _ _ _ (c .before .before .before .cell-before .ensures) (c .before .before .cell-after .ensures) (omega arith) (c .before .if2 .left) (c .if3 .taken)
 
--- src/lib.rt:53:9
 returns-4 : tie.Need-returns-4
 returns-4 c = off-bands _ _ _ _ (c .before .before .before .before .before .before .before .pre .column) (c .before .before .before .before .before .before .before .pre .row) _ _ _ (c .before .before .before .before .cell-before .ensures) (c .before .before .before .cell-after .ensures) (λ p q. omega arith) (λ p q. omega arith) (λ p q. omega arith)
 
--- src/lib.rt:56:9
 returns-5 : tie.Need-returns-5
 returns-5 c = on-level _ _ _ _ (c .before .before .before .before .before .before .before .before .pre .column) (c .before .before .before .before .before .before .before .before .pre .row) _ _ _ (c .before .before .before .before .before .cell-before .ensures) (c .before .before .before .before .cell-after .ensures) (omega arith) (c .before .if4 .left) (c .if5 .taken)
 
--- src/lib.rt:58:12
 add-if6 : tie.Need-add-if6
 add-if6 c = omega (arith, place-bound (c .before .before .before .before .before .before .before .before .pre), c .before .before .before .before .before .cell-before .ensures)
 
--- src/lib.rt:59:9
 returns-6 : tie.Need-returns-6
 returns-6 c = off-bands _ _ _ _ (c .before .before .before .before .before .before .before .before .before .pre .column) (c .before .before .before .before .before .before .before .before .before .pre .row) _ _ _ (c .before .before .before .before .before .before .cell-before .ensures) (c .before .before .before .before .before .cell-after .ensures) (λ p q. omega arith) (λ p q. omega arith) (λ p q. omega arith)
 
--- src/lib.rt:61:13
 add-if7 : tie.Need-add-if7
 add-if7 c = omega (arith, place-bound (c .before .before .before .before .before .before .before .before .before .pre), c .before .before .before .before .before .cell-after .ensures)
 
--- src/lib.rt:62:9
 returns-7 : tie.Need-returns-7
 returns-7 c = on-below _ _ _ _ (c .before .before .before .before .before .before .before .before .before .before .pre .column) (c .before .before .before .before .before .before .before .before .before .before .pre .row) _ _ _ (c .before .before .before .before .before .before .before .cell-before .ensures) (c .before .before .before .before .before .before .cell-after .ensures) (omega arith) (c .before .if6 .left) (c .if7 .taken)
 
--- src/lib.rt:35:1
 returns-8 : tie.Need-returns-8
 returns-8 c = off-bands _ _ _ _ (c .before .before .before .before .before .before .before .before .before .before .pre .column) (c .before .before .before .before .before .before .before .before .before .before .pre .row) _ _ _ (c .before .before .before .before .before .before .before .cell-before .ensures) (c .before .before .before .before .before .before .cell-after .ensures) (λ p q. omega arith) (λ p q. omega arith) (λ p q. omega arith)
 

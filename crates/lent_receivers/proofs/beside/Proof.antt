@@ -3,23 +3,18 @@ use borrow.Author.Needs.{needs}
 use Rattle.lent_receivers.proofs.beside.Statement.{statement}
 use Rattle.lent_receivers.proofs.beside.Tie as tie
 
--- src/lib.rt:72:9
 wrapping-sub-u32-requires : tie.Need-wrapping-sub-u32-requires
 wrapping-sub-u32-requires c κs = search needs
 
--- src/lib.rt:74:12
 wrapping-sub-u32-requires-2 : tie.Need-wrapping-sub-u32-requires-2
 wrapping-sub-u32-requires-2 c κs = search needs
 
--- src/lib.rt:75:45
 add-wrapping-sub-u32 : tie.Need-add-wrapping-sub-u32
 add-wrapping-sub-u32 c = search needs
 
--- src/lib.rt:75:12
 wrapping-sub-u32-requires-3 : tie.Need-wrapping-sub-u32-requires-3
 wrapping-sub-u32-requires-3 c κs = search needs
 
--- src/lib.rt:68:1
 returns : tie.Need-returns
 returns c = beside-is _ _ _ _ _ _ (c .before .before .before .pre) (c .before .before .wrapping-sub-u32 .ok) (c .before .wrapping-sub-u322 .ok) (c .wrapping-sub-u323 .ok) (c .before .before .wrapping-sub-u32 .ensures) (c .before .wrapping-sub-u322 .ensures) (c .wrapping-sub-u323 .ensures)
 

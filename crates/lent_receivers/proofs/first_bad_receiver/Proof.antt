@@ -14,43 +14,33 @@ Inv-loop size recv w h y₀ y = (y ≤ size .h) × ((c : ℕ) → c < y * size .
 abbrev μ-loop : tie.MeasureT-loop
 μ-loop size recv w h y₀ y = size .h - y
 
--- src/lib.rt:94:5
 loop-holds : tie.Need-loop-holds Inv-loop μ-loop
 loop-holds c = (omega arith, λ i l. absurd (omega arith))
 
--- src/lib.rt:95:13
 first-in-row-requires : tie.Need-first-in-row-requires Inv-loop μ-loop
 first-in-row-requires c κs = (c .before .before .before .pre .0, (c .before .before .before .pre .1, c .loop-test .taken))
 
--- src/lib.rt:97:24
 mul-result : tie.Need-mul-result Inv-loop μ-loop
 mul-result c = omega (arith, cell-lt _ _ _ (c .if1 .taken) _ (c .before .before .loop-test .taken), cells-bound _ _ (c .before .before .before .before .before .pre .0 .wide) (c .before .before .before .before .before .pre .0 .high))
 
--- src/lib.rt:97:20
 add-result : tie.Need-add-result Inv-loop μ-loop
 add-result c = omega (arith, cell-lt _ _ _ (c .if1 .taken) _ (c .before .before .loop-test .taken), cells-bound _ _ (c .before .before .before .before .before .pre .0 .wide) (c .before .before .before .before .before .pre .0 .high))
 
--- src/lib.rt:97:13
 returns : tie.Need-returns Inv-loop μ-loop
 returns c = first-is (rows-stop _ _ _ (c .before .before .before .loop .inv .1) (c .before .first-in-row .ensures) (c .if1 .taken) (c .before .before .loop-test .taken))
 
--- src/lib.rt:99:9
 add-y : tie.Need-add-y Inv-loop μ-loop
 add-y c = omega (arith, c .before .before .loop-test .taken, c .before .before .before .before .before .pre .0 .high)
 
--- src/lib.rt:94:5
 loop-less : tie.Need-loop-less Inv-loop μ-loop
 loop-less c = omega (arith, c .before .before .loop-test .taken)
 
--- src/lib.rt:94:5
 loop-again : tie.Need-loop-again Inv-loop μ-loop
 loop-again c = (omega (arith, c .before .before .loop-test .taken), rows-more _ _ _ (c .before .before .before .loop .inv .1) (c .before .first-in-row .ensures) (c .if1 .left))
 
--- src/lib.rt:101:5
 mul-result-2 : tie.Need-mul-result-2 Inv-loop μ-loop
 mul-result-2 c = cells-fit _ _ (c .before .before .before .pre .0 .wide) (c .before .before .before .pre .0 .high)
 
--- src/lib.rt:86:1
 returns-2 : tie.Need-returns-2 Inv-loop μ-loop
 returns-2 c = first-is (rows-end _ _ _ _ (c .before .loop .inv .1) (c .before .loop .inv .0) (c .loop-test .left))
 

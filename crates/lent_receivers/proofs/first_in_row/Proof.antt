@@ -18,59 +18,45 @@ Inv-loop size recv y w x₀ x = (x ≤ size .w) × ((i : ℕ) → i < x → rece
 abbrev μ-loop : tie.MeasureT-loop
 μ-loop size recv y w x₀ x = size .w - x
 
--- src/lib.rt:137:8
 row-passes-requires : tie.Need-row-passes-requires Inv-loop μ-loop
 row-passes-requires c κs = (c .before .pre .0, (c .before .pre .1 .0, c .before .pre .1 .1))
 
--- src/lib.rt:138:9
 returns : tie.Need-returns Inv-loop μ-loop
 returns c = row-good _ _ _ _ (c .before .before .before .pre .1 .1) (c .before .row-passes .ensures) (c .if1 .taken)
 
--- src/lib.rt:141:5
 loop-holds : tie.Need-loop-holds Inv-loop μ-loop
 loop-holds c = (omega arith, below-none _)
 
--- src/lib.rt:142:46
 mul-bad-receiver : tie.Need-mul-bad-receiver Inv-loop μ-loop
 mul-bad-receiver c = omega (arith, cell-lt _ _ _ (c .loop-test .taken) _ (c .before .before .before .before .before .pre .1 .1), cells-bound _ _ (c .before .before .before .before .before .pre .0 .wide) (c .before .before .before .before .before .pre .0 .high), c .before .before .before .before .before .pre .1 .0)
 
--- src/lib.rt:142:42
 add-bad-receiver : tie.Need-add-bad-receiver Inv-loop μ-loop
 add-bad-receiver c = omega (arith, cell-lt _ _ _ (c .loop-test .taken) _ (c .before .before .before .before .before .pre .1 .1), cells-bound _ _ (c .before .before .before .before .before .pre .0 .wide) (c .before .before .before .before .before .pre .0 .high), c .before .before .before .before .before .pre .1 .0)
 
--- src/lib.rt:142:37
 mul-bad-receiver-2 : tie.Need-mul-bad-receiver-2 Inv-loop μ-loop
 mul-bad-receiver-2 c = omega (arith, cell-lt _ _ _ (c .loop-test .taken) _ (c .before .before .before .before .before .pre .1 .1), cells-bound _ _ (c .before .before .before .before .before .pre .0 .wide) (c .before .before .before .before .before .pre .0 .high), c .before .before .before .before .before .pre .1 .0)
 
--- src/lib.rt:142:37
 shared-slice-read-bad-receiver : tie.Need-shared-slice-read-bad-receiver Inv-loop μ-loop
 shared-slice-read-bad-receiver c = omega (arith, cell-lt _ _ _ (c .before .loop-test .taken) _ (c .before .before .before .before .before .before .pre .1 .1), cells-bound _ _ (c .before .before .before .before .before .before .pre .0 .wide) (c .before .before .before .before .before .before .pre .0 .high), c .before .before .before .before .before .before .pre .1 .0)
 
--- src/lib.rt:142:37
 cast-bad-receiver : tie.Need-cast-bad-receiver Inv-loop μ-loop
 cast-bad-receiver c = omega (arith, c .shared-slice-known2 .given (cellOf (c .before .before .before .before .before .before .args .size .w) (c .before .before .loop .x) (c .before .before .before .before .before .before .args .y)))
 
--- src/lib.rt:142:12
 bad-receiver-requires : tie.Need-bad-receiver-requires Inv-loop μ-loop
 bad-receiver-requires c κs = record { column = c .before .loop-test .taken; row = c .before .before .before .before .before .before .pre .1 .1; wide = c .before .before .before .before .before .before .pre .0 .wide; high = c .before .before .before .before .before .before .pre .0 .high }
 
--- src/lib.rt:143:13
 returns-2 : tie.Need-returns-2 Inv-loop μ-loop
 returns-2 c = first-stop (c .before .before .before .before .loop .inv .1) (c .before .before .before .before .loop .inv .0) (not-true _ (sym (c .before .bad-receiver .ensures) ∙ c .if2 .taken))
 
--- src/lib.rt:145:9
 add-x : tie.Need-add-x Inv-loop μ-loop
 add-x c = omega (arith, c .before .before .before .loop-test .taken, c .before .before .before .before .before .before .before .before .pre .0 .wide)
 
--- src/lib.rt:141:5
 loop-less : tie.Need-loop-less Inv-loop μ-loop
 loop-less c = omega (arith, c .before .before .before .loop-test .taken)
 
--- src/lib.rt:141:5
 loop-again : tie.Need-loop-again Inv-loop μ-loop
 loop-again c = (omega (arith, c .before .before .before .loop-test .taken), below-more _ _ (c .before .before .before .before .loop .inv .1) (not-false _ (sym (c .before .bad-receiver .ensures) ∙ c .if2 .left)))
 
--- src/lib.rt:130:1
 returns-3 : tie.Need-returns-3 Inv-loop μ-loop
 returns-3 c = first-end (λ i l. c .before .loop .inv .1 i (omega (arith, c .loop-test .left)))
 

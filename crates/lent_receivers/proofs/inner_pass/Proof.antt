@@ -20,75 +20,57 @@ first c = inner-at (c .before .pre .0) (c .before .pre .1 .1) 0 (omega (arith, c
 here : (c : tie.In-loop Inv-loop μ-loop) → let a = c .before .before .before .args in InnerAt (a .size .w) (a .size .h) (a .y) (c .before .loop .i)
 here c = inner-at (c .before .before .before .pre .0) (c .before .before .before .pre .1 .1) (c .before .loop .i) (c .loop-test .taken)
 
--- src/lib.rt:86:13
 sub-n : tie.Need-sub-n Inv-loop μ-loop
 sub-n c = omega (arith, c .before .pre .1 .1)
 
--- src/lib.rt:87:18
 mul-above : tie.Need-mul-above Inv-loop μ-loop
 mul-above c = omega (arith, first c)
 
--- src/lib.rt:87:18
 sub-above : tie.Need-sub-above Inv-loop μ-loop
 sub-above c = omega (arith, first c)
 
--- src/lib.rt:87:17
 cast-above : tie.Need-cast-above Inv-loop μ-loop
 cast-above c = omega (arith, first c)
 
--- src/lib.rt:90:5
 loop-holds : tie.Need-loop-holds Inv-loop μ-loop
 loop-holds c = turning-none
 
--- src/lib.rt:91:35
 add-beside : tie.Need-add-beside Inv-loop μ-loop
 add-beside c = omega (arith, here c)
 
--- src/lib.rt:91:43
 mul-beside : tie.Need-mul-beside Inv-loop μ-loop
 mul-beside c = omega (arith, here c)
 
--- src/lib.rt:91:35
 add-beside-2 : tie.Need-add-beside-2 Inv-loop μ-loop
 add-beside-2 c = omega (arith, here c)
 
--- src/lib.rt:91:30
 mul-beside-2 : tie.Need-mul-beside-2 Inv-loop μ-loop
 mul-beside-2 c = omega (arith, here c)
 
--- src/lib.rt:91:30
 shared-slice-read-beside : tie.Need-shared-slice-read-beside Inv-loop μ-loop
 shared-slice-read-beside c = omega (arith, here (c .before), c .before .before .before .before .pre .1 .0)
 
--- src/lib.rt:91:60
 cast-beside : tie.Need-cast-beside Inv-loop μ-loop
 cast-beside c = omega (arith, here (c .before))
 
--- src/lib.rt:91:51
 add-beside-3 : tie.Need-add-beside-3 Inv-loop μ-loop
 add-beside-3 c = omega (arith, here (c .before))
 
--- src/lib.rt:91:71
 cast-beside-2 : tie.Need-cast-beside-2 Inv-loop μ-loop
 cast-beside-2 c = omega (arith, here (c .before))
 
--- src/lib.rt:91:23
 beside-requires : tie.Need-beside-requires Inv-loop μ-loop
 beside-requires c κs = omega (arith, here (c .before))
 
--- src/lib.rt:92:9
 add-i : tie.Need-add-i Inv-loop μ-loop
 add-i c = omega (arith, here (c .before .before))
 
--- src/lib.rt:90:5
 loop-less : tie.Need-loop-less Inv-loop μ-loop
 loop-less c = omega (arith, c .before .before .loop-test .taken)
 
--- src/lib.rt:90:5
 loop-again : tie.Need-loop-again Inv-loop μ-loop
 loop-again c = turning-more (c .before .before .before .loop .inv) (c .before .before .loop-test .taken) (passing-is _ (c .before .before .before .before .before .args .recv .now) _ (c .before .before .before .loop .good) (here (c .before .before)) (c .beside .ensures))
 
--- src/lib.rt:79:1
 returns : tie.Need-returns Inv-loop μ-loop
 unfolding innerPass
 returns c = turning-done (c .before .loop .inv) (c .loop-test .left)

@@ -8,90 +8,69 @@ use borrow.Author.Needs.{needs}
 use Rattle.lent_receivers.proofs.row_passes.Statement.{statement}
 use Rattle.lent_receivers.proofs.row_passes.Tie as tie
 
--- src/lib.rt:112:9
 returns : tie.Need-returns
 unfolding rowPasses
 returns c = rw (lt-ltb _ _ (c .if1 .taken))
 
--- src/lib.rt:115:9
 returns-2 : tie.Need-returns-2
 unfolding rowPasses
 returns-2 c = rw (le-ltb _ _ (c .before .if1 .left), eq-eqb _ _ (c .if2 .taken))
 
--- src/lib.rt:117:8
 add-if3 : tie.Need-add-if3
 add-if3 c = search needs
 
--- src/lib.rt:118:9
 returns-3 : tie.Need-returns-3
 unfolding rowPasses
 returns-3 c = rw (le-ltb _ _ (c .before .before .before .if1 .left), ne-eqb _ _ (c .before .before .if2 .left), eq-eqb _ _ (c .if3 .taken))
 
--- src/lib.rt:120:38
 mul-bad-receiver : tie.Need-mul-bad-receiver
 mul-bad-receiver c = omega (arith, cell-lt (c .before .before .before .before .before .args .size .w) 0 (c .before .before .before .before .before .args .y) (omega (arith, c .before .before .before .before .before .pre .0 .columns)) (c .before .before .before .before .before .args .size .h) (c .before .before .before .before .before .pre .1 .1), cells-bound _ _ (c .before .before .before .before .before .pre .0 .wide) (c .before .before .before .before .before .pre .0 .high), c .before .before .before .before .before .pre .1 .0)
 
--- src/lib.rt:120:33
 mul-bad-receiver-2 : tie.Need-mul-bad-receiver-2
 mul-bad-receiver-2 c = omega (arith, cell-lt (c .before .before .before .before .before .args .size .w) 0 (c .before .before .before .before .before .args .y) (omega (arith, c .before .before .before .before .before .pre .0 .columns)) (c .before .before .before .before .before .args .size .h) (c .before .before .before .before .before .pre .1 .1), cells-bound _ _ (c .before .before .before .before .before .pre .0 .wide) (c .before .before .before .before .before .pre .0 .high), c .before .before .before .before .before .pre .1 .0)
 
--- src/lib.rt:120:33
 shared-slice-read-bad-receiver : tie.Need-shared-slice-read-bad-receiver
 shared-slice-read-bad-receiver c = omega (arith, cell-lt (c .before .before .before .before .before .before .args .size .w) 0 (c .before .before .before .before .before .before .args .y) (omega (arith, c .before .before .before .before .before .before .pre .0 .columns)) (c .before .before .before .before .before .before .args .size .h) (c .before .before .before .before .before .before .pre .1 .1), cells-bound _ _ (c .before .before .before .before .before .before .pre .0 .wide) (c .before .before .before .before .before .before .pre .0 .high), c .before .before .before .before .before .before .pre .1 .0)
 
--- src/lib.rt:120:33
 cast-bad-receiver : tie.Need-cast-bad-receiver
 cast-bad-receiver c = omega (arith, c .shared-slice-known2 .given (c .before .before .before .before .before .before .args .y * c .before .before .before .before .before .before .args .size .w))
 
--- src/lib.rt:120:8
 bad-receiver-requires : tie.Need-bad-receiver-requires
 bad-receiver-requires c κs = record { column = omega (arith, c .before .before .before .before .before .before .pre .0 .columns); row = c .before .before .before .before .before .before .pre .1 .1; wide = c .before .before .before .before .before .before .pre .0 .wide; high = c .before .before .before .before .before .before .pre .0 .high }
 
--- src/lib.rt:121:9
 returns-4 : tie.Need-returns-4
 returns-4 c = passes-west _ _ _ _ (c .before .before .before .before .before .before .if1 .left) (c .before .before .before .before .before .if2 .left) (c .before .before .before .if3 .left) (c .before .bad-receiver .ensures) (c .if4 .taken)
 
--- src/lib.rt:123:27
 sub-bad-receiver : tie.Need-sub-bad-receiver
 sub-bad-receiver c = search needs
 
--- src/lib.rt:123:42
 sub-bad-receiver-2 : tie.Need-sub-bad-receiver-2
 sub-bad-receiver-2 c = search needs
 
--- src/lib.rt:123:50
 mul-bad-receiver-3 : tie.Need-mul-bad-receiver-3
 mul-bad-receiver-3 c = omega (arith, cell-lt (c .before .before .before .before .before .before .before .before .args .size .w) (c .before .before .before .before .before .before .before .before .args .size .w - 1) (c .before .before .before .before .before .before .before .before .args .y) (omega (arith, c .before .before .before .before .before .before .before .before .pre .0 .columns)) (c .before .before .before .before .before .before .before .before .args .size .h) (c .before .before .before .before .before .before .before .before .pre .1 .1), cells-bound _ _ (c .before .before .before .before .before .before .before .before .pre .0 .wide) (c .before .before .before .before .before .before .before .before .pre .0 .high), c .before .before .before .before .before .before .before .before .pre .1 .0)
 
--- src/lib.rt:123:42
 add-bad-receiver : tie.Need-add-bad-receiver
 add-bad-receiver c = omega (arith, cell-lt (c .before .before .before .before .before .before .before .before .args .size .w) (c .before .before .before .before .before .before .before .before .args .size .w - 1) (c .before .before .before .before .before .before .before .before .args .y) (omega (arith, c .before .before .before .before .before .before .before .before .pre .0 .columns)) (c .before .before .before .before .before .before .before .before .args .size .h) (c .before .before .before .before .before .before .before .before .pre .1 .1), cells-bound _ _ (c .before .before .before .before .before .before .before .before .pre .0 .wide) (c .before .before .before .before .before .before .before .before .pre .0 .high), c .before .before .before .before .before .before .before .before .pre .1 .0)
 
--- src/lib.rt:123:37
 mul-bad-receiver-4 : tie.Need-mul-bad-receiver-4
 mul-bad-receiver-4 c = omega (arith, cell-lt (c .before .before .before .before .before .before .before .before .args .size .w) (c .before .before .before .before .before .before .before .before .args .size .w - 1) (c .before .before .before .before .before .before .before .before .args .y) (omega (arith, c .before .before .before .before .before .before .before .before .pre .0 .columns)) (c .before .before .before .before .before .before .before .before .args .size .h) (c .before .before .before .before .before .before .before .before .pre .1 .1), cells-bound _ _ (c .before .before .before .before .before .before .before .before .pre .0 .wide) (c .before .before .before .before .before .before .before .before .pre .0 .high), c .before .before .before .before .before .before .before .before .pre .1 .0)
 
--- src/lib.rt:123:37
 shared-slice-read-bad-receiver-2 : tie.Need-shared-slice-read-bad-receiver-2
 shared-slice-read-bad-receiver-2 c = omega (arith, cell-lt (c .before .before .before .before .before .before .before .before .before .args .size .w) (c .before .before .before .before .before .before .before .before .before .args .size .w - 1) (c .before .before .before .before .before .before .before .before .before .args .y) (omega (arith, c .before .before .before .before .before .before .before .before .before .pre .0 .columns)) (c .before .before .before .before .before .before .before .before .before .args .size .h) (c .before .before .before .before .before .before .before .before .before .pre .1 .1), cells-bound _ _ (c .before .before .before .before .before .before .before .before .before .pre .0 .wide) (c .before .before .before .before .before .before .before .before .before .pre .0 .high), c .before .before .before .before .before .before .before .before .before .pre .1 .0)
 
--- src/lib.rt:123:37
 cast-bad-receiver-2 : tie.Need-cast-bad-receiver-2
 cast-bad-receiver-2 c = omega (arith, c .shared-slice-known3 .given ((c .before .before .before .before .before .before .before .before .before .args .size .w - 1) + c .before .before .before .before .before .before .before .before .before .args .y * c .before .before .before .before .before .before .before .before .before .args .size .w))
 
--- src/lib.rt:123:8
 bad-receiver-requires-2 : tie.Need-bad-receiver-requires-2
 bad-receiver-requires-2 c κs = record { column = omega (arith, c .before .before .before .before .before .before .before .before .before .pre .0 .columns); row = c .before .before .before .before .before .before .before .before .before .pre .1 .1; wide = c .before .before .before .before .before .before .before .before .before .pre .0 .wide; high = c .before .before .before .before .before .before .before .before .before .pre .0 .high }
 
--- src/lib.rt:124:9
 returns-5 : tie.Need-returns-5
 returns-5 c = passes-east _ _ _ _ (c .before .before .before .before .before .before .before .before .before .if1 .left) (c .before .before .before .before .before .before .before .before .if2 .left) (c .before .before .before .before .before .before .if3 .left) (c .before .before .before .before .bad-receiver .ensures) (c .before .before .before .if4 .left) (c .before .bad-receiver2 .ensures) (c .if5 .taken)
 
--- src/lib.rt:126:5
 inner-pass-requires : tie.Need-inner-pass-requires
 inner-pass-requires c κs = search needs
 
--- src/lib.rt:104:1
 returns-6 : tie.Need-returns-6
 returns-6 c = passes-inner _ _ _ _ (c .before .before .before .before .before .before .before .before .before .before .if1 .left) (c .before .before .before .before .before .before .before .before .before .if2 .left) (c .before .before .before .before .before .before .before .if3 .left) (c .before .before .before .before .before .bad-receiver .ensures) (c .before .before .before .before .if4 .left) (c .before .before .bad-receiver2 .ensures) (c .before .if5 .left) (c .inner-pass .ensures)
 

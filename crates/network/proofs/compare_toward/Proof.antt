@@ -3,19 +3,15 @@ use borrow.Author.Needs.{needs}
 use Rattle.network.proofs.compare_toward.Statement.{statement}
 use Rattle.network.proofs.compare_toward.Tie as tie
 
--- src/lib.rt:72:9
 returns : tie.Need-returns
 returns c = compared-outside _ _ _ _ _ _ _ (c .before .before .pre .0) (c .if1 .taken)
 
--- src/lib.rt:74:29
 cast-compare : tie.Need-cast-compare
 cast-compare c = search needs
 
--- src/lib.rt:74:5
 compare-requires : tie.Need-compare-requires
 compare-requires c κs = search needs
 
--- src/lib.rt:64:1
 returns-2 : tie.Need-returns-2
 returns-2 c = compared-inside _ _ _ _ _ _ _ (c .before .before .before .pre .0) _ (c .before .if1 .left) (c .compare .ensures)
 

@@ -11,6 +11,7 @@ use Rattle.network.proofs.ReceiverLaws.{Leading, leading-none, leading-
 use Rattle.network.proofs.receiver.Statement.{statement}
 use Rattle.network.proofs.receiver.Tie as tie
 
+-- After d directions `best` is the best of these and the finder.
 abbrev Inv-loop : tie.InvT-loop
 Inv-loop g spill x y f w c found best₀ d₀ best d = (d ≤ 8) × Leading (g .w) (g .h) spill (cellOf (g .w) x y) f d best
 

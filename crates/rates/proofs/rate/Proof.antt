@@ -3,15 +3,12 @@ use borrow.Author.Needs.{needs}
 use Rattle.rates.proofs.rate.Statement.{statement}
 use Rattle.rates.proofs.rate.Tie as tie
 
--- src/lib.rt:14:17
 max-requires : tie.Need-max-requires
 max-requires c κs = search needs
 
--- src/lib.rt:14:9
 root-of-requires : tie.Need-root-of-requires
 root-of-requires c κs = search needs
 
--- src/lib.rt:11:1
 returns : tie.Need-returns
 returns c = rate-is _ _ _ (c .before .max .ensures) (c .root-of .ensures)
 

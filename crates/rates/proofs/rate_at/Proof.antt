@@ -4,31 +4,24 @@ use borrow.Author.Needs.{needs}
 use Rattle.rates.proofs.rate_at.Statement.{statement}
 use Rattle.rates.proofs.rate_at.Tie as tie
 
--- src/lib.rt:46:14
 float-to-int-i : tie.Need-float-to-int-i
 float-to-int-i c = area-cast (c .before .pre .1 .1)
 
--- src/lib.rt:46:13
 cast-i : tie.Need-cast-i
 cast-i c = omega (arith, area-number (c .before .pre .1 .1), c .before .pre .1 .1 .small)
 
--- src/lib.rt:48:16
 mul-result : tie.Need-mul-result
 mul-result c = search needs
 
--- src/lib.rt:48:16
 element-copy-out-result : tie.Need-element-copy-out-result
 element-copy-out-result c = search needs
 
--- src/lib.rt:48:9
 returns : tie.Need-returns
 returns c = rates-read _ _ _ _ (c .before .before .before .pre .1 .1) (c .before .before .before .pre .1 .0) (c .before .if1 .taken)
 
--- src/lib.rt:50:5
 rate-requires : tie.Need-rate-requires
 rate-requires c κs = search needs
 
--- src/lib.rt:40:1
 returns-2 : tie.Need-returns-2
 returns-2 c = search needs
 

@@ -15,55 +15,42 @@ Inv-loop area n-cells k out₀ n m rates i₀ out i = Filling (λ c. rateOf (get
 abbrev μ-loop : tie.MeasureT-loop
 μ-loop area n-cells k out₀ n m rates i₀ out i = length area - i
 
--- src/lib.rt:62:9
 table-size-requires : tie.Need-table-size-requires Inv-loop μ-loop
 table-size-requires c κs = search needs
 
--- src/lib.rt:63:17
 table-requires : tie.Need-table-requires Inv-loop μ-loop
 table-requires c κs = omega (arith, c .table-size .ensures)
 
--- src/lib.rt:65:5
 loop-holds : tie.Need-loop-holds Inv-loop μ-loop
 loop-holds c = filling-none
 
--- src/lib.rt:66:37
 mul-rate-at : tie.Need-mul-rate-at Inv-loop μ-loop
 mul-rate-at c = omega (arith, c .before .loop-test .taken, c .before .before .before .before .before .before .before .good)
 
--- src/lib.rt:66:37
 shared-slice-read-rate-at : tie.Need-shared-slice-read-rate-at Inv-loop μ-loop
 shared-slice-read-rate-at c = c .before .before .loop-test .taken
 
--- src/lib.rt:66:18
 rate-at-requires : tie.Need-rate-at-requires Inv-loop μ-loop
 rate-at-requires c κs = (omega (arith, c .before .before .before .before .before .table-size .ensures), (c .before .before .before .before .table .ensures, c .before .before .before .before .before .before .before .before .pre .1 _ (c .before .before .loop-test .taken)))
 
--- src/lib.rt:66:9
 mul-out : tie.Need-mul-out Inv-loop μ-loop
 mul-out c = omega (arith, c .before .before .before .loop-test .taken, c .before .before .before .before .before .before .before .before .before .good)
 
--- src/lib.rt:66:9
 slice-write-out : tie.Need-slice-write-out Inv-loop μ-loop
 slice-write-out c = omega (arith, c .before .before .before .loop-test .taken, filling-length (c .before .before .before .before .loop .inv), c .before .before .before .before .before .before .before .before .before .pre .0)
 
--- src/lib.rt:67:9
 add-i : tie.Need-add-i Inv-loop μ-loop
 add-i c = omega (arith, c .before .before .before .loop-test .taken, c .before .before .before .before .before .before .before .before .before .good)
 
--- src/lib.rt:65:5
 loop-less : tie.Need-loop-less Inv-loop μ-loop
 loop-less c = omega (arith, c .before .before .before .loop-test .taken)
 
--- src/lib.rt:65:5
 loop-again : tie.Need-loop-again Inv-loop μ-loop
 loop-again c = filling-more (c .before .before .before .before .loop .inv) (c .rate-at .ensures) (omega (arith, c .before .before .before .loop-test .taken, c .before .before .before .before .before .before .before .before .before .pre .0))
 
--- src/lib.rt:57:1
 same-length : tie.Need-same-length Inv-loop μ-loop
 same-length c = filling-length (c .before .loop .inv)
 
--- src/lib.rt:57:1
 returns : tie.Need-returns Inv-loop μ-loop
 returns c = rates-over _ _ _ (c .before .loop .inv) (c .before .before .before .before .before .before .pre .0) (c .loop-test .left)
 

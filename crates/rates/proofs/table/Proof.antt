@@ -16,39 +16,30 @@ Inv-loop m n-cells k rates₀ i₀ rates i = Filling (λ j. rateOf (whole j) n-c
 abbrev μ-loop : tie.MeasureT-loop
 μ-loop m n-cells k rates₀ i₀ rates i = m - i
 
--- src/lib.rt:31:5
 loop-holds : tie.Need-loop-holds Inv-loop μ-loop
 loop-holds c = (filling-none, omega arith)
 
--- src/lib.rt:32:25
 int-to-float-rate : tie.Need-int-to-float-rate Inv-loop μ-loop
 int-to-float-rate c = place-float _ (omega (arith, c .before .loop-test .taken, c .before .before .before .pre))
 
--- src/lib.rt:32:20
 rate-requires : tie.Need-rate-requires Inv-loop μ-loop
 rate-requires c κs = search needs
 
--- src/lib.rt:32:9
 mul-rates : tie.Need-mul-rates Inv-loop μ-loop
 mul-rates c = omega (arith, c .before .before .loop-test .taken, c .before .before .before .before .pre)
 
--- src/lib.rt:32:9
 array-write-rates : tie.Need-array-write-rates Inv-loop μ-loop
 array-write-rates c = omega (arith, c .before .before .loop-test .taken, c .before .before .before .before .pre)
 
--- src/lib.rt:33:9
 add-i : tie.Need-add-i Inv-loop μ-loop
 add-i c = omega (arith, c .before .before .loop-test .taken, c .before .before .before .before .pre)
 
--- src/lib.rt:31:5
 loop-less : tie.Need-loop-less Inv-loop μ-loop
 loop-less c = omega (arith, c .before .before .loop-test .taken)
 
--- src/lib.rt:31:5
 loop-again : tie.Need-loop-again Inv-loop μ-loop
 loop-again c = (filling-more (c .before .before .before .loop .inv .0) (c .rate .ensures) (omega (arith, length-replicate {A = Float} 1024 (ofBits binary32 0), c .before .before .loop-test .taken, c .before .before .before .before .pre)), omega (arith, c .before .before .loop-test .taken))
 
--- src/lib.rt:25:1
 returns : tie.Need-returns Inv-loop μ-loop
 returns c = table-done _ _ _ (c .before .loop .inv .0) (c .before .loop .inv .1) (c .loop-test .left)
 

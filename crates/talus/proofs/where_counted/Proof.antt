@@ -3,11 +3,9 @@ use mathlib.Core.Bool.{Bool, cond}
 use Rattle.talus.proofs.where_counted.Statement.{statement}
 use Rattle.talus.proofs.where_counted.Tie as tie
 
--- src/lib.rt:31:1
 returns : tie.Need-returns
 returns c = sym (ap (λ (t : Bool). cond t (c .before .args .counted) (c .before .args .not)) (c .if1 .taken))
 
--- src/lib.rt:31:1
 returns-2 : tie.Need-returns-2
 returns-2 c = sym (ap (λ (t : Bool). cond t (c .before .args .counted) (c .before .args .not)) (c .if1 .left))
 

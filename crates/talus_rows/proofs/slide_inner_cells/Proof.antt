@@ -15,43 +15,33 @@ Inv-loop size os ts hmap out₀ strength water y n i₀ out i = (out ≡ slideCe
 abbrev μ-loop : tie.MeasureT-loop
 μ-loop size os ts hmap out₀ strength water y n i₀ out i = n - i
 
--- src/lib.rt:220:5
 loop-holds : tie.Need-loop-holds Inv-loop μ-loop
 loop-holds c = (cells-none _ _ _ _ _ _ _ _ _, (omega arith, refl))
 
--- src/lib.rt:221:29
 sub-block-of : tie.Need-sub-block-of Inv-loop μ-loop
 sub-block-of c = omega (arith, c .loop-test .taken)
 
--- src/lib.rt:221:13
 block-of-requires : tie.Need-block-of-requires Inv-loop μ-loop
 block-of-requires c κs = search needs
 
--- src/lib.rt:231:13
 add-slide-block : tie.Need-add-slide-block Inv-loop μ-loop
 add-slide-block c = omega (arith, c .before .before .loop-test .taken, c .before .before .before .before .before .before .pre .0 .row)
 
--- src/lib.rt:222:9
 slide-block-requires : tie.Need-slide-block-requires Inv-loop μ-loop
 slide-block-requires c κs = (inner-part (c .before .before .before .loop .i) (c .before .block-of .result) (c .before .before .before .before .before .before .pre .0) (omega (arith, c .before .block-of .ensures, c .before .before .loop-test .taken)), (c .before .before .before .before .before .before .pre .1 .0, (c .before .before .before .loop .inv .1 .1 ∙ c .before .before .before .before .before .before .pre .1 .1, omega (arith, c .before .block-of .ensures))))
 
--- src/lib.rt:234:9
 add-i : tie.Need-add-i Inv-loop μ-loop
 add-i c = omega (arith, c .before .before .before .before .before .loop-test .taken, c .before .before .before .before .block-of .ensures, c .before .before .before .before .before .before .before .before .before .pre .0 .row)
 
--- src/lib.rt:220:5
 loop-less : tie.Need-loop-less Inv-loop μ-loop
 loop-less c = omega (arith, c .before .before .before .before .before .loop-test .taken, c .before .before .before .before .block-of .ensures)
 
--- src/lib.rt:220:5
 loop-again : tie.Need-loop-again Inv-loop μ-loop
 loop-again c = (cells-block _ _ _ _ _ _ _ _ 1 (c .before .before .before .before .before .before .loop .i) (c .before .before .before .before .block-of .result) _ _ (c .before .before .before .before .before .before .loop .inv .0) (c .before .before .slide-block .ensures), (omega (arith, c .before .before .before .before .before .loop-test .taken, c .before .before .before .before .block-of .ensures), c .before .before .slide-block .kept .1 .1 .1 .1 .0 ∙ c .before .before .before .before .before .before .loop .inv .1 .1))
 
--- src/lib.rt:203:1
 same-length : tie.Need-same-length Inv-loop μ-loop
 same-length c = c .before .loop .inv .1 .1
 
--- src/lib.rt:203:1
 returns : tie.Need-returns Inv-loop μ-loop
 returns c = cells-end _ _ _ _ _ _ _ _ _ _ _ _ (c .before .loop .inv .0) (c .before .loop .inv .1 .0) (c .loop-test .left)
 

@@ -15,6 +15,7 @@ use Rattle.upsample.proofs.SumLaws.{Summing, summing-start, summing-len
 use Rattle.upsample.proofs.sum_rows.Statement.{statement}
 use Rattle.upsample.proofs.sum_rows.Tie as tie
 
+-- The first y rows are done; the arrays hold reduced row `held` and the next.
 abbrev Inv-loop : tie.InvT-loop
 Inv-loop map₀ size delta dsize store w h cs ds north₀ south₀ held₀ y₀ map north south held y = Summing store (addedAt asSource map₀ w h delta (dsize .w) (dsize .h)) (y * w) map₀ map × ((y ≤ h) × Mixes delta (dsize .w) (dsize .h) w held north south)
 

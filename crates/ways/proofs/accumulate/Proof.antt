@@ -13,59 +13,45 @@ Inv-loop recv order area₀ k₀ area k = Adding (length recv) recv order k area
 abbrev μ-loop : tie.MeasureT-loop
 μ-loop recv order area₀ k₀ area k = k
 
--- src/lib.rt:54:5
 fill-requires : tie.Need-fill-requires Inv-loop μ-loop
 fill-requires c κs = search needs
 
--- src/lib.rt:56:5
 loop-holds : tie.Need-loop-holds Inv-loop μ-loop
 loop-holds c = adding-none (c .before .before .fill .kept .0 ∙ sym (c .before .before .before .before .before .before .before .pre .receivers)) (rw (c .before .before .before .before .before .before .before .pre .receivers) (c .before .before .fill .ensures))
 
--- src/lib.rt:57:9
 sub-k : tie.Need-sub-k Inv-loop μ-loop
 sub-k c = omega (arith, c .loop-test .taken)
 
--- src/lib.rt:58:17
 mul-c : tie.Need-mul-c Inv-loop μ-loop
 mul-c c = omega (arith, c .before .loop .inv .place, c .before .before .before .before .before .before .before .before .before .good)
 
--- src/lib.rt:58:17
 shared-slice-read-c : tie.Need-shared-slice-read-c Inv-loop μ-loop
 shared-slice-read-c c = omega (arith, c .before .before .loop .inv .place, c .before .loop-test .taken)
 
--- src/lib.rt:58:17
 cast-c : tie.Need-cast-c Inv-loop μ-loop
 cast-c c = omega (arith, c .shared-slice-known3 .given (c .before .before .loop .k - 1))
 
--- src/lib.rt:59:27
 mul-add-down : tie.Need-mul-add-down Inv-loop μ-loop
 mul-add-down c = omega (arith, c .before .before .before .before .before .before .before .before .before .before .before .pre .entries (c .before .before .before .loop .k - 1) (omega (arith, c .before .before .before .loop .inv .place, c .before .before .loop-test .taken)), c .before .before .before .before .before .before .before .before .before .before .before .pre .receivers, c .before .before .before .before .before .before .before .before .before .before .before .good)
 
--- src/lib.rt:59:27
 shared-slice-read-add-down : tie.Need-shared-slice-read-add-down Inv-loop μ-loop
 shared-slice-read-add-down c = omega (arith, c .before .before .before .before .before .before .before .before .before .before .before .before .pre .entries (c .before .before .before .before .loop .k - 1) (omega (arith, c .before .before .before .before .loop .inv .place, c .before .before .before .loop-test .taken)), c .before .before .before .before .before .before .before .before .before .before .before .before .pre .receivers)
 
--- src/lib.rt:59:27
 cast-add-down : tie.Need-cast-add-down Inv-loop μ-loop
 cast-add-down c = omega (arith, c .shared-slice-known4 .given (getD (c .before .before .before .before .before .before .before .before .before .before .before .before .args .order .now) (c .before .before .before .before .loop .k - 1) 0))
 
--- src/lib.rt:59:9
 add-down-requires : tie.Need-add-down-requires Inv-loop μ-loop
 add-down-requires c κs = (let l = c .before .before .before .before .before .before .before .before .before .before .before .before .pre .entries (c .before .before .before .before .loop .k - 1) (omega (arith, c .before .before .before .before .loop .inv .place, c .before .before .before .loop-test .taken)) in (omega (arith, l, c .before .before .before .before .loop .inv .long, c .before .before .before .before .before .before .before .before .before .before .before .before .pre .receivers), omega (arith, c .before .before .before .before .before .before .before .before .before .before .before .before .pre .inside _ l, c .before .before .before .before .loop .inv .long, c .before .before .before .before .before .before .before .before .before .before .before .before .pre .receivers)))
 
--- src/lib.rt:56:5
 loop-less : tie.Need-loop-less Inv-loop μ-loop
 loop-less c = omega (arith, c .before .before .before .before .before .before .loop-test .taken)
 
--- src/lib.rt:56:5
 loop-again : tie.Need-loop-again Inv-loop μ-loop
 loop-again c = adding-more (c .before .before .before .before .before .before .before .loop .inv) (c .before .before .before .before .before .before .loop-test .taken) (c .before .before .add-down .ensures) (c .before .before .add-down .kept .0)
 
--- src/lib.rt:50:1
 same-length : tie.Need-same-length Inv-loop μ-loop
 same-length c = c .before .loop .inv .long ∙ c .before .before .before .before .before .before .before .before .before .pre .receivers
 
--- src/lib.rt:50:1
 returns : tie.Need-returns Inv-loop μ-loop
 returns c = adding-done (c .before .loop .inv) (c .loop-test .left) ∙ rw (c .before .before .before .before .before .before .before .before .before .pre .receivers)
 

@@ -3,39 +3,30 @@ use borrow.Author.Needs.{needs}
 use Rattle.ways.proofs.add_down.Statement.{statement}
 use Rattle.ways.proofs.add_down.Tie as tie
 
--- src/lib.rt:32:9
 returns : tie.Need-returns
 returns c = rw (eq-eqb _ _ (c .if1 .taken))
 
--- src/lib.rt:34:15
 mul-area : tie.Need-mul-area
 mul-area c = search needs
 
--- src/lib.rt:34:15
 slice-read-area : tie.Need-slice-read-area
 slice-read-area c = search needs
 
--- src/lib.rt:34:25
 mul-area-2 : tie.Need-mul-area-2
 mul-area-2 c = search needs
 
--- src/lib.rt:34:25
 slice-read-area-2 : tie.Need-slice-read-area-2
 slice-read-area-2 c = search needs
 
--- src/lib.rt:34:5
 mul-area-3 : tie.Need-mul-area-3
 mul-area-3 c = search needs
 
--- src/lib.rt:34:5
 slice-write-area : tie.Need-slice-write-area
 slice-write-area c = search needs
 
--- src/lib.rt:27:1
 same-length : tie.Need-same-length
 same-length c = search needs
 
--- src/lib.rt:27:1
 returns-2 : tie.Need-returns-2
 returns-2 c = rw (ne-eqb _ _ (c .before .before .if1 .left))
 

@@ -3,31 +3,24 @@ use borrow.Author.Needs.{needs}
 use Rattle.ways.proofs.receiver_distance.Statement.{statement}
 use Rattle.ways.proofs.receiver_distance.Tie as tie
 
--- src/lib.rt:17:8
 rem-if1 : tie.Need-rem-if1
 rem-if1 c = search needs
 
--- src/lib.rt:17:21
 rem-if1-2 : tie.Need-rem-if1-2
 rem-if1-2 c = search needs
 
--- src/lib.rt:18:9
 returns : tie.Need-returns
 returns c = rw (eq-eqb _ _ (c .if1 .taken))
 
--- src/lib.rt:20:8
 div-if2 : tie.Need-div-if2
 div-if2 c = search needs
 
--- src/lib.rt:20:21
 div-if2-2 : tie.Need-div-if2-2
 div-if2-2 c = search needs
 
--- src/lib.rt:21:9
 returns-2 : tie.Need-returns-2
 returns-2 c = rw (ne-eqb _ _ (c .before .if1 .left), eq-eqb _ _ (c .if2 .taken))
 
--- src/lib.rt:13:1
 returns-3 : tie.Need-returns-3
 returns-3 c = rw (ne-eqb _ _ (c .before .if1 .left), ne-eqb _ _ (c .if2 .left))
 

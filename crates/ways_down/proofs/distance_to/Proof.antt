@@ -4,19 +4,15 @@ use borrow.Author.Needs.{needs}
 use Rattle.ways_down.proofs.distance_to.Statement.{statement}
 use Rattle.ways_down.proofs.distance_to.Tie as tie
 
--- src/lib.rt:41:9
 step-place-requires : tie.Need-step-place-requires
 step-place-requires c κs = search needs
 
--- src/lib.rt:42:5
 mul-result : tie.Need-mul-result
 mul-result c = let p = c .before .pre .1 in omega (arith, c .step-place .ensures, place-holds (p .0) (p .1) .0)
 
--- src/lib.rt:42:5
 element-copy-out-result : tie.Need-element-copy-out-result
 element-copy-out-result c = let p = c .before .pre .1 in omega (arith, c .step-place .ensures, place-holds (p .0) (p .1) .0)
 
--- src/lib.rt:35:1
 returns : tie.Need-returns
 returns c = let p = c .before .before .pre in place-read (p .1 .0) (p .1 .1) _ _ (p .0) (c .before .step-place .ensures)
 

@@ -3,35 +3,27 @@ use borrow.Author.Needs.{needs}
 use Rattle.ways_down.proofs.ends_at.Statement.{statement}
 use Rattle.ways_down.proofs.ends_at.Tie as tie
 
--- src/lib.rt:68:13
 mul-r : tie.Need-mul-r
 mul-r c = search needs
 
--- src/lib.rt:68:13
 shared-slice-read-r : tie.Need-shared-slice-read-r
 shared-slice-read-r c = search needs
 
--- src/lib.rt:68:13
 cast-r : tie.Need-cast-r
 cast-r c = search needs
 
--- src/lib.rt:70:9
 returns : tie.Need-returns
 returns c = rw (eq-eqb _ _ (c .if1 .taken))
 
--- src/lib.rt:72:13
 mul-is-made : tie.Need-mul-is-made
 mul-is-made c = search needs
 
--- src/lib.rt:72:13
 shared-slice-read-is-made : tie.Need-shared-slice-read-is-made
 shared-slice-read-is-made c = search needs
 
--- src/lib.rt:72:5
 is-made-requires : tie.Need-is-made-requires
 is-made-requires c κs = search needs
 
--- src/lib.rt:64:1
 returns-2 : tie.Need-returns-2
 returns-2 c = rw (ne-eqb _ _ (c .before .before .if1 .left)) (c .is-made .ensures)
 

@@ -17,44 +17,34 @@ Inv-loop by hmap area recv out₀ ds rates n i₀ out i = Upto (length recv) i (
 abbrev μ-loop : tie.MeasureT-loop
 μ-loop by hmap area recv out₀ ds rates n i₀ out i = length recv - i
 
--- src/lib.rt:148:14
 distances-requires : tie.Need-distances-requires Inv-loop μ-loop
 distances-requires c κs = search needs
 
--- src/lib.rt:149:17
 table-requires : tie.Need-table-requires Inv-loop μ-loop
 table-requires c κs = search needs
 
--- src/lib.rt:150:5
 fill-requires : tie.Need-fill-requires Inv-loop μ-loop
 fill-requires c κs = search needs
 
--- src/lib.rt:153:5
 loop-holds : tie.Need-loop-holds Inv-loop μ-loop
 unfolding div ofBits
 loop-holds c = upto-none (c .before .before .fill .ensures ∙ ap (λ (k : ℕ). replicate k nan) (c .before .before .before .before .before .before .before .before .before .before .pre .result))
 
--- src/lib.rt:154:9
 settle-way-requires : tie.Need-settle-way-requires Inv-loop μ-loop
 settle-way-requires c κs = let p = c .before .before .before .before .before .before .before .before .before .before .before .before .before .before .before .pre in (ways-still p (c .before .before .before .before .loop .inv .long), (record { distances = c .before .before .before .before .before .before .before .before .before .before .distances .ensures; small = c .before .before .before .before .before .before .before .before .before .table .ensures }, (c .before .before .before .loop-test .taken, c .before .before .before .before .loop .inv)))
 
--- src/lib.rt:155:9
 add-i : tie.Need-add-i Inv-loop μ-loop
 add-i c = omega (arith, c .before .before .before .before .before .before .loop-test .taken, c .before .before .before .before .before .before .before .before .before .before .before .before .before .before .before .before .before .before .pre .steps .few)
 
--- src/lib.rt:153:5
 loop-less : tie.Need-loop-less Inv-loop μ-loop
 loop-less c = omega (arith, c .before .before .before .before .before .before .loop-test .taken)
 
--- src/lib.rt:153:5
 loop-again : tie.Need-loop-again Inv-loop μ-loop
 loop-again c = c .before .before .settle-way .ensures
 
--- src/lib.rt:144:1
 same-length : tie.Need-same-length Inv-loop μ-loop
 same-length c = c .before .loop .inv .long ∙ sym (c .before .before .before .before .before .before .before .before .before .before .before .before .pre .result)
 
--- src/lib.rt:144:1
 returns : tie.Need-returns Inv-loop μ-loop
 returns c = let p = c .before .before .before .before .before .before .before .before .before .before .before .before .pre in let u = c .before .loop .inv in heights-all _ _ _ _ (u .long ∙ sym (p .heights)) (λ d l. u .held d .earlier (omega (arith, c .loop-test .left, p .heights)))
 

@@ -4,71 +4,54 @@ use borrow.Author.Needs.{needs}
 use Rattle.ways_down.proofs.settle_cell.Statement.{statement}
 use Rattle.ways_down.proofs.settle_cell.Tie as tie
 
--- src/lib.rt:61:17
 mul-below : tie.Need-mul-below
 mul-below c = search needs
 
--- src/lib.rt:61:17
 shared-slice-read-below : tie.Need-shared-slice-read-below
 shared-slice-read-below c = search needs
 
--- src/lib.rt:61:17
 cast-below : tie.Need-cast-below
 cast-below c = let p = c .before .before .before .before .before .pre in omega (arith, p .0 .steps .inside _ (p .1 .1), p .0 .steps .few)
 
--- src/lib.rt:62:37
 mul-rate-at : tie.Need-mul-rate-at
 mul-rate-at c = search needs
 
--- src/lib.rt:62:37
 shared-slice-read-rate-at : tie.Need-shared-slice-read-rate-at
 shared-slice-read-rate-at c = search needs
 
--- src/lib.rt:62:16
 rate-at-requires : tie.Need-rate-at-requires
 rate-at-requires c κs = let p = c .before .before .before .before .before .before .pre in (omega arith, (p .1 .0 .small, p .0 .wholes _ (omega (arith, p .0 .areas, p .1 .1))))
 
--- src/lib.rt:62:64
 distance-to-requires : tie.Need-distance-to-requires
 distance-to-requires c κs = let p = c .before .before .before .before .before .before .before .pre in (p .1 .0 .distances, (p .0 .steps .near _ (p .1 .1), p .0 .wide))
 
--- src/lib.rt:63:36
 mul-drains-to : tie.Need-mul-drains-to
 mul-drains-to c = let p = c .before .before .before .before .before .before .before .before .pre in omega (arith, p .0 .steps .inside _ (p .1 .1), p .0 .steps .few)
 
--- src/lib.rt:63:36
 slice-read-drains-to : tie.Need-slice-read-drains-to
 slice-read-drains-to c = let p = c .before .before .before .before .before .before .before .before .before .pre in omega (arith, p .0 .steps .inside _ (p .1 .1), p .0 .result)
 
--- src/lib.rt:63:9
 drains-to-requires : tie.Need-drains-to-requires
 drains-to-requires c κs = search needs
 
--- src/lib.rt:64:18
 mul-cut : tie.Need-mul-cut
 mul-cut c = search needs
 
--- src/lib.rt:64:18
 shared-slice-read-cut : tie.Need-shared-slice-read-cut
 shared-slice-read-cut c = search needs
 
--- src/lib.rt:64:14
 cut-requires : tie.Need-cut-requires
 cut-requires c κs = search needs
 
--- src/lib.rt:64:5
 mul-out : tie.Need-mul-out
 mul-out c = search needs
 
--- src/lib.rt:64:5
 slice-write-out : tie.Need-slice-write-out
 slice-write-out c = search needs
 
--- src/lib.rt:46:1
 same-length : tie.Need-same-length
 same-length c = search needs
 
--- src/lib.rt:46:1
 returns : tie.Need-returns
 returns c = let a = c .before .before .before .before .before .before .before .before .before .before .before .before .args in cell-cut (a .by) (a .hmap .now) (a .area .now) (a .recv .now) (a .c) (a .out .now) (c .before .before .before .before .before .rate-at .ensures) (c .before .before .before .before .distance-to .ensures) (c .before .before .drains-to .ensures) (c .cut .ensures)
 

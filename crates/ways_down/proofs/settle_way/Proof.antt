@@ -5,35 +5,27 @@ use borrow.Author.Needs.{needs}
 use Rattle.ways_down.proofs.settle_way.Statement.{statement}
 use Rattle.ways_down.proofs.settle_way.Tie as tie
 
--- src/lib.rt:144:16
 mul-is-made : tie.Need-mul-is-made
 mul-is-made c = search needs
 
--- src/lib.rt:144:16
 slice-read-is-made : tie.Need-slice-read-is-made
 slice-read-is-made c = search needs
 
--- src/lib.rt:144:8
 is-made-requires : tie.Need-is-made-requires
 is-made-requires c κs = search needs
 
--- src/lib.rt:145:9
 returns : tie.Need-returns
 returns c = upto-kept (c .before .before .before .before .before .before .before .pre .1 .1 .1) (sym (c .before .is-made .ensures) ∙ c .if1 .taken)
 
--- src/lib.rt:147:9
 walk-down-requires : tie.Need-walk-down-requires
 walk-down-requires c κs = search needs
 
--- src/lib.rt:148:5
 walk-up-requires : tie.Need-walk-up-requires
 walk-up-requires c κs = let p = c .before .before .before .before .before .before .before .before .before .before .before .before .pre in let d = c .before .before .before .walk-down .ensures in (ways-still (p .0) (d .walk .long ∙ p .0 .result), (p .1 .0, turned (p .0 .ordered) (p .1 .1 .1) d))
 
--- src/lib.rt:128:1
 same-length : tie.Need-same-length
 same-length c = search needs
 
--- src/lib.rt:128:1
 returns-2 : tie.Need-returns-2
 returns-2 c = search needs
 

@@ -16,63 +16,48 @@ Inv-loop recv out₀ i j₀ steps₀ ended₀ out j steps ended = Descent recv o
 abbrev μ-loop : tie.MeasureT-loop
 μ-loop recv out₀ i j₀ steps₀ ended₀ out j steps ended = length recv - steps
 
--- src/lib.rt:83:9
 ends-at-requires : tie.Need-ends-at-requires Inv-loop μ-loop
 ends-at-requires c κs = let p = c .before .before .before .pre in (p .1 .2, omega (arith, receiver-lt (p .0 .work) _ (p .1 .2), p .1 .1))
 
--- src/lib.rt:84:5
 loop-holds : tie.Need-loop-holds Inv-loop μ-loop
 loop-holds c = (descent-none (c .before .before .before .before .pre .1 .2), c .ends-at .ensures)
 
--- src/lib.rt:85:17
 mul-r : tie.Need-mul-r Inv-loop μ-loop
 mul-r c = omega (arith, descent-at (c .before .loop .inv .0), c .before .before .before .before .before .before .pre .1 .0)
 
--- src/lib.rt:85:17
 shared-slice-read-r : tie.Need-shared-slice-read-r Inv-loop μ-loop
 shared-slice-read-r c = descent-at (c .before .before .loop .inv .0)
 
--- src/lib.rt:85:17
 cast-r : tie.Need-cast-r Inv-loop μ-loop
 cast-r c = let p = c .before .before .before .before .before .before .before .pre in omega (arith, receiver-lt (p .0 .work) _ (descent-at (c .before .before .loop .inv .0)), p .1 .0)
 
--- src/lib.rt:86:33
 cast-out : tie.Need-cast-out Inv-loop μ-loop
 cast-out c = omega (arith, descent-at (c .before .before .loop .inv .0), c .before .before .before .before .before .before .before .pre .1 .0)
 
--- src/lib.rt:86:18
 float-from-bits-out : tie.Need-float-from-bits-out Inv-loop μ-loop
 float-from-bits-out c = no-nan-pattern _ (omega (arith, descent-at (c .before .before .loop .inv .0), c .before .before .before .before .before .before .before .pre .1 .0))
 
--- src/lib.rt:86:9
 mul-out : tie.Need-mul-out Inv-loop μ-loop
 mul-out c = let p = c .before .before .before .before .before .before .before .pre in omega (arith, receiver-lt (p .0 .work) _ (descent-at (c .before .before .loop .inv .0)), p .1 .0)
 
--- src/lib.rt:86:9
 slice-write-out : tie.Need-slice-write-out Inv-loop μ-loop
 slice-write-out c = let p = c .before .before .before .before .before .before .before .pre in omega (arith, receiver-lt (p .0 .work) _ (descent-at (c .before .before .loop .inv .0)), p .1 .1, c .before .before .loop .inv .0 .long)
 
--- src/lib.rt:88:9
 add-steps : tie.Need-add-steps Inv-loop μ-loop
 add-steps c = let p = c .before .before .before .before .before .before .before .pre in omega (arith, descent-few (p .0) (c .before .before .loop .inv .0) (p .1 .2), p .1 .0)
 
--- src/lib.rt:89:9
 ends-at-requires-2 : tie.Need-ends-at-requires-2 Inv-loop μ-loop
 ends-at-requires-2 c κs = let p = c .before .before .before .before .before .before .before .before .pre in let l = receiver-lt (p .0 .work) _ (descent-at (c .before .before .before .loop .inv .0)) in (l, simp length-set (omega (arith, receiver-lt (p .0 .work) _ l, p .1 .1, c .before .before .before .loop .inv .0 .long)))
 
--- src/lib.rt:84:5
 loop-less : tie.Need-loop-less Inv-loop μ-loop
 loop-less c = let p = c .before .before .before .before .before .before .before .before .before .pre in omega (arith, descent-few (p .0) (c .before .before .before .before .loop .inv .0) (p .1 .2))
 
--- src/lib.rt:84:5
 loop-again : tie.Need-loop-again Inv-loop μ-loop
 loop-again c = let p = c .before .before .before .before .before .before .before .before .before .pre in (descent-more (p .0) (c .before .before .before .before .loop .inv .0) (p .1 .1) (sym (c .before .before .before .before .loop .inv .1) ∙ not-true _ (c .before .before .before .loop-test .taken)) refl, c .ends-at2 .ensures)
 
--- src/lib.rt:76:1
 same-length : tie.Need-same-length Inv-loop μ-loop
 same-length c = c .before .loop .inv .0 .long
 
--- src/lib.rt:76:1
 returns : tie.Need-returns Inv-loop μ-loop
 returns c = record { walk = c .before .loop .inv .0; ends = sym (c .before .loop .inv .1) ∙ not-false _ (c .loop-test .left) }
 

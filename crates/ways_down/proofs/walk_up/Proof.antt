@@ -13,47 +13,36 @@ Inv-loop by ds rates hmap area recv out₀ i j₀ steps₀ out j steps = Ascent 
 abbrev μ-loop : tie.MeasureT-loop
 μ-loop by ds rates hmap area recv out₀ i j₀ steps₀ out j steps = steps
 
--- src/lib.rt:116:5
 loop-holds : tie.Need-loop-holds Inv-loop μ-loop
 loop-holds c = c .before .before .before .before .pre .1 .1
 
--- src/lib.rt:117:21
 mul-above : tie.Need-mul-above Inv-loop μ-loop
 mul-above c = omega (arith, ascent-at (c .loop .inv), c .before .before .before .before .before .pre .0 .steps .few)
 
--- src/lib.rt:117:21
 slice-read-above : tie.Need-slice-read-above Inv-loop μ-loop
 slice-read-above c = omega (arith, ascent-at (c .before .loop .inv), c .before .loop .inv .long)
 
--- src/lib.rt:118:9
 settle-cell-requires : tie.Need-settle-cell-requires Inv-loop μ-loop
 settle-cell-requires c κs = let p = c .before .before .before .before .before .before .before .pre in (ways-still (p .0) (c .before .before .loop .inv .long), (p .1 .0, ascent-at (c .before .before .loop .inv)))
 
--- src/lib.rt:120:13
 same-length : tie.Need-same-length Inv-loop μ-loop
 same-length c = c .before .before .before .settle-cell .kept .1 .1 .1 .1 .1 .1 .0 ∙ c .before .before .before .before .before .before .loop .inv .long ∙ sym (c .before .before .before .before .before .before .before .before .before .before .before .pre .0 .result)
 
--- src/lib.rt:120:13
 returns : tie.Need-returns Inv-loop μ-loop
 returns c = let p = c .before .before .before .before .before .before .before .before .before .before .before .pre in let a = c .before .before .before .before .before .before .before .before .before .before .before .args in ascent-done (p .0 .ordered) (settles (a .by) (a .hmap .now) (a .area .now) (a .recv .now) (p .0 .ordered) (p .0 .heights)) (c .before .before .before .before .before .before .loop .inv) (c .before .before .before .settle-cell .ensures) (c .if1 .taken)
 
--- src/lib.rt:122:13
 float-to-bits-j : tie.Need-float-to-bits-j Inv-loop μ-loop
 float-to-bits-j c = ascent-plain (c .before .before .before .before .before .before .loop .inv) (c .before .before .before .before .before .before .before .before .before .before .before .pre .0 .steps .few) (omega (arith, c .if1 .left))
 
--- src/lib.rt:122:13
 cast-j : tie.Need-cast-j Inv-loop μ-loop
 cast-j c = omega (arith, ascent-small (c .before .before .before .before .before .before .loop .inv) (c .before .before .before .before .before .before .before .before .before .before .before .pre .0 .steps .few) (omega (arith, c .if1 .left)))
 
--- src/lib.rt:123:9
 sub-steps : tie.Need-sub-steps Inv-loop μ-loop
 sub-steps c = omega (arith, c .if1 .left)
 
--- src/lib.rt:116:5
 loop-less : tie.Need-loop-less Inv-loop μ-loop
 loop-less c = omega (arith, c .if1 .left)
 
--- src/lib.rt:116:5
 loop-again : tie.Need-loop-again Inv-loop μ-loop
 loop-again c = let p = c .before .before .before .before .before .before .before .before .before .before .before .pre in let a = c .before .before .before .before .before .before .before .before .before .before .before .args in ascent-more (p .0 .ordered) (settles (a .by) (a .hmap .now) (a .area .now) (a .recv .now) (p .0 .ordered) (p .0 .heights)) (c .before .before .before .before .before .before .loop .inv) (c .before .before .before .settle-cell .ensures) (p .0 .steps .few) (omega (arith, c .if1 .left))
 
