@@ -1,6 +1,6 @@
 //! Takes the numeric functions out of the published source at build time, by name, and writes them to OUT_DIR, where
 //! src/source.rs includes them. Nothing of that source stands in this repository. The text is unchanged but for the
-//! stand-ins of document 01 (`EDITS`) and the attributes of a crate that is not to be had here (`plain`).
+//! stand-ins of document 01 (`EDITS`) and serde's attributes, which are taken out (`plain`).
 use std::env;
 use std::fs;
 use std::path::{Path, PathBuf};

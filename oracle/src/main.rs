@@ -25,47 +25,53 @@ use std::process::ExitCode;
 /// One seed for all parts of the list.
 const SEED: u64 = 7_616_167;
 
+fn list() -> list::List {
+    list::of(SEED, &[maps::list, numbers::list, passes::list, routes::list, streams::list])
+}
+
+fn write_list(crates: &str) -> Result<(), String> {
+    let l = list();
+    l.write(Path::new(crates)).map_err(|e| format!("cannot write below {crates}: {e}"))?;
+    print!("{}", l.summary());
+    Ok(())
+}
+
+fn verify_list(crates: &str) -> Result<(), String> {
+    if !matches!(list().stands(Path::new(crates)), Ok(true)) {
+        return Err(format!("the files below {crates} are not the list that the oracle makes"));
+    }
+    println!("the list stands as the oracle makes it");
+    Ok(())
+}
+
+fn answer_stream() -> Result<(), String> {
+    let mut input = Vec::new();
+    std::io::stdin().read_to_end(&mut input).map_err(|e| format!("cannot read the stream: {e}"))?;
+    let printed = rules::streams::relief(&input).bytes;
+    std::io::stdout().write_all(&printed).map_err(|e| format!("cannot write the answer: {e}"))
+}
+
+fn count_powf() {
+    let (known_late, constant) = standins::powf_differences();
+    println!("{known_late} differ where the exponent is known at run time only, {constant} with the constant 0.5");
+}
+
 fn main() -> ExitCode {
     let args: Vec<String> = std::env::args().skip(1).collect();
     let words: Vec<&str> = args.iter().map(String::as_str).collect();
-    let list = || list::of(SEED, &[maps::list, numbers::list, passes::list, routes::list, streams::list]);
-    match words.as_slice() {
-        ["list", crates] => {
-            let l = list();
-            if let Err(e) = l.write(Path::new(crates)) {
-                eprintln!("cannot write below {crates}: {e}");
-                return ExitCode::FAILURE;
-            }
-            print!("{}", l.summary());
-            ExitCode::SUCCESS
-        }
-        ["verify", crates] => {
-            if !matches!(list().stands(Path::new(crates)), Ok(true)) {
-                eprintln!("the files below {crates} are not the list that the oracle makes");
-                return ExitCode::FAILURE;
-            }
-            println!("the list stands as the oracle makes it");
-            ExitCode::SUCCESS
-        }
-        ["relief"] => {
-            let mut input = Vec::new();
-            let read = std::io::stdin().read_to_end(&mut input);
-            let done = read.and_then(|_| std::io::stdout().write_all(&rules::streams::relief(&input).bytes));
-            if done.is_err() {
-                return ExitCode::FAILURE;
-            }
-            ExitCode::SUCCESS
-        }
+    let done = match words.as_slice() {
+        ["list", crates] => write_list(crates),
+        ["verify", crates] => verify_list(crates),
+        ["relief"] => answer_stream(),
         ["powf"] => {
-            let (known_late, constant) = standins::powf_differences();
-            println!(
-                "{known_late} differ where the exponent is known at run time only, {constant} with the constant 0.5"
-            );
-            ExitCode::SUCCESS
+            count_powf();
+            Ok(())
         }
-        _ => {
-            eprintln!("usage: oracle list CRATES | oracle verify CRATES | oracle relief | oracle powf");
-            ExitCode::FAILURE
-        }
+        _ => Err("usage: oracle list CRATES | oracle verify CRATES | oracle relief | oracle powf".to_string()),
+    };
+    if let Err(why) = done {
+        eprintln!("{why}");
+        return ExitCode::FAILURE;
     }
+    ExitCode::SUCCESS
 }

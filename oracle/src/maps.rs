@@ -28,7 +28,11 @@ fn normalize(l: &mut List, v: &[f32], lo: f32, hi: f32) {
     l.plain(&t, word(&a, |_| 0), &out);
 }
 
-fn extents(l: &mut List, r: &mut Random) {
+const TARGETS: [(f32, f32); 7] =
+    [(0.0, 1.0), (1.0, 0.0), (-1.0, 1.0), (0.5, 0.5), (-0.0, -0.0), (-3e38, 3e38), (0.0, TINY)];
+const BAD_TARGETS: [f32; 3] = [f32::NAN, f32::INFINITY, f32::NEG_INFINITY];
+
+fn fixed_extents(l: &mut List) {
     let fixed: [&[f32]; 12] = [
         &[],
         &[0.0],
@@ -43,29 +47,31 @@ fn extents(l: &mut List, r: &mut Random) {
         &[f32::MIN, f32::MAX],
         &[TINY, -TINY, 0.0],
     ];
-    let targets = [(0.0, 1.0), (1.0, 0.0), (-1.0, 1.0), (0.5, 0.5), (-0.0, -0.0), (-3e38, 3e38), (0.0, TINY)];
-    let bad = [f32::NAN, f32::INFINITY, f32::NEG_INFINITY];
     for v in fixed {
         get_min_max(l, v);
-        for (lo, hi) in targets {
+        for (lo, hi) in TARGETS {
             normalize(l, v, lo, hi);
         }
-        for x in bad {
+        for x in BAD_TARGETS {
             normalize(l, v, x, 1.0);
             normalize(l, v, 0.0, x);
         }
     }
+}
+
+fn extents(l: &mut List, r: &mut Random) {
+    fixed_extents(l);
     for i in 0..260 {
         let n = r.within(1, if i % 16 == 0 { 60 } else { 12 });
         let v = map(r, n, i % KINDS);
-        let (lo, hi) = r.pick(&targets);
+        let (lo, hi) = r.pick(&TARGETS);
         get_min_max(l, &v);
         normalize(l, &v, lo, hi);
         if i % 4 == 0 {
             let s = spoilt(r, &v);
             get_min_max(l, &s);
             normalize(l, &s, lo, hi);
-            normalize(l, &s, lo, r.pick(&bad));
+            normalize(l, &s, lo, r.pick(&BAD_TARGETS));
         }
     }
 }

@@ -92,7 +92,16 @@ fn work_sizes(l: &mut List, r: &mut Random) {
             }
         }
     }
-    // halves: side × res / longest is a whole number and a half; and where binary32 rounds otherwise than exact numbers do
+    close_sides(l, r);
+    for _ in 0..700 {
+        let w = r.within(1, 4096) as u32;
+        let h = r.within(1, 4096) as u32;
+        work_size(l, w, h, r.below(w.max(h) as usize + 3) as u32);
+    }
+}
+
+/// Halves, where side × res / longest is a whole number and a half; and sides that binary32 rounds otherwise than exact numbers would.
+fn close_sides(l: &mut List, r: &mut Random) {
     let mut halves = 0;
     let mut others = 0;
     while halves < 300 || others < 100 {
@@ -107,11 +116,6 @@ fn work_sizes(l: &mut List, r: &mut Random) {
             work_size(l, longest, side, res);
             work_size(l, side, longest, res);
         }
-    }
-    for _ in 0..700 {
-        let w = r.within(1, 4096) as u32;
-        let h = r.within(1, 4096) as u32;
-        work_size(l, w, h, r.below(w.max(h) as usize + 3) as u32);
     }
 }
 
