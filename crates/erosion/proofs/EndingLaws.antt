@@ -12,10 +12,11 @@ use Rattle.answers.proofs.OutcomeLaws.{refusal-by}
 use Rattle.grid.specs.Heights.{allFinite}
 use Rattle.runs.specs.Run.{Ran, differenceOf}
 use Rattle.upsample.specs.Samples.{asSource, addedOf, AddedFinite}
-use Rattle.erosion.specs.Reached.{halted, ranBy, addedTo}
+use Rattle.erosion.specs.Reached.{Worked, halted, addedTo}
 use Rattle.erosion.specs.Ending.{Ending, accepted, outcomeOf, ranTo, endingOf, endedWith, refusedTo, Numbered, Answered}
 use Rattle.erosion.specs.declared.RunAnswer.{RunAnswer}
 use Rattle.erosion.specs.declared.Reached.{Reached}
+use Rattle.erosion.proofs.ReachedLaws.{worked}
 
 -- an input that is refused
 abbrev refusedWith : Outcome (Unit {0}) → List Float → Ending
@@ -39,10 +40,15 @@ done-accepts f e = sym f ∙ ap answerOf e
 pub done-keeps : {early : Answer} {o : Outcome (Unit {0})} → answerOf early ≡ o → early ≡ Answer.Done → {A : Type 0} {x y : A} → accepted o ≡ false → x ≡ y
 done-keeps f e z = absurd (true≢false (sym (ap accepted (done-accepts f e)) ∙ z))
 
+-- what an answer shows of a run's end: of the record only the questions
+abbrev pub ranBy : Worked → Ran
+ranBy x =
+    record { number = x .reached .number; incisions = x .reached .incisions; passes = x .reached .passes; questions = x .reached .marks .asked; map = x .heights }
+
 -- a run that was accepted
 pub ending-ran : (r : Reached) (a : RunAnswer) (o : Outcome (Unit {0})) (old map : List Float) (ran : Ran)
     → Answered r a
-    → ranBy map r ≡ ran
+    → ranBy (worked map r) ≡ ran
     → o ≡ gives tt
     → endedWith a map ≡ endingOf o old ran
 ending-ran r a o old map ran m e f =
@@ -59,26 +65,27 @@ module _ (w h dw dh : ℕ) (map small eroded : List Float) (r : Reached) where
   sumOf delta = addedOf asSource map w h delta dw dh
 
   off : (x : Reached) → x ≡ halted 22 (r .marks) r → (b : Bool) → (allFinite (differenceOf eroded small) && allFinite (sumOf (differenceOf eroded small))) ≡ b → b ≡ false
-      → ranBy map x ≡ addedTo w h dw dh map small eroded r
-  off x e b f g = rw (f ∙ g) (ap (ranBy map) e)
+      → worked map x ≡ addedTo w h dw dh map small eroded r
+  off x e b f g = rw (f ∙ g) (ap (worked map) e)
 
   module _ {delta : List Float} {all : Bool} where
     pub back-difference : {x : Reached} → x ≡ halted 22 (r .marks) r → delta ≡ differenceOf eroded small → all ≡ allFinite delta → all ≡ false
-        → ranBy map x ≡ addedTo w h dw dh map small eroded r
+        → worked map x ≡ addedTo w h dw dh map small eroded r
     back-difference {x} e d a t =
         let f : allFinite (differenceOf eroded small) ≡ false = ap allFinite (sym d) ∙ sym a ∙ t in
         off x e _ (rw f) refl
 
     pub back-sum : {x : Reached} {sums : Bool} {sum : List Float} → x ≡ halted 22 (r .marks) r → delta ≡ differenceOf eroded small → all ≡ allFinite delta → all ≡ true
-        → AddedFinite (sumOf delta) map sums sum → sums ≡ false → ranBy sum x ≡ addedTo w h dw dh map small eroded r
+        → AddedFinite (sumOf delta) map sums sum → sums ≡ false → worked sum x ≡ addedTo w h dw dh map small eroded r
     back-sum {x} e d a t b u =
         let f : allFinite (differenceOf eroded small) ≡ true = ap allFinite (sym d) ∙ sym a ∙ t in
         let g : allFinite (sumOf (differenceOf eroded small)) ≡ false = ap (λ (l : List Float). allFinite (sumOf l)) (sym d) ∙ sym (b .good) ∙ u in
-        ap (λ (l : List Float). ranBy l x) (rw u at (b .heights)) ∙ off x e _ (rw (f, g)) refl
+        ap (λ (l : List Float). worked l x) (rw u at (b .heights)) ∙ off x e _ (rw (f, g)) refl
 
     pub back-added : {sums : Bool} {sum : List Float} → delta ≡ differenceOf eroded small → all ≡ allFinite delta → all ≡ true → AddedFinite (sumOf delta) map sums sum → sums ≡ true
-        → r .number ≡ 0 → ranBy sum r ≡ addedTo w h dw dh map small eroded r
-    back-added d a t b u z =
+        → r .number ≡ 0 → worked sum r ≡ addedTo w h dw dh map small eroded r
+    back-added {sums} {sum} d a t b u z =
         let f : allFinite (differenceOf eroded small) ≡ true = ap allFinite (sym d) ∙ sym a ∙ t in
         let g : allFinite (sumOf (differenceOf eroded small)) ≡ true = ap (λ (l : List Float). allFinite (sumOf l)) (sym d) ∙ sym (b .good) ∙ u in
-        rw (f, g, z) (ap (λ (l : List Float). ranBy l (halted 0 (r .marks) r)) (rw u at (b .heights) ∙ ap sumOf d))
+        let e : sum ≡ sumOf (differenceOf eroded small) = rw u at (b .heights) ∙ ap sumOf d in
+        rw (f, g) (λ i. worked (e i) (halted (z i) (r .marks) r))

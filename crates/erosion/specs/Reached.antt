@@ -3,16 +3,17 @@ use Prim.Native.Nat.{ℕ, _+_, _^_, _<_}
 use mathlib.Core.Path.{_≡_}
 use mathlib.Core.Bool.{Bool, _&&_, cond}
 use mathlib.Core.List.{List}
+use lib.Dec.{eqb}
 use lib.Ieee.{Float}
 use Rattle.grid.specs.Heights.{allFinite}
 use Rattle.generators.specs.Marks.{fresh}
 use Rattle.generators.specs.declared.Progress.{Progress}
 use Rattle.thermal_erosion.specs.SlidePass.{Pass, Ready}
 use Rattle.resample.specs.Blocks.{downsampled}
-use Rattle.upsample.specs.Samples.{asSource}
-use Rattle.upsample.specs.Samples.{addedOf}
-use Rattle.runs.specs.Machine.{State}
-use Rattle.runs.specs.Run.{Ran, differenceOf}
+use Rattle.upsample.specs.Samples.{asSource, addedOf}
+use Rattle.runs.specs.Machine.{Course, State}
+use Rattle.runs.specs.Run.{differenceOf}
+use Rattle.runs.specs.Nested.{nested}
 use Rattle.erosion.specs.declared.Reached.{Reached}
 
 -- the working map and what the run has reached besides
@@ -49,9 +50,10 @@ pub record PassReady (w h map copy : ℕ) (r : Reached) : Type 0 where
   pub ready : Ready w h map copy (r .marks .asked)
   pub count : r .passes + 1 < 2 ^ 32
 
--- what a run that has reached r with this map ends with
-abbrev pub ranBy : List Float → Reached → Ran
-ranBy map r = record { number = r .number; incisions = r .incisions; passes = r .passes; questions = r .marks .asked; map = map }
+-- what a pass leaves of the map and the run, and its own heights in the copy, completed or dropped
+pub record PassRun (hs : List Float) (r : Reached) (p : Pass) (x : Worked) (copy : List Float) : Type 0 where
+  pub held : x ≡ afterPass hs r p
+  pub copied : copy ≡ p .out
 
 -- the averages of the map, twice, and whether they are finite
 pub record Reduced (w h dw dh : ℕ) (map : List Float) (finite : Bool) (small eroded : List Float) : Type 0 where
@@ -60,8 +62,20 @@ pub record Reduced (w h dw dh : ℕ) (map : List Float) (finite : Bool) (small e
   pub finites : finite ≡ allFinite (downsampled map w h dw dh)
 
 -- the difference added to the map; 22 leaves the map as it came
-abbrev pub addedTo : ℕ → ℕ → ℕ → ℕ → List Float → List Float → List Float → Reached → Ran
+abbrev pub addedTo : ℕ → ℕ → ℕ → ℕ → List Float → List Float → List Float → Reached → Worked
 addedTo w h dw dh map small eroded r =
     let delta = differenceOf eroded small in
     let sum = addedOf asSource map w h delta dw dh in
-    cond (allFinite delta && allFinite sum) (ranBy sum (halted 0 (r .marks) r)) (ranBy map (halted 22 (r .marks) r))
+    cond (allFinite delta && allFinite sum) (record { heights = sum; reached = halted 0 (r .marks) r })
+    (record { heights = map; reached = halted 22 (r .marks) r })
+
+-- A whole run by the states that its loops end in: on the map itself where the working sides are its own, else on its block averages. There averages that
+-- run off end it by 22 before its first question, and 21 and 22 leave the map as it came; else the difference is added to the map.
+unfoldable pub wholeRun : ℕ → ℕ → Course → List Float → Worked
+wholeRun w h c map =
+    let small = downsampled map w h (c .w) (c .h) in
+    let s = nested c small in
+    cond (eqb (c .w) w && eqb (c .h) h) (seen (nested c map))
+    (cond (allFinite small)
+    (cond (eqb (s .number) 0) (addedTo w h (c .w) (c .h) map small (s .heights) (reachedIn s)) (record { heights = map; reached = reachedIn s }))
+    (record { heights = map; reached = halted 22 fresh begun }))

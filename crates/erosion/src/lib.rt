@@ -20,7 +20,7 @@ ghost use Rattle.upsample.specs.Places.{Grid};
 ghost use Rattle.resample.specs.WorkSize.{Within};
 ghost use Rattle.thermal_erosion.specs.SlidePass.{rowsOf};
 ghost use Rattle.runs.specs.Run.{differenceOf};
-ghost use Rattle.erosion.specs.Reached.{Worked, begun as begunOf, halted, afterPass, PassReady, ranBy, addedTo, Reduced};
+ghost use Rattle.erosion.specs.Reached.{Worked, begun as begunOf, halted, PassReady, PassRun, addedTo, Reduced};
 ghost use Rattle.erosion.specs.Ending.{outcomeOf, refusedTo, Numbered, Answered};
 
 // What a whole run answers, with the completed incisions and passes and the questions asked.
@@ -76,7 +76,7 @@ pub fn run_pass(
     r: Reached,
 ) -> Reached
     requires { ⌜ PassReady (size .w) (size .h) (length (now hmap)) (length (now copy)) r ⌝ }
-    ensures { λ e. ⌜ _≡_ {A = Worked} (record { heights = now (hmap .exit); reached = e }) (afterPass (now (hmap .entry)) r (rowsOf (size .w) (size .h) (now (ts .entry)) (params .strength) (params .«water_level») (now (hmap .entry)) from to stop (size .h) (r .marks))) ⌝ }
+    ensures { λ e. ⌜ PassRun (now (hmap .entry)) r (rowsOf (size .w) (size .h) (now (ts .entry)) (params .strength) (params .«water_level») (now (hmap .entry)) from to stop (size .h) (r .marks)) (record { heights = now (hmap .exit); reached = e }) (now (copy .exit)) ⌝ }
 {
     let marks = slide_pass_into(
         size,
@@ -141,7 +141,7 @@ fn subtract(eroded: &mut [f32], small: &[f32])
     }
 }
 
-// The end of a reduced run: the difference of the reduced grids is added to the map. The map is written after every test.
+// The end of a reduced run: the difference of the reduced grids, which is left in eroded, is added to the map. The map is written after every test.
 pub fn add_back(
     size: Sides,
     hmap: &mut [f32],
@@ -154,7 +154,8 @@ pub fn add_back(
     requires { ⌜ Grid (work .w) (work .h) (length (now small)) ⌝ }
     requires { ⌜ length (now eroded) ≡ length (now small) ⌝ }
     requires { ⌜ r .number ≡ 0 ⌝ }
-    ensures { λ e. ⌜ ranBy (now (hmap .exit)) e ≡ addedTo (size .w) (size .h) (work .w) (work .h) (now (hmap .entry)) (now (small .entry)) (now (eroded .entry)) r ⌝ }
+    ensures { λ e. ⌜ _≡_ {A = Worked} (record { heights = now (hmap .exit); reached = e }) (addedTo (size .w) (size .h) (work .w) (work .h) (now (hmap .entry)) (now (small .entry)) (now (eroded .entry)) r) ⌝ }
+    ensures { λ _. ⌜ now (eroded .exit) ≡ differenceOf (now (eroded .entry)) (now (small .entry)) ⌝ }
 {
     subtract(eroded, small);
     if !all_finite(work, eroded) {

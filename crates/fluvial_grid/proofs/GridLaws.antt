@@ -1,4 +1,4 @@
--- What the parts of a run on its working grid ask follows from what it is given, and the run by its loops is the run.
+-- What the parts of a run on its working grid ask follows from what it is given.
 use Prim.Native.Nat.{ℕ, _*_}
 use mathlib.Core.Path.{_≡_, sym, ap, _∙_}
 use mathlib.Core.Bool.{Bool, true, _&&_}
@@ -9,25 +9,13 @@ use lib.Ieee.{Float}
 use Rattle.grid.specs.Heights.{allFinite}
 use Rattle.flood.specs.Slices.{Accepted}
 use Rattle.flow.specs.Route.{Enough}
-use Rattle.upsample.specs.Samples.{asSource}
-use Rattle.runs.specs.Run.{Ran, runOn}
 use Rattle.plans.proofs.InputLaws.{within-range, own-cells}
 use Rattle.erosion.specs.Reached.{Reduced}
-use Rattle.erosion.specs.Ending.{Numbered}
-use Rattle.erosion.proofs.WholeLaws.{wholeRun, whole-run, run-numbered}
-use Rattle.fluvial_loop.specs.Loops.{courseBy}
 use Rattle.fluvial_loop.specs.declared.FluvialPlan.{FluvialPlan}
 use Rattle.fluvial_grid.specs.Grids.{Erodes}
 use Rattle.fluvial_grid.specs.declared.Scratch.{Scratch}
 
 module _ {w h dw dh : ℕ} {plan : FluvialPlan} {stop : ℕ} {map : List Float} {s : Scratch} (e : Erodes w h dw dh plan stop map s) where
-  -- the run by its loops is the run
-  pub by-loops : {x : Ran} → x ≡ wholeRun w h (courseBy dw dh plan stop) map → x ≡ runOn asSource w h (courseBy dw dh plan stop) map
-  by-loops = whole-run w h (courseBy dw dh plan stop) map (e .sides .dh-low) (e .bounded .some)
-
-  pub ran-numbered : {x : Ran} → x ≡ runOn asSource w h (courseBy dw dh plan stop) map → Numbered (x .number)
-  ran-numbered = run-numbered w h (courseBy dw dh plan stop) map (e .sides .dh-low) (e .bounded .some)
-
   -- the slices of the loops, where n is the length of the heights
   pub erodes-enough : {n : ℕ} → n ≡ dw * dh
       → Enough (dw * dh) (record { heights = n; order = s .order; receivers = s .recv; spill = s .copy; areas = s .area; queue = s .queue; status = s .status })

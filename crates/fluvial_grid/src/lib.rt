@@ -10,9 +10,7 @@ use fluvial_loop::run_iterations;
 use generators::fresh;
 use grid::Sides;
 ghost use mathlib.Core.Path.{_≡_};
-ghost use Rattle.upsample.specs.Samples.{asSource};
-ghost use Rattle.runs.specs.Run.{runOn};
-ghost use Rattle.erosion.specs.Reached.{ranBy};
+ghost use Rattle.erosion.specs.Reached.{Worked, wholeRun};
 ghost use Rattle.fluvial_loop.specs.Loops.{courseBy};
 ghost use Rattle.fluvial_grid.specs.Grids.{scratchOf, Erodes};
 
@@ -29,7 +27,7 @@ pub struct Scratch {
 }
 
 // A run on its working grid: on the map itself where the sides are the map's; else on a reduced copy, whose difference is then added to the map. There
-// 21 and 22 leave the map as it came.
+// 21 and 22 leave the map as it came. All slices after stop are scratch.
 pub fn erode(
     size: Sides,
     hmap: &mut [f32],
@@ -46,7 +44,7 @@ pub fn erode(
     status: &mut [u8],
 ) -> Reached
     requires { ⌜ Erodes (size .w) (size .h) (work .w) (work .h) plan stop (now hmap) (scratchOf (now small) (now eroded) (now copy) (now area) (now order) (now recv) (now queue) (now status)) ⌝ }
-    ensures { λ r. ⌜ ranBy (now (hmap .exit)) r ≡ runOn asSource (size .w) (size .h) (courseBy (work .w) (work .h) plan stop) (now (hmap .entry)) ⌝ }
+    ensures { λ r. ⌜ _≡_ {A = Worked} (record { heights = now (hmap .exit); reached = r }) (wholeRun (size .w) (size .h) (courseBy (work .w) (work .h) plan stop) (now (hmap .entry))) ⌝ }
 {
     if on_map(work, size) {
         return run_iterations(

@@ -27,11 +27,13 @@ use Rattle.plans.specs.Accepted as Input
 use Rattle.plans.specs.Accepted.{refusalOn}
 use Rattle.plans.proofs.RefusalLaws.{accepted-by}
 use Rattle.plans.proofs.InputLaws.{within-range, within-cells, decided-by, accepted-within, fluvial-iterations}
-use Rattle.erosion.specs.Reached.{ranBy}
+use Rattle.erosion.specs.Reached.{wholeRun}
 use Rattle.erosion.specs.Ending.{refusedTo, Answered}
 use Rattle.erosion.specs.declared.Reached.{Reached}
 use Rattle.erosion.specs.declared.RunAnswer.{RunAnswer}
+use Rattle.erosion.proofs.ReachedLaws.{worked}
 use Rattle.erosion.proofs.EndingLaws.{ending-refused, ending-ran, done-accepts, done-keeps}
+use Rattle.erosion.proofs.WholeLaws.{whole-run}
 use Rattle.fluvial_loop.specs.Loops.{planOf, courseBy}
 use Rattle.fluvial_loop.specs.declared.FluvialPlan.{FluvialPlan}
 use Rattle.fluvial_grid.specs.Grids.{scratchOf, Erodes}
@@ -148,11 +150,12 @@ module _ (w h : ℕ) (conf : FluvialSettings) (stop : ℕ) (map small eroded cop
             ∙ ap (λ (work : Sides). runOn asSource w h (fluvialCourse (gridGround (work .w) (work .h) (conf .«water_level»)) (work .w) (work .h) (fluvialPlan (work .w) (work .h) conf) stop ours) map) g
 
         pub run-done : {r : Reached} {a : RunAnswer} (map′ small′ eroded′ copy′ area′ : List Float) (order′ recv′ queue′ status′ : List ℕ) → Answered r a
-            → ranBy map′ r ≡ runOn asSource w h (courseBy (work .w) (work .h) plan stop) map
+            → worked map′ r ≡ wholeRun w h (courseBy (work .w) (work .h) plan stop) map
             → FluvialRun w h conf stop map small eroded copy area order recv queue status a map′ small′ eroded′ copy′ area′ order′ recv′ queue′ status′
         run-done {r} {a} map′ small′ eroded′ copy′ area′ order′ recv′ queue′ status′ s t =
+            let ran = whole-run w h (courseBy (work .w) (work .h) plan stop) map t (run-within .dh-low) (run-erodes .bounded .some) in
             record {
-              ended = ending-ran r a outcome map map′ (runBy w h conf stop ours map) s (t ∙ whole-is) (done-accepts f e);
+              ended = ending-ran r a outcome map map′ (runBy w h conf stop ours map) s (ran ∙ whole-is) (done-accepts f e);
               small-kept = done-keeps f e;
               eroded-kept = done-keeps f e;
               copy-kept = done-keeps f e;

@@ -15,29 +15,21 @@ use Rattle.resample.specs.WorkSize.{Within, workSize}
 use Rattle.thermal_erosion.specs.declared.ThermalParams.{ThermalParams}
 use Rattle.upsample.specs.Samples.{asSource}
 use Rattle.runs.specs.Plan.{thermalPasses, thermalParams}
-use Rattle.runs.specs.Run.{Ran, slideCourse, thermalCourse, runOn, thermalRun}
+use Rattle.runs.specs.Run.{slideCourse, thermalCourse, runOn, thermalRun}
 use Rattle.runs.specs.Refusals.{badThermal}
 use Rattle.runs.specs.declared.ThermalSettings.{ThermalSettings}
 use Rattle.runs.proofs.PlanLaws.{Counted, thermal-passes}
 use Rattle.plans.specs.Accepted.{refusalOn, Accepted}
 use Rattle.plans.proofs.RefusalLaws.{accepted-by}
 use Rattle.plans.proofs.InputLaws.{within-range, within-cells, own-cells, decided-by, accepted-within, thermal-iterations}
-use Rattle.erosion.specs.Reached.{ranBy}
-use Rattle.erosion.specs.Ending.{refusedTo, Numbered, Answered}
+use Rattle.erosion.specs.Reached.{wholeRun}
+use Rattle.erosion.specs.Ending.{refusedTo, Answered}
 use Rattle.erosion.specs.declared.Reached.{Reached}
 use Rattle.erosion.specs.declared.RunAnswer.{RunAnswer}
+use Rattle.erosion.proofs.ReachedLaws.{worked}
 use Rattle.erosion.proofs.EndingLaws.{done-accepts, done-keeps, ending-refused, ending-ran}
-use Rattle.erosion.proofs.WholeLaws.{wholeRun, whole-run, run-numbered}
+use Rattle.erosion.proofs.WholeLaws.{whole-run}
 use Rattle.thermal_run.specs.ThermalRun.{inputRefusal, ThermalRun, Slides, Reduces, Erodes}
-
-module _ {w h dw dh : ℕ} (n : Within w h dw dh) where
-  module _ (params : ThermalParams) (passes stop : ℕ) (map : List Float) where
-    -- the run by its loops is the run
-    pub by-loops : {x : Ran} → x ≡ wholeRun w h (slideCourse dw dh params passes stop) map → x ≡ runOn asSource w h (slideCourse dw dh params passes stop) map
-    by-loops = whole-run w h (slideCourse dw dh params passes stop) map (n .dh-low) (omega arith)
-
-    pub ran-numbered : {x : Ran} → x ≡ runOn asSource w h (slideCourse dw dh params passes stop) map → Numbered (x .number)
-    ran-numbered = run-numbered w h (slideCourse dw dh params passes stop) map (n .dh-low) (omega arith)
 
 module _ {w h dw dh : ℕ} {passes map small eroded copy : ℕ} where
   module _ (e : Erodes w h dw dh passes map small eroded copy) where
@@ -114,11 +106,12 @@ module _ (w h : ℕ) (conf : ThermalSettings) (stop : ℕ) (map small eroded cop
               ∙ ap (λ (work : Sides). runOn asSource w h (thermalCourse (work .w) (work .h) conf stop) map) g
 
           pub run-done : {r : Reached} {a : RunAnswer} (map′ small′ eroded′ copy′ : List Float) → Answered r a
-              → ranBy map′ r ≡ runOn asSource w h (slideCourse (work .w) (work .h) params passes stop) map
+              → worked map′ r ≡ wholeRun w h (slideCourse (work .w) (work .h) params passes stop) map
               → ThermalRun w h conf stop map small eroded copy a map′ small′ eroded′ copy′
           run-done {r} {a} map′ small′ eroded′ copy′ s t =
+              let ran = whole-run w h (slideCourse (work .w) (work .h) params passes stop) map t (run-within .dh-low) (omega arith) in
               record {
-                ended = ending-ran r a outcome map map′ (thermalRun w h conf stop map) s (t ∙ whole-is) (done-accepts f e);
+                ended = ending-ran r a outcome map map′ (thermalRun w h conf stop map) s (ran ∙ whole-is) (done-accepts f e);
                 small-kept = done-keeps f e;
                 eroded-kept = done-keeps f e;
                 copy-kept = done-keeps f e;

@@ -26,10 +26,9 @@ ghost use mathlib.Core.Path.{_≡_};
 ghost use mathlib.Core.Bool.{false, _&&_};
 ghost use lib.Dec.{eqb};
 ghost use lib.ListN.{length};
-ghost use Rattle.upsample.specs.Samples.{asSource};
-ghost use Rattle.runs.specs.Run.{slideCourse, runOn};
+ghost use Rattle.runs.specs.Run.{slideCourse};
 ghost use Rattle.runs.specs.Nested.{nested};
-ghost use Rattle.erosion.specs.Reached.{Worked, seen, ranBy};
+ghost use Rattle.erosion.specs.Reached.{Worked, seen, wholeRun};
 ghost use Rattle.thermal_run.specs.ThermalRun.{Slides, Reduces, Erodes, ThermalRun};
 
 // Runs every pass on the working grid, until 21 or 22 ends the run.
@@ -73,7 +72,7 @@ fn erode_reduced(
 ) -> Reached
     requires { ⌜ (eqb (work .w) (size .w) && eqb (work .h) (size .h)) ≡ false ⌝ }
     requires { ⌜ Reduces (size .w) (size .h) (work .w) (work .h) passes (length (now hmap)) (length (now small)) (length (now eroded)) (length (now copy)) ⌝ }
-    ensures { λ r. ⌜ ranBy (now (hmap .exit)) r ≡ runOn asSource (size .w) (size .h) (slideCourse (work .w) (work .h) params passes stop) (now (hmap .entry)) ⌝ }
+    ensures { λ r. ⌜ _≡_ {A = Worked} (record { heights = now (hmap .exit); reached = r }) (wholeRun (size .w) (size .h) (slideCourse (work .w) (work .h) params passes stop) (now (hmap .entry))) ⌝ }
 {
     if !reduce(size, hmap, work, small, eroded) {
         return ended(22, fresh(), begun());
@@ -98,7 +97,7 @@ fn erode(
     copy: &mut [f32],
 ) -> Reached
     requires { ⌜ Erodes (size .w) (size .h) (work .w) (work .h) passes (length (now hmap)) (length (now small)) (length (now eroded)) (length (now copy)) ⌝ }
-    ensures { λ r. ⌜ ranBy (now (hmap .exit)) r ≡ runOn asSource (size .w) (size .h) (slideCourse (work .w) (work .h) params passes stop) (now (hmap .entry)) ⌝ }
+    ensures { λ r. ⌜ _≡_ {A = Worked} (record { heights = now (hmap .exit); reached = r }) (wholeRun (size .w) (size .h) (slideCourse (work .w) (work .h) params passes stop) (now (hmap .entry))) ⌝ }
 {
     let m = work.w * work.h;
     if on_map(work, size) {

@@ -5,8 +5,8 @@ use Rattle.answers.specs.Outcome.{answerOf}
 use Rattle.grid.proofs.SidesLaws.{range-fit}
 use Rattle.resample.specs.WorkSize.{Within}
 use Rattle.plans.proofs.InputLaws.{within-range}
+use Rattle.erosion.proofs.WholeLaws.{whole-numbered}
 use Rattle.fluvial_grid.specs.Grids.{scratchOf}
-use Rattle.fluvial_grid.proofs.GridLaws.{ran-numbered}
 use Rattle.fluvial_run.specs.FluvialRun.{inputRefusal}
 use Rattle.fluvial_run.proofs.RunLaws.{Rooms, decided, run-refused, run-accepted, run-within, run-rooms, run-erodes, run-done}
 use borrow.Author.Needs.{needs}
@@ -97,7 +97,7 @@ erode-requires : tie.Need-erode-requires
 erode-requires c κs = let a = c .before .before .before .before .before .before .before .before .before .before .before .before .before .before .before .before .before .before .before .before .before .before .before .before .before .before .before .args in run-erodes (a .size .w) (a .size .h) (a .conf) (a .stop) (a .hmap .now) (a .small .now) (a .eroded .now) (a .copy .now) (a .area .now) (a .order .now) (a .recv .now) (a .queue .now) (a .status .now) (told (c .before .before .before .before .before .before .before .before .before .before .before .before)) (c .before .before .before .before .before .before .before .before .before .before .before .before .enum-told .given .1) (c .before .before .before .before .before .before .before .before .before .before .before .work-sides .ensures) (c .before .before .before .before .before .before .before .before .before .before .plan-on .ensures)
 
 answered-requires : tie.Need-answered-requires
-answered-requires c κs = let a = c .before .before .before .before .before .before .before .before .before .before .before .before .before .before .before .before .before .before .before .before .before .before .before .before .before .before .before .before .before .before .before .before .before .before .before .before .before .before .before .before .before .before .before .before .before .before .args in ran-numbered (run-erodes (a .size .w) (a .size .h) (a .conf) (a .stop) (a .hmap .now) (a .small .now) (a .eroded .now) (a .copy .now) (a .area .now) (a .order .now) (a .recv .now) (a .queue .now) (a .status .now) (told (c .before .before .before .before .before .before .before .before .before .before .before .before .before .before .before .before .before .before .before .before .before .before .before .before .before .before .before .before .before .before .before)) (c .before .before .before .before .before .before .before .before .before .before .before .before .before .before .before .before .before .before .before .before .before .before .before .before .before .before .before .before .before .before .before .enum-told .given .1) (c .before .before .before .before .before .before .before .before .before .before .before .before .before .before .before .before .before .before .before .before .before .before .before .before .before .before .before .before .before .before .work-sides .ensures) (c .before .before .before .before .before .before .before .before .before .before .before .before .before .before .before .before .before .before .before .before .before .before .before .before .before .before .before .before .before .plan-on .ensures)) (c .before .before .before .before .before .before .before .before .before .before .before .before .before .before .before .before .before .before .erode .ensures)
+answered-requires c κs = whole-numbered _ _ _ _ (c .before .before .before .before .before .before .before .before .before .before .before .before .before .before .before .before .before .before .erode .ensures)
 
 same-length-2 : tie.Need-same-length-2
 same-length-2 c = search needs

@@ -2,9 +2,8 @@ use mathlib.Core.Path.{sym, _∙_}
 use lib.Seq.{length-take-le}
 use Rattle.grid.proofs.SidesLaws.{range-fit}
 use Rattle.plans.proofs.InputLaws.{within-range}
-use Rattle.runs.specs.Run.{slideCourse}
 use Rattle.erosion.proofs.WholeLaws.{whole-on-map}
-use Rattle.thermal_run.proofs.RunLaws.{by-loops, small-room, eroded-room, copy-room, erodes-slides, erodes-reduces}
+use Rattle.thermal_run.proofs.RunLaws.{small-room, eroded-room, copy-room, erodes-slides, erodes-reduces}
 use borrow.Author.Needs.{needs}
 use Rattle.thermal_run.proofs.erode.Statement.{statement}
 use Rattle.thermal_run.proofs.erode.Tie as tie
@@ -31,7 +30,7 @@ same-length-2 : tie.Need-same-length-2
 same-length-2 c = search needs
 
 returns : tie.Need-returns
-returns c = let a = c .before .before .before .before .before .before .before .before .before .before .before .before .before .before .args in by-loops (c .before .before .before .before .before .before .before .before .before .before .before .before .before .before .pre .sides) (a .params) (a .passes) (a .stop) (a .hmap .now) (whole-on-map _ _ (slideCourse (a .work .w) (a .work .h) (a .params) (a .passes) (a .stop)) (a .hmap .now) _ _ (sym (c .before .before .before .before .before .before .before .before .on-map .ensures) ∙ c .before .before .before .before .before .before .before .if1 .taken) (c .before .before .before .before .slide-passes .ensures))
+returns c = whole-on-map _ _ _ _ (sym (c .before .before .before .before .before .before .before .before .on-map .ensures) ∙ c .before .before .before .before .before .before .before .if1 .taken) (c .before .before .before .before .slide-passes .ensures)
 
 slice-relend-prefix-erode-reduced : tie.Need-slice-relend-prefix-erode-reduced
 slice-relend-prefix-erode-reduced c = small-room (c .before .before .before .before .before .before .before .before .pre)

@@ -4,8 +4,9 @@ use borrow.Author.Needs.{needs}
 use Rattle.answers.specs.Outcome.{answerOf}
 use Rattle.resample.specs.WorkSize.{Within}
 use Rattle.plans.proofs.InputLaws.{within-range, thermal-iterations}
+use Rattle.erosion.proofs.WholeLaws.{whole-numbered}
 use Rattle.thermal_run.specs.ThermalRun.{inputRefusal}
-use Rattle.thermal_run.proofs.RunLaws.{decided, run-refused, run-accepted, run-within, run-erodes, run-done, ran-numbered}
+use Rattle.thermal_run.proofs.RunLaws.{decided, run-refused, run-accepted, run-within, run-erodes, run-done}
 use Rattle.thermal_run.proofs.gen_thermal_erosion.Statement.{statement}
 use Rattle.thermal_run.proofs.gen_thermal_erosion.Tie as tie
 
@@ -57,7 +58,7 @@ erode-requires : tie.Need-erode-requires
 erode-requires c κs = let a = c .before .before .before .before .before .before .before .before .before .before .before .before .before .before .before .before .before .before .args in run-erodes (a .size .w) (a .size .h) (a .conf) (a .stop) (a .hmap .now) (a .small .now) (a .eroded .now) (a .copy .now) (told (c .before .before .before .before .before .before .before)) (c .before .before .before .before .before .before .before .enum-told .given .1) (c .before .before .before .before .before .before .work-sides .ensures) (c .before .before .before .before .thermal-passes .ensures)
 
 answered-requires : tie.Need-answered-requires
-answered-requires c κs = let a = c .before .before .before .before .before .before .before .before .before .before .before .before .before .before .before .before .before .before .before .before .before .before .before .before .before .before .before .args in ran-numbered (within (c .before .before .before .before .before .before .before .before .before .before .before .before .before .before .before)) (c .before .before .before .before .before .before .before .before .before .before .before .before .before .before .thermal-plan .result) (c .before .before .before .before .before .before .before .before .before .before .before .before .before .thermal-passes .result) (a .stop) (a .hmap .now) (c .before .before .before .before .before .before .before .before .erode .ensures)
+answered-requires c κs = whole-numbered _ _ _ _ (c .before .before .before .before .before .before .before .before .erode .ensures)
 
 same-length-2 : tie.Need-same-length-2
 same-length-2 c = search needs

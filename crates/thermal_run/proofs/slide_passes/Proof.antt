@@ -50,7 +50,7 @@ loop-less : tie.Need-loop-less Inv-loop μ-loop
 loop-less c = omega (arith, c .before .before .before .before .before .before .before .before .before .before .before .before .loop-test .taken)
 
 loop-again : tie.Need-loop-again Inv-loop μ-loop
-loop-again c = passing-more _ _ _ _ _ _ (c .before .before .before .before .before .before .before .before .before .before .before .before .before .loop .inv) (c .before .before .before .before .before .before .before .before .before .before .if1 .left) _ _ (record { heights = _; reached = c .before .before .before .before .run-pass .result }) _ (c .before .before .before .before .before .before .before .before .before .before .before .before .before .before .before .thresholds .ensures) (c .before .before .before .before .before .before .before .before .before .ratio .ensures) (c .before .before .before .before .before .before .before .before .ratio2 .ensures) (c .before .before .before .before .run-pass .ensures) (c .before .before .before .before .before .before .before .before .before .before .before .before .loop-test .taken) (c .before .before .before .before .run-pass .kept .1 .1 .0) (c .before .before .before .before .run-pass .kept .1 .1 .1 .0)
+loop-again c = passing-more _ _ _ _ _ _ (c .before .before .before .before .before .before .before .before .before .before .before .before .before .loop .inv) (c .before .before .before .before .before .before .before .before .before .before .if1 .left) _ _ (record { heights = _; reached = c .before .before .before .before .run-pass .result }) _ (c .before .before .before .before .before .before .before .before .before .before .before .before .before .before .before .thresholds .ensures) (c .before .before .before .before .before .before .before .before .before .ratio .ensures) (c .before .before .before .before .before .before .before .before .ratio2 .ensures) (c .before .before .before .before .run-pass .ensures .held) (c .before .before .before .before .before .before .before .before .before .before .before .before .loop-test .taken) (c .before .before .before .before .run-pass .kept .1 .1 .0) (c .before .before .before .before .run-pass .kept .1 .1 .1 .0)
 
 same-length-3 : tie.Need-same-length-3 Inv-loop μ-loop
 same-length-3 c = c .before .loop .inv .long
