@@ -62,7 +62,7 @@ fn talus_passes(
     r
 }
 
-// The iterations of a run on its working grid, until one of them is ended by 21 or 22.
+// The iterations of a run on its working grid, until one of them is ended by 21 or 22. All slices after stop are scratch.
 pub fn run_iterations(
     size: Sides,
     hmap: &mut [f32],

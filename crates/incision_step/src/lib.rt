@@ -46,7 +46,8 @@ fn carve(
     incise_along(size, hmap, params, area, recv, order, copy);
 }
 
-// Opens an iteration at the fraction p of the run. The copy becomes the map only where every height of it is finite; a stop comes before the routing.
+// Opens an iteration at the fraction p of the run. The copy becomes the map only where every height of it is finite; a stop comes before the routing. The
+// copy and all slices after it are scratch.
 pub fn open_iteration(
     size: Sides,
     hmap: &mut [f32],
