@@ -1,4 +1,5 @@
 use Prim.Native.Nat.{_*_}
+use native.Mathlib.Omega.{arith}
 use mathlib.Core.Path.{_≡_, sym}
 use lib.Seq.{length-take-le}
 use Rattle.answers.specs.Outcome.{answerOf}
@@ -51,8 +52,9 @@ enum-told c = search needs
 work-sides-requires : tie.Need-work-sides-requires
 work-sides-requires c κs = let a = c .before .before .before .before .before .before .before .before .before .before .before .before .before .before .before .args in let s = run-accepted (a .size .w) (a .size .h) (a .conf) (a .stop) (a .hmap .now) (a .small .now) (a .eroded .now) (a .copy .now) (a .area .now) (a .order .now) (a .recv .now) (a .queue .now) (a .status .now) (told c) (c .enum-told .given .1) .sides in (s .wide, s .high)
 
+-- by numbers, which bound the full sides too
 plan-on-requires : tie.Need-plan-on-requires
-plan-on-requires c κs = let r = within-range (within c) in (r .wide, r .high)
+plan-on-requires c κs = let n = within c in (omega (arith, n .dw-high, n .wide), omega (arith, n .dh-high, n .high))
 
 mul-m : tie.Need-mul-m
 mul-m c = range-fit (within-range (within (c .before .before)))

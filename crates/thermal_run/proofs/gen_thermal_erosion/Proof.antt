@@ -1,3 +1,4 @@
+use native.Mathlib.Omega.{arith}
 use mathlib.Core.Path.{_≡_}
 use lib.ListN.{length}
 use borrow.Author.Needs.{needs}
@@ -48,8 +49,9 @@ enum-told c = search needs
 work-sides-requires : tie.Need-work-sides-requires
 work-sides-requires c κs = let a = c .before .before .before .before .before .before .before .before .before .before .before .args in let s = run-accepted (a .size .w) (a .size .h) (a .conf) (a .stop) (a .hmap .now) (a .small .now) (a .eroded .now) (a .copy .now) (told c) (c .enum-told .given .1) .sides in (s .wide, s .high)
 
+-- by numbers, which bound the full sides too
 thermal-plan-requires : tie.Need-thermal-plan-requires
-thermal-plan-requires c κs = let r = within-range (within c) in (r .wide, r .high)
+thermal-plan-requires c κs = let n = within c in (omega (arith, n .dw-high, n .wide), omega (arith, n .dh-high, n .high))
 
 thermal-passes-requires : tie.Need-thermal-passes-requires
 thermal-passes-requires c κs = let a = c .before .before .before .before .before .before .before .before .before .before .before .before .before .args in let r = within-range (within (c .before)) in (r .wide, (r .high, thermal-iterations (a .conf) (run-accepted (a .size .w) (a .size .h) (a .conf) (a .stop) (a .hmap .now) (a .small .now) (a .eroded .now) (a .copy .now) (told (c .before .before)) (c .before .before .enum-told .given .1) .settings)))
