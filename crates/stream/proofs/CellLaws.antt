@@ -1,11 +1,10 @@
--- The heights of a stream: each stands inside it; a walk along their rows; the first that is not finite; and the map that they fill.
+-- The heights of a stream: each stands inside it; the first that is not finite; and the map that they fill.
 use Prim.Native.Nat.{ℕ, suc, _+_, _*_, _^_, _≤_, _<_}
-use mathlib.Core.Path.{_≡_, sym, ap, ap₂, subst, _∙_}
-use mathlib.Core.Bool.{Bool, true, false, not}
+use mathlib.Core.Path.{_≡_, sym, ap, ap₂, _∙_}
+use mathlib.Core.Bool.{Bool}
 use mathlib.Core.List.{List, _++_}
-use native.Mathlib.Nat.{mul-comm, mul-le-mul}
+use native.Mathlib.Nat.{mul-le-mul}
 use native.Mathlib.Omega.{arith}
-use borrow.Author.Tests.{not-true, not-false}
 use lib.ListN.{length, getD, set}
 use lib.Ieee.{Float, nan}
 use lib.Ieee.Scale.{finite}
@@ -14,37 +13,9 @@ use Rattle.lists.proofs.TableLaws.{length-tabulate, getD-tabulate}
 use Rattle.lists.proofs.FillLaws.{Filling, filling-none, filling-length, filling-more, filling-done}
 use Rattle.resample.proofs.RowFillLaws.{filling-drop}
 use Rattle.grid.specs.Sides.{cellOf}
-use Rattle.grid.specs.Heights.{firstNotFinite, FiniteBelow}
 use Rattle.grid.proofs.SidesLaws.{column-cell, row-cell, cell-lt, cells-bound}
-use Rattle.grid.proofs.HeightsLaws.{below-none, below-more, first-at, first-none}
+use Rattle.grid.proofs.WalkLaws.{Walked, walked-none, walked-more, walked-done}
 use Rattle.stream.specs.Stream.{rowLength, heightAt, cellAt, heightsAt, Framed}
-
--- a walk along the rows: P holds of the number of cells before column x of row y
-pub record Walked (w h : ℕ) (P : ℕ → Type 0) (x y : ℕ) : Type 0 where
-  pub column : x ≤ w
-  pub row : y ≤ h
-  pub cells : P (cellOf w x y)
-
-walked-none : {w h : ℕ} {P : ℕ → Type 0} → P 0 → Walked w h P 0 0
-walked-none {w} {h} {P} p =
-    let e : 0 ≡ cellOf w 0 0 = omega arith in
-    record { column = omega arith; row = omega arith; cells = subst P e p }
-
-walked-more : {w h x y : ℕ} {P Q : ℕ → Type 0} → Walked w h P x y → x < w → Q (cellOf w x y + 1) → Walked w h Q (x + 1) y
-walked-more {w} {h} {x} {y} {P} {Q} p hx q =
-    let e : cellOf w x y + 1 ≡ cellOf w (x + 1) y = omega arith in
-    record { column = omega arith; row = p .row; cells = subst Q e q }
-
-pub walked-row : {w h x y : ℕ} {P : ℕ → Type 0} → Walked w h P x y → w ≤ x → y < h → Walked w h P 0 (y + 1)
-walked-row {w} {h} {x} {y} {P} p l hy =
-    let e : cellOf w x y ≡ cellOf w 0 (y + 1) = omega (arith, p .column) in
-    record { column = omega arith; row = omega arith; cells = subst P e (p .cells) }
-
-walked-done : {w h y : ℕ} {P : ℕ → Type 0} → Walked w h P 0 y → h ≤ y → P (w * h)
-walked-done {w} {h} {y} {P} p l =
-    let same : y ≡ h = omega (arith, p .row) in
-    let e : cellOf w 0 y ≡ w * h = omega (arith, ap (λ (k : ℕ). k * w) same, mul-comm w h) in
-    subst P e (p .cells)
 
 -- a list as a loop that fills it has left it
 settled : {f : ℕ → Float} {i : ℕ} {old new : List Float} → Filling f i old new → Filling f i new new
@@ -69,10 +40,6 @@ module _ (s : List ℕ) (rows w h : ℕ) where
   unfolding heightsAt
   heights-length = length-tabulate (cellAt s rows w) (w * h)
 
-  -- the search: no cell before column x of row y is bad
-  abbrev pub Sought : ℕ → ℕ → Type 0
-  Sought = Walked w h (FiniteBelow (heightsAt s rows w h))
-
   -- the map holds the first i heights
   pub record Loaded (map : List Float) (i : ℕ) : Type 0 where
     pub full : length map ≡ w * h
@@ -80,9 +47,6 @@ module _ (s : List ℕ) (rows w h : ℕ) where
 
   abbrev pub Loading : List Float → ℕ → ℕ → Type 0
   Loading map = Walked w h (Loaded map)
-
-  pub sought-none : Sought 0 0
-  sought-none = walked-none (below-none (heightsAt s rows w h) 0 (omega arith))
 
   pub loading-none : {map : List Float} → length map ≡ w * h → Loading map 0 0
   loading-none n = walked-none (record { full = n; values = filling-none })
@@ -94,27 +58,15 @@ module _ (s : List ℕ) (rows w h : ℕ) where
     cell-is : v ≡ cellAt s rows w (cellOf w x y)
     cell-is = e ∙ sym (ap₂ (heightAt s rows w) (column-cell w x y hx) (row-cell w x y hx))
 
-    module _ (found : Sought x y) {b : Bool} (g : b ≡ finite v) where
-      here : b ≡ finite (getD (heightsAt s rows w h) (cellOf w x y) nan)
-      unfolding heightsAt
-      here = g ∙ ap finite (cell-is ∙ sym (getD-tabulate (cellAt s rows w) (w * h) (cellOf w x y) nan inside))
-
-      pub sought-bad : not b ≡ true → cellOf w x y ≡ firstNotFinite (heightsAt s rows w h)
-      sought-bad t =
-          sym (first-at (record { place = omega (arith, inside, heights-length); bad = sym here ∙ not-true b t; earlier = found .cells }))
-
-      pub sought-more : not b ≡ false → Sought (x + 1) y
-      sought-more t = walked-more found hx (below-more (omega arith) (found .cells) (sym here ∙ not-false b t))
+    pub height-is : {b : Bool} → b ≡ finite v → b ≡ finite (getD (heightsAt s rows w h) (cellOf w x y) nan)
+    unfolding heightsAt
+    height-is g = g ∙ ap finite (cell-is ∙ sym (getD-tabulate (cellAt s rows w) (w * h) (cellOf w x y) nan inside))
 
     pub loading-more : {map : List Float} → Loading map x y → Loading (set map (cellOf w x y) v) (x + 1) y
     loading-more {map} p =
         let n = p .cells .full in
         let q = filling-more (p .cells .values) cell-is (omega (arith, n, inside)) in
         walked-more p hx (record { full = filling-length q ∙ n; values = settled q })
-
-  pub sought-done : {y : ℕ} → Sought 0 y → h ≤ y → w * h ≡ firstNotFinite (heightsAt s rows w h)
-  sought-done found l =
-      sym (first-none (heightsAt s rows w h) (rw heights-length (walked-done found l)) ∙ heights-length)
 
   pub loading-done : {y : ℕ} {map : List Float} → Loading map 0 y → h ≤ y → map ≡ heightsAt s rows w h
   unfolding heightsAt

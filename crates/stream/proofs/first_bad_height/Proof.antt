@@ -1,24 +1,26 @@
 use Prim.Native.Nat.{_-_}
 use native.Mathlib.Omega.{arith}
 use borrow.Author.Needs.{needs}
-use Rattle.stream.proofs.CellLaws.{walked-row, cells-few, cell-few, Sought, sought-none, sought-bad, sought-more, sought-done}
+use Rattle.grid.proofs.WalkLaws.{walked-row, Sought, sought-none, sought-bad, sought-more, sought-done}
+use Rattle.stream.specs.Stream.{heightsAt}
+use Rattle.stream.proofs.CellLaws.{cells-few, cell-few, heights-length, height-is}
 use Rattle.stream.proofs.first_bad_height.Statement.{statement}
 use Rattle.stream.proofs.first_bad_height.Tie as tie
 
 abbrev Inv-loop : tie.InvT-loop
-Inv-loop bytes rows size w h y x₀ x = Sought bytes rows w h x y
+Inv-loop bytes rows size w h y x₀ x = Sought w h (heightsAt bytes rows w h) x y
 
 abbrev μ-loop : tie.MeasureT-loop
 μ-loop bytes rows size w h y x₀ x = w - x
 
 abbrev Inv-rows : tie.InvT-rows
-Inv-rows bytes rows size w h y₀ y = Sought bytes rows w h 0 y
+Inv-rows bytes rows size w h y₀ y = Sought w h (heightsAt bytes rows w h) 0 y
 
 abbrev μ-rows : tie.MeasureT-rows
 μ-rows bytes rows size w h y₀ y = h - y
 
 rows-holds : tie.Need-rows-holds Inv-loop μ-loop Inv-rows μ-rows
-rows-holds c = sought-none _ _ _ _
+rows-holds c = sought-none _ _ _
 
 mul-result : tie.Need-mul-result Inv-loop μ-loop Inv-rows μ-rows
 mul-result c = omega (arith, cells-few (c .before .before .before .pre))
@@ -45,7 +47,10 @@ loop-less : tie.Need-loop-less Inv-loop μ-loop Inv-rows μ-rows
 loop-less c = omega arith
 
 loop-again : tie.Need-loop-again Inv-loop μ-loop Inv-rows μ-rows
-loop-again c = sought-more _ _ _ _ (c .before .before .before .loop-test .taken) (c .before .before .before .before .before .if1 .left) (c .before .before .height-at .ensures) (c .before .before .before .before .loop .inv) (c .before .is-finite .ensures) (c .if2 .left)
+loop-again c =
+    let x = c .before .before .before .loop-test .taken in
+    let y = c .before .before .before .before .before .if1 .left in
+    sought-more _ _ _ (heights-length _ _ _ _) x y (c .before .before .before .before .loop .inv) (height-is _ _ _ _ x y (c .before .before .height-at .ensures) (c .before .is-finite .ensures)) (c .if2 .left)
 
 add-y : tie.Need-add-y Inv-loop μ-loop Inv-rows μ-rows
 add-y c = omega arith
@@ -57,10 +62,13 @@ rows-again : tie.Need-rows-again Inv-loop μ-loop Inv-rows μ-rows
 rows-again c = walked-row (c .before .loop .inv) (c .loop-test .left) (c .before .before .if1 .left)
 
 returns : tie.Need-returns Inv-loop μ-loop Inv-rows μ-rows
-returns c = sought-done _ _ _ _ (c .before .rows .inv) (c .if1 .taken)
+returns c = sought-done _ _ _ (heights-length _ _ _ _) (c .before .rows .inv) (c .if1 .taken)
 
 returns-2 : tie.Need-returns-2 Inv-loop μ-loop Inv-rows μ-rows
-returns-2 c = sought-bad _ _ _ _ (c .before .before .before .loop-test .taken) (c .before .before .before .before .before .if1 .left) (c .before .before .height-at .ensures) (c .before .before .before .before .loop .inv) (c .before .is-finite .ensures) (c .if2 .taken)
+returns-2 c =
+    let x = c .before .before .before .loop-test .taken in
+    let y = c .before .before .before .before .before .if1 .left in
+    sought-bad _ _ _ (heights-length _ _ _ _) x y (c .before .before .before .before .loop .inv) (height-is _ _ _ _ x y (c .before .before .height-at .ensures) (c .before .is-finite .ensures)) (c .if2 .taken)
 
 pub first-bad-height-spec : {M : Type 1} → statement M
 first-bad-height-spec =

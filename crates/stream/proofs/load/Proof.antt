@@ -2,7 +2,8 @@ use Prim.Native.Nat.{_-_}
 use mathlib.Core.Path.{sym, _∙_}
 use native.Mathlib.Omega.{arith}
 use Rattle.grid.proofs.SidesLaws.{cell-lt}
-use Rattle.stream.proofs.CellLaws.{walked-row, cell-few, Loading, loading-none, loading-more, loading-done}
+use Rattle.grid.proofs.WalkLaws.{walked-row}
+use Rattle.stream.proofs.CellLaws.{cell-few, Loading, loading-none, loading-more, loading-done}
 use Rattle.stream.proofs.load.Statement.{statement}
 use Rattle.stream.proofs.load.Tie as tie
 
