@@ -2,3 +2,4 @@
 pub mod ListLaws
 pub mod StretchLaws
 pub mod SeenLaws
+pub mod BlockLaws

@@ -1,10 +1,10 @@
--- A mark put in is there, and every other mark is as it was, in words and in bytes; what the walk for one stretch learns of an entry.
+-- A mark put in is there, and every other mark is as it was, in words and in bytes; and which cells lie in a stretch.
 use Prim.Native.Nat.{ℕ, zero, suc, _+_, _-_, _*_, _/_, _%_, _^_, _≤_, _<_}
 use native.Mathlib.Nat.{div-eq-of-lt, one-mul, zero-div}
 use native.Mathlib.Omega.{arith}
 use native.Mathlib.Decide.{decLt, ℕ-discrete}
 use mathlib.Core.Path.{_≡_, refl, sym, ap, _∙_, subst}
-use mathlib.Core.Bool.{Bool, true, false, not, cond, _&&_, _||_, true≢false}
+use mathlib.Core.Bool.{true, false, not, true≢false}
 use mathlib.Core.List.{List}
 use lib.ListN.{length, getD, set, replicate, length-replicate, getD-replicate, length-set}
 use lib.Seq.{getD-set-same, getD-set-other}
@@ -13,8 +13,8 @@ use lib.Bits.{bitOr, or-shr, or-mod, or-zero-r}
 use lib.Dec.{eqb, ltb, lit<}
 use borrow.Author.Tests.{lt-ltb, le-ltb, ltb-true, ltb-false, not-true}
 use Rattle.lists.proofs.TestLaws.{both}
-use Rattle.lent_list.specs.Seen.{span, isMarked, marking, isSet, inStretch, Taken, Clear, Blank, Scanned}
-use Rattle.lent_list.proofs.StretchLaws.{Put, Walk, walk-twice, walk-early, walk-more, walk-past}
+use Rattle.lent_list.specs.Seen.{span, isMarked, marking, isSet, inStretch, Clear, Blank}
+use Rattle.lent_list.proofs.StretchLaws.{Put}
 
 -- the bits of a power of two
 power-same : (k : ℕ) → 2 ^ k / 2 ^ k % 2 ≡ 1
@@ -118,59 +118,19 @@ module _ (long lo c : ℕ) where
       let l : lo ≤ c = omega (arith, ltb-false c lo (not-true (ltb c lo) (p .0))) in
       (l, omega (arith, ltb-true (c - lo) long (p .1)))
 
-  outside : inStretch long lo c ≡ false → lo ≤ c → c < lo + long → ⊥
+  pub outside : inStretch long lo c ≡ false → lo ≤ c → c < lo + long → ⊥
   outside e h l = true≢false (sym (stretch-from h ∙ lt-ltb (c - lo) long (omega arith)) ∙ e)
 
--- what the code of `bad_in_stretch` gives, case by case
-module _ {recv : List ℕ} {lo c : ℕ} {seen : List ℕ} where
-  pub taken-stood : inStretch span lo c ≡ true → isMarked seen (c - lo) ≡ true → Taken recv lo c seen true seen
-  taken-stood a b = record { verdict = rw (a, b); marks = rw (a, b) }
+-- how far c lies behind lo, worked out modulo 2 ^ 32, says whether it lies in the stretch
+module _ {lo c past : ℕ} (low : lo ≤ 2 ^ 24) (fit : past < 2 ^ 32) (e : (past + lo) % 2 ^ 32 ≡ c) where
+  pub counted-inside : past < span → inStretch span lo c ≡ true
+  counted-inside l =
+      let back : past + lo ≡ c = omega arith in
+      stretch-from span lo c (omega arith) ∙ lt-ltb (c - lo) span (omega arith)
 
-  pub taken-marked : inStretch span lo c ≡ true → isMarked seen (c - lo) ≡ false → {bad : Bool} {next : List ℕ} → next ≡ marking seen (c - lo)
-      → bad ≡ (inStretch span lo (getD recv c 0) && not (isMarked next (getD recv c 0 - lo))) → Taken recv lo c seen bad next
-  taken-marked a b {bad} {next} e f =
-      record { verdict = rw (a, b) (f ∙ ap (λ (s : List ℕ). inStretch span lo (getD recv c 0) && not (isMarked s (getD recv c 0 - lo))) e); marks = rw (a, b) e }
-
-  pub taken-outside : inStretch span lo c ≡ false → Taken recv lo c seen false seen
-  taken-outside a = record { verdict = rw a; marks = rw a }
-
--- the walk ends at an entry that is bad by the marks, and goes on from any other
-module _ {n : ℕ} {recv list : List ℕ} {lo limit p : ℕ} {seen next : List ℕ} {bad : Bool} (w : Walk span n recv list lo limit p (isMarked seen))
-    (t : Taken recv lo (getD list p 0) seen bad next) (room : span ≤ length seen * 64) where
-  abbrev c : ℕ
-  c = getD list p 0
-
-  abbrev r : ℕ
-  r = getD recv c 0
-
-  put : lo ≤ c → c < lo + span → Put (isMarked seen) (c - lo) (isMarked (marking seen (c - lo)))
-  put h l = put-word seen (c - lo) (omega arith) refl
-
-  pub taken-bad : bad ≡ true → Scanned n recv list lo (lo + span) limit p
-  taken-bad e = go (inStretch span lo c) refl (isMarked seen (c - lo)) refl (inStretch span lo r) refl (isMarked (marking seen (c - lo)) (r - lo)) refl (sym (t .verdict) ∙ e)
+  pub counted-outside : span ≤ past → inStretch span lo c ≡ false
+  counted-outside l = go (decLt c lo)
     where
-      go : (i : Bool) → inStretch span lo c ≡ i → (s : Bool) → isMarked seen (c - lo) ≡ s → (j : Bool) → inStretch span lo r ≡ j → (k : Bool) → isMarked (marking seen (c - lo)) (r - lo) ≡ k
-          → ((i && s) || (i && (j && not k))) ≡ true → Scanned n recv list lo (lo + span) limit p
-      go false a s b j f k g v = absurd (true≢false (sym v))
-      go true a true b j f k g v = let q = inside span lo c a in walk-twice w (q .0) (q .1) b
-      go true a false b false f k g v = absurd (true≢false (sym v))
-      go true a false b true f true g v = absurd (true≢false (sym v))
-      go true a false b true f false g v =
-          let q = inside span lo c a in
-          let u = inside span lo r f in
-          walk-early w (put (q .0) (q .1)) (q .0) (q .1) (u .0) (u .1) g
-
-  pub taken-good : bad ≡ false → p < limit → limit ≤ length list → c < n → Walk span n recv list lo limit (p + 1) (isMarked next)
-  taken-good e l k within = go (inStretch span lo c) refl (isMarked seen (c - lo)) refl (inStretch span lo r) refl (isMarked (marking seen (c - lo)) (r - lo)) refl (sym (t .verdict) ∙ e) (t .marks)
-    where
-      go : (i : Bool) → inStretch span lo c ≡ i → (s : Bool) → isMarked seen (c - lo) ≡ s → (j : Bool) → inStretch span lo r ≡ j → (k : Bool) → isMarked (marking seen (c - lo)) (r - lo) ≡ k
-          → ((i && s) || (i && (j && not k))) ≡ false → next ≡ cond (i && not s) (marking seen (c - lo)) seen → Walk span n recv list lo limit (p + 1) (isMarked next)
-      go false a s b j f q g v x = rw x (walk-past w l k within (outside span lo c a))
-      go true a true b j f q g v x = absurd (true≢false v)
-      go true a false b false f q g v x =
-          let y = inside span lo c a in
-          rw x (walk-more w (put (y .0) (y .1)) (y .0) (y .1) l k within b (λ u z. absurd (outside span lo r f u z)))
-      go true a false b true f false g v x = absurd (true≢false v)
-      go true a false b true f true g v x =
-          let y = inside span lo c a in
-          rw x (walk-more w (put (y .0) (y .1)) (y .0) (y .1) l k within b (λ u z. g))
+      go : Dec (c < lo) → inStretch span lo c ≡ false
+      go (yes h) = stretch-before span lo c h
+      go (no h) = stretch-from span lo c (omega arith) ∙ le-ltb (c - lo) span (omega arith)

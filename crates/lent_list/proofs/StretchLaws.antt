@@ -13,7 +13,8 @@ use borrow.Author.Tests.{lt-ltb, ltb-true, ltb-false}
 use Rattle.drainage.proofs.TallyLaws.{one-same, one-other}
 use Rattle.drainage.specs.Ways.{one, times}
 use Rattle.lent_list.specs.Entries.{goodEntry, firstBadEntry, GoodAt}
-use Rattle.lent_list.specs.Seen.{stretch, span, GoodWithin, Scanned, Lengths, Near}
+use Rattle.lent_list.specs.Seen.{stretch, span, CellsBefore, GoodWithin, Scanned, Stood, Walk, Lengths, Near}
+use Rattle.lists.specs.Firsts.{First}
 use Rattle.lists.proofs.FirstLaws.{first-is}
 use Rattle.lent_list.proofs.ListLaws.{good-at, at-good, times-more}
 
@@ -22,10 +23,6 @@ pub record Put (m : ℕ → Bool) (i : ℕ) (next : ℕ → Bool) : Type 0 where
   pub same : next i ≡ true
   pub other : (k : ℕ) → (k ≡ i → ⊥) → next k ≡ m k
 
--- the marks after the entries before position p, whatever holds them
-abbrev Seen : ℕ → List ℕ → ℕ → ℕ → (ℕ → Bool) → Type 0
-Seen long list lo p m = (i : ℕ) → i < long → m i ≡ ltb 0 (times (lo + i) (take p list))
-
 -- an entry with a fault is not good
 not-good : (n : ℕ) (recv list : List ℕ) (p : ℕ) → (GoodAt n recv list p → ⊥) → goodEntry n recv list p ≡ false
 not-good n recv list p h = go (goodEntry n recv list p) refl
@@ -33,12 +30,6 @@ not-good n recv list p h = go (goodEntry n recv list p) refl
     go : (b : Bool) → goodEntry n recv list p ≡ b → b ≡ false
     go true e = absurd (h (good-at n recv list p e))
     go false e = refl
-
--- the walk for the `long` cells from lo on has come to position p, with the marks m
-pub record Walk (long n : ℕ) (recv list : List ℕ) (lo limit p : ℕ) (m : ℕ → Bool) : Type 0 where
-  pub place : p ≤ limit
-  pub marks : Seen long list lo p m
-  pub earlier : (i : ℕ) → i < p → GoodWithin n recv list lo (lo + long) i
 
 pub walk-none : {long n : ℕ} {recv list : List ℕ} {lo limit : ℕ} {m : ℕ → Bool} → ((i : ℕ) → i < long → m i ≡ false) → Walk long n recv list lo limit 0 m
 unfolding times
@@ -83,7 +74,7 @@ module _ {long n : ℕ} {recv list : List ℕ} {lo limit p : ℕ} {m : ℕ → B
             omega (arith, none, g .after (λ s. q (ap (λ (x : ℕ). x - lo) s)))
 
     -- one entry more, of the stretch
-    seen-more : p < length list → Seen long list lo (p + 1) next
+    seen-more : p < length list → Stood long list lo (p + 1) next
     seen-more inside i k = rw (add-one p) (at (ℕ-discrete i (entry - lo)))
       where
         at : Dec (i ≡ entry - lo) → next i ≡ ltb 0 (times (lo + i) (take (suc p) list))
@@ -155,7 +146,7 @@ scanned-all {n} {recv} {list} {f} g s =
 
 -- the entry at a position is good as far as those pairs of a cell and its receiver tell of which one lies below lo
 record GoodBelow (n : ℕ) (recv list : List ℕ) (lo position : ℕ) : Type 0 where
-  cell : 0 < lo → getD list position 0 < n
+  cell : getD list position 0 < n
   fresh : getD list position 0 < lo → times (getD list position 0) (take position list) ≡ 0
   leaves : (getD recv (getD list position 0) 0 ≡ getD list position 0 → ⊥) → getD list position 0 < lo → 0 < times (getD recv (getD list position 0) 0) (take position list)
   enters : (getD recv (getD list position 0) 0 ≡ getD list position 0 → ⊥) → getD recv (getD list position 0) 0 < lo → 0 < times (getD recv (getD list position 0) 0) (take position list)
@@ -166,19 +157,23 @@ pub record Stretches (n : ℕ) (recv list : List ℕ) (lo f : ℕ) : Type 0 wher
   earlier : (i : ℕ) → i < f → GoodBelow n recv list lo i
   fails : f < n → goodEntry n recv list f ≡ false
 
-pub stretches-none : {n : ℕ} {recv list : List ℕ} → Stretches n recv list 0 n
-stretches-none =
+pub stretches-none : {n : ℕ} {recv list : List ℕ} {f : ℕ} → First n (λ p. ltb (getD list p 0) n) f → Stretches n recv list 0 f
+stretches-none {n} {recv} {list} {f} s =
     record {
-      bound = omega arith;
-      earlier = λ i l. record { cell = λ h. absurd (omega arith); fresh = λ h. absurd (omega arith); leaves = λ d h. absurd (omega arith); enters = λ d h. absurd (omega arith) };
-      fails = λ l. absurd (omega arith);
+      bound = s .bound;
+      earlier = λ i l. record { cell = ltb-true _ n (s .earlier i l); fresh = λ h. absurd (omega arith); leaves = λ d h. absurd (omega arith); enters = λ d h. absurd (omega arith) };
+      fails = λ l. not-good n recv list f (λ g. omega (arith, g .cell, ltb-false (getD list f 0) n (s .fails l)));
     }
+
+-- every entry before the first bad one is a cell
+pub stretches-cells : {n : ℕ} {recv list : List ℕ} {lo f : ℕ} → Stretches n recv list lo f → CellsBefore n list f
+stretches-cells s = record { cell = λ i l. s .earlier i l .cell }
 
 pub stretches-more : {n : ℕ} {recv list : List ℕ} {lo b f : ℕ} → Near n recv → Stretches n recv list lo b → Scanned n recv list lo (lo + span) b f → Stretches n recv list (lo + stretch) f
 stretches-more {n} {recv} {list} {lo} {b} {f} near s t = record { bound = omega (arith, s .bound, t .bound); earlier = joined; fails = λ l. go (decLt f b) l }
   where
     joined : (i : ℕ) → i < f → GoodBelow n recv list (lo + stretch) i
-    joined i l = record { cell = λ h. v .cell; fresh = λ h. fresh (decLt c lo) h; leaves = λ d h. after (decLt c lo) (decLt r lo) d (omega arith) (omega (arith, near .up c (v .cell))); enters = λ d h. after (decLt c lo) (decLt r lo) d (omega (arith, near .down c (v .cell))) (omega arith) }
+    joined i l = record { cell = v .cell; fresh = λ h. fresh (decLt c lo) h; leaves = λ d h. after (decLt c lo) (decLt r lo) d (omega arith) (omega (arith, near .up c (v .cell))); enters = λ d h. after (decLt c lo) (decLt r lo) d (omega (arith, near .down c (v .cell))) (omega arith) }
       where
         c : ℕ
         c = getD list i 0
@@ -213,5 +208,5 @@ stretches-done {n} {recv} {list} {lo} {f} s h =
   where
     good : (i : ℕ) → i < n → GoodBelow n recv list lo i → GoodAt n recv list i
     good i k u =
-        let inside : getD list i 0 < n = u .cell (omega arith) in
+        let inside : getD list i 0 < n = u .cell in
         record { cell = inside; fresh = u .fresh (omega arith); after = λ d. u .leaves d (omega arith) }

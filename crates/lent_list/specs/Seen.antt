@@ -1,7 +1,7 @@
 -- Which cells of a stretch stood already: one mark for each cell, in a byte of its own or 64 to a word.
-use Prim.Native.Nat.{ℕ, _+_, _-_, _*_, _/_, _%_, _^_, _≤_, _<_}
+use Prim.Native.Nat.{ℕ, zero, suc, _+_, _-_, _*_, _/_, _%_, _^_, _≤_, _<_}
 use mathlib.Core.Path.{_≡_}
-use mathlib.Core.Bool.{Bool, false, not, _&&_, _||_, cond}
+use mathlib.Core.Bool.{Bool, true, false, not, _&&_}
 use mathlib.Core.List.{List}
 use lib.ListN.{length, getD, set, take, replicate}
 use lib.Bits.{bitOr}
@@ -32,18 +32,40 @@ isSet seen i = eqb (getD seen i 0) 1
 abbrev pub inStretch : ℕ → ℕ → ℕ → Bool
 inStretch long lo c = not (ltb c lo) && ltb (c - lo) long
 
--- c lies in the stretch and stood already
-abbrev pub stoodIn : List ℕ → ℕ → ℕ → Bool
-stoodIn seen lo c = inStretch span lo c && isMarked seen (c - lo)
-
 -- r lies in the stretch and has not stood yet
 abbrev pub missingIn : List ℕ → ℕ → ℕ → Bool
 missingIn seen lo r = inStretch span lo r && not (isMarked seen (r - lo))
 
--- what `bad_in_stretch` does: whether c is seen to be bad, and the marks, with c marked if it lies in the stretch and did not stand
-pub record Taken (recv : List ℕ) (lo c : ℕ) (seen : List ℕ) (bad : Bool) (next : List ℕ) : Type 0 where
-  pub verdict : bad ≡ (stoodIn seen lo c || (inStretch span lo c && missingIn (marking seen (c - lo)) lo (getD recv c 0)))
-  pub marks : next ≡ cond (inStretch span lo c && not (isMarked seen (c - lo))) (marking seen (c - lo)) seen
+-- every entry before a position is one of n cells
+pub record CellsBefore (n : ℕ) (list : List ℕ) (position : ℕ) : Type 0 where
+  pub cell : (i : ℕ) → i < position → getD list i 0 < n
+
+-- the entry at each of the first k positions is one of n cells
+pub record CellsAt (n : ℕ) (list places : List ℕ) (k : ℕ) : Type 0 where
+  pub place : (i : ℕ) → i < k → getD places i 0 < length list
+  pub cell : (i : ℕ) → i < k → getD list (getD places i 0) 0 < n
+
+-- the position after the first i of some positions, which start at `from`
+unfoldable pub following : ℕ → List ℕ → ℕ → ℕ
+following from places zero = from
+following from places (suc i) = suc (getD places i 0)
+
+-- no cell at the positions from `from` to before `to` lies in the stretch from lo
+pub record Apart (list : List ℕ) (lo from to : ℕ) : Type 0 where
+  pub order : from ≤ to
+  pub each : (q : ℕ) → from ≤ q → q < to → inStretch span lo (getD list q 0) ≡ false
+
+-- the first k of `places` are, in order, the positions from `from` to before `to` whose cells lie in the stretch from lo
+pub record Listed (list : List ℕ) (lo from to : ℕ) (places : List ℕ) (k : ℕ) : Type 0 where
+  pub few : from + k ≤ to
+  pub below : (i : ℕ) → i < k → getD places i 0 < to
+  pub inside : (i : ℕ) → i < k → inStretch span lo (getD list (getD places i 0) 0) ≡ true
+  pub between : (i : ℕ) → i < k → Apart list lo (following from places i) (getD places i 0)
+  pub rest : Apart list lo (following from places k) to
+
+-- the receiver of the cell at the i-th of some positions
+abbrev pub receiversAt : List ℕ → List ℕ → List ℕ → ℕ → ℕ
+receiversAt recv list places i = getD recv (getD list (getD places i 0) 0) 0
 
 -- no mark is set, and there is one for each of n cells
 pub record Clear (n : ℕ) (seen : List ℕ) : Type 0 where
@@ -67,6 +89,21 @@ pub record Scanned (n : ℕ) (recv list : List ℕ) (lo hi limit f : ℕ) : Type
   pub bound : f ≤ limit
   pub earlier : (i : ℕ) → i < f → GoodWithin n recv list lo hi i
   pub fails : f < limit → goodEntry n recv list f ≡ false
+
+-- the marks after the entries before position p, whatever holds them
+abbrev pub Stood : ℕ → List ℕ → ℕ → ℕ → (ℕ → Bool) → Type 0
+Stood long list lo p m = (i : ℕ) → i < long → m i ≡ ltb 0 (times (lo + i) (take p list))
+
+-- the walk for the `long` cells from lo on has come to position p, with the marks m
+pub record Walk (long n : ℕ) (recv list : List ℕ) (lo limit p : ℕ) (m : ℕ → Bool) : Type 0 where
+  pub place : p ≤ limit
+  pub marks : Stood long list lo p m
+  pub earlier : (i : ℕ) → i < p → GoodWithin n recv list lo (lo + long) i
+
+-- the walk has ended at a bad entry f, or has come to position `to`
+pub record Passed (n : ℕ) (recv list : List ℕ) (lo to : ℕ) (seen : List ℕ) (f : ℕ) : Type 0 where
+  pub found : Scanned n recv list lo (lo + span) to f
+  pub marks : f ≡ to → Stood span list lo to (isMarked seen)
 
 -- a network of n cells, with every receiver one of them
 pub record Lengths (n : ℕ) (recv list : List ℕ) : Type 0 where

@@ -3,8 +3,8 @@ use mathlib.Core.Path.{_≡_, refl, _∙_}
 use lib.ListN.{length, getD, length-set}
 use native.Mathlib.Omega.{arith}
 use borrow.Author.Tests.{eq-eqb, ne-eqb}
-use Rattle.lent_list.specs.Seen.{isSet}
-use Rattle.lent_list.proofs.StretchLaws.{Walk, walk-none, walk-outside, walk-done, whole-twice, whole-early, whole-more}
+use Rattle.lent_list.specs.Seen.{isSet, Walk}
+use Rattle.lent_list.proofs.StretchLaws.{walk-none, walk-outside, walk-done, whole-twice, whole-early, whole-more}
 use Rattle.lent_list.proofs.SeenLaws.{bytes-none, put-byte}
 use Rattle.lent_list.proofs.first_in_bytes.Statement.{statement}
 use Rattle.lent_list.proofs.first_in_bytes.Tie as tie

@@ -1,6 +1,6 @@
 use Prim.Native.Nat.{_-_}
 use native.Mathlib.Omega.{arith}
-use Rattle.lent_list.proofs.StretchLaws.{Stretches, stretches-none, stretches-more, stretches-done}
+use Rattle.lent_list.proofs.StretchLaws.{Stretches, stretches-none, stretches-cells, stretches-more, stretches-done}
 use Rattle.lent_list.proofs.first_of_all.Statement.{statement}
 use Rattle.lent_list.proofs.first_of_all.Tie as tie
 
@@ -11,19 +11,22 @@ abbrev μ-loop : tie.MeasureT-loop
 μ-loop n recv list bad₀ lo₀ bad lo = n - lo
 
 loop-holds : tie.Need-loop-holds Inv-loop μ-loop
-loop-holds c = stretches-none
+loop-holds c = stretches-none (c .first-outside .ensures)
+
+first-outside-requires : tie.Need-first-outside-requires Inv-loop μ-loop
+first-outside-requires c κs = c .before .before .pre .0 .entries
 
 first-in-stretch-requires : tie.Need-first-in-stretch-requires Inv-loop μ-loop
-first-in-stretch-requires c κs = (c .before .before .before .before .pre .0, c .before .loop .inv .bound)
+first-in-stretch-requires c κs = (c .before .before .before .before .before .pre .0, ((c .before .loop .inv .bound, c .before .before .before .before .before .pre .1 .few, omega (arith, c .before .before .before .before .before .pre .1 .few, c .loop-test .taken)), stretches-cells (c .before .loop .inv)))
 
 add-lo : tie.Need-add-lo Inv-loop μ-loop
-add-lo c = omega (arith, c .before .before .before .before .before .pre .1 .few, c .before .loop-test .taken)
+add-lo c = omega (arith, c .before .before .before .before .before .before .pre .1 .few, c .before .loop-test .taken)
 
 loop-less : tie.Need-loop-less Inv-loop μ-loop
 loop-less c = omega (arith, c .before .loop-test .taken)
 
 loop-again : tie.Need-loop-again Inv-loop μ-loop
-loop-again c = stretches-more (c .before .before .before .before .before .pre .1) (c .before .before .loop .inv) (c .first-in-stretch .ensures)
+loop-again c = stretches-more (c .before .before .before .before .before .before .pre .1) (c .before .before .loop .inv) (c .first-in-stretch .ensures)
 
 returns : tie.Need-returns Inv-loop μ-loop
 returns c = stretches-done (c .before .loop .inv) (c .loop-test .left)
@@ -34,6 +37,7 @@ first-of-all-spec =
     (tie.spec
     Inv-loop
     μ-loop
+    first-outside-requires
     loop-holds
     first-in-stretch-requires
     add-lo
