@@ -246,7 +246,35 @@ pub fn slide(t: &mut Tally, r: &mut Random, i: usize) {
     slid(t, &l, &Pass { s, ends, r: m, stop }, out);
 }
 
-/// A large grid: its network, an incision along both lists, a pass to the end and one that stops at a random question.
+/// How far the marks of one reading of a large list go (crates/lent_list): cells on both sides of it are tried.
+const STRETCH: usize = 8_388_608;
+
+/// The flood's list with one fault at a time: an entry that is no cell, one that stands twice, two that have changed places, and one that stands
+/// where its receiver stood, of a random cell and of one by the end of a stretch.
+fn faulty_lists(t: &mut Tally, r: &mut Random, l: &Land, s: &Incision, net: &Network) {
+    let n = l.h.len();
+    let near = STRETCH.saturating_sub(2 * l.size.0);
+    let drains = |c: &usize| net.recv[*c] as usize != *c;
+    for fault in 0..5 {
+        let (p, q, any) = (r.below(n), r.below(n), r.below(n));
+        let mut list = net.order.clone();
+        let place = |cell: u32| net.order.iter().position(|c| *c == cell);
+        match fault {
+            0 => list[p] = r.pick(&[n as u32, u32::MAX]),
+            1 => list[p] = list[q],
+            2 => list.swap(p, q),
+            _ => {
+                let from = if fault == 4 && near + 4 * l.size.0 < n { near + r.below(4 * l.size.0) } else { any };
+                let Some(c) = (from..n).chain(0..from).find(drains) else { continue };
+                let (Some(a), Some(b)) = (place(c as u32), place(net.recv[c])) else { continue };
+                list.swap(a, b);
+            }
+        }
+        incised(t, "incise, a faulty list", l, s, &Lent { recv: &net.recv, list: &list, out: n, area: n });
+    }
+}
+
+/// A large grid: its network, an incision along both lists and along faulty ones, a pass to the end and one that stops at a random question.
 pub fn large(t: &mut Tally, r: &mut Random, size: Sides, h: Vec<f32>, water_level: f32) {
     let l = Land { size, h, water_level };
     let n = l.h.len();
@@ -254,6 +282,7 @@ pub fn large(t: &mut Tally, r: &mut Random, size: Sides, h: Vec<f32>, water_leve
     let scale = size.0.max(size.1) as f32 / 512.0;
     let s = Incision { k: 4.8 * scale, uplift: 0.001, water_level };
     both_lists(t, r, &l, &s, &net);
+    faulty_lists(t, r, &l, &s, &net);
     drop(net);
     let mut p = Pass::whole(Talus { threshold: 0.0075 / scale, strength: 0.5, water_level });
     let asked = slid(t, &l, &p, n).asked;
