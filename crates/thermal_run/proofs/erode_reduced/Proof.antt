@@ -1,5 +1,6 @@
 use mathlib.Core.Path.{_∙_}
 use borrow.Author.Tests.{not-true, not-false}
+use Rattle.runs.specs.Run.{slideCourse}
 use Rattle.erosion.proofs.WholeLaws.{whole-averages, whole-ended, whole-added}
 use Rattle.erosion.proofs.GridLaws.{back-grids, halted-fresh}
 use borrow.Author.Needs.{needs}
@@ -46,7 +47,7 @@ same-length-7 : tie.Need-same-length-7
 same-length-7 c = search needs
 
 returns-2 : tie.Need-returns-2
-returns-2 c = whole-ended _ _ _ _ (c .before .before .before .before .before .before .before .before .before .before .before .before .before .before .before .before .before .before .before .before .before .before .pre .0) (c .before .before .before .before .before .before .before .before .before .before .before .before .before .before .reduce .ensures) (not-false _ (c .before .before .before .before .before .before .before .before .before .if1 .left)) _ _ (c .before .before .before .before .before .before .slide-passes .ensures) (c .if2 .taken)
+returns-2 c = let a = c .before .before .before .before .before .before .before .before .before .before .before .before .before .before .before .before .before .before .before .before .before .before .args in whole-ended (a .size .w) (a .size .h) (slideCourse (a .work .w) (a .work .h) (a .params) (a .passes) (a .stop)) (a .hmap .now) (c .before .before .before .before .before .before .before .before .before .before .before .before .before .before .before .before .before .before .before .before .before .before .pre .0) (c .before .before .before .before .before .before .before .before .before .before .before .before .before .before .reduce .ensures) (not-false _ (c .before .before .before .before .before .before .before .before .before .if1 .left)) (c .before .before .before .before .before .before .slide-passes .last .1 .0) (c .before .before .before .before .before .before .slide-passes .result) (c .before .before .before .before .before .before .slide-passes .ensures) (c .if2 .taken)
 
 add-back-requires : tie.Need-add-back-requires
 add-back-requires c κs = let p = c .before .before .before .before .before .before .before .before .before .before .before .before .before .before .before .before .before .before .before .before .before .before .before .before .before .pre .1 in back-grids (p .sides) (p .heights) (c .before .before .before .before .before .before .before .before .before .before .before .before .before .before .before .before .before .reduce .kept .1 .1 .1 .0 ∙ p .averages) (c .before .before .before .before .before .before .before .before .before .slide-passes .kept .1 .0 ∙ c .before .before .before .before .before .before .before .before .before .before .before .before .before .before .before .before .before .reduce .kept .1 .1 .1 .1 .0 ∙ p .changed) (c .before .before .before .if2 .left)
@@ -64,7 +65,7 @@ same-length-11 : tie.Need-same-length-11
 same-length-11 c = search needs
 
 returns-3 : tie.Need-returns-3
-returns-3 c = whole-added _ _ _ _ (c .before .before .before .before .before .before .before .before .before .before .before .before .before .before .before .before .before .before .before .before .before .before .before .before .before .before .before .before .before .before .pre .0) (c .before .before .before .before .before .before .before .before .before .before .before .before .before .before .before .before .before .before .before .before .before .before .reduce .ensures) (not-false _ (c .before .before .before .before .before .before .before .before .before .before .before .before .before .before .before .before .before .if1 .left)) _ _ (c .before .before .before .before .before .before .before .before .before .before .before .before .before .before .slide-passes .ensures) _ (c .before .before .before .before .before .before .before .before .if2 .left) (c .before .before .before .before .add-back .ensures .0)
+returns-3 c = let a = c .before .before .before .before .before .before .before .before .before .before .before .before .before .before .before .before .before .before .before .before .before .before .before .before .before .before .before .before .before .before .args in whole-added (a .size .w) (a .size .h) (slideCourse (a .work .w) (a .work .h) (a .params) (a .passes) (a .stop)) (a .hmap .now) (c .before .before .before .before .before .before .before .before .before .before .before .before .before .before .before .before .before .before .before .before .before .before .before .before .before .before .before .before .before .before .pre .0) (c .before .before .before .before .before .before .before .before .before .before .before .before .before .before .before .before .before .before .before .before .before .before .reduce .ensures) (not-false _ (c .before .before .before .before .before .before .before .before .before .before .before .before .before .before .before .before .before .if1 .left)) (c .before .before .before .before .before .before .before .before .before .before .before .before .before .before .slide-passes .last .1 .0) (c .before .before .before .before .before .before .before .before .before .before .before .before .before .before .slide-passes .result) (c .before .before .before .before .before .before .before .before .before .before .before .before .before .before .slide-passes .ensures) _ (c .before .before .before .before .before .before .before .before .if2 .left) (c .before .before .before .before .add-back .ensures .0)
 
 pub erode-reduced-spec : {M : Type 1} → statement M
 erode-reduced-spec =
