@@ -2,12 +2,13 @@
 use Prim.Native.Nat.{ℕ, zero, suc, _+_, _*_, _≤_, _<_}
 use mathlib.Core.Path.{_≡_, sym, ap, ap₂, _∙_}
 use mathlib.Core.List.{List}
-use native.Mathlib.Nat.{mul-comm}
+use native.Mathlib.Nat.{mul-comm, mul-le-mul-right}
 use native.Mathlib.Omega.{arith}
 use lib.ListN.{length, set}
 use Rattle.lists.specs.Loops.{turns, tabulate}
 use Rattle.lists.proofs.TurnLaws.{turns-more}
-use Rattle.lists.proofs.TableLaws.{filled, filled-none, filled-more, filled-done}
+use Rattle.lists.proofs.TableLaws.{filled, filled-more}
+use Rattle.lists.proofs.FillLaws.{filling-start, filling-rows}
 use Rattle.grid.specs.Sides.{cellOf}
 use Rattle.grid.proofs.SidesLaws.{cell-lt}
 use Rattle.flood_start.specs.Slices.{rowBy}
@@ -39,10 +40,8 @@ module _ {A : Type 0} (w h : ℕ) (f : ℕ → A) (make : ℕ → ℕ → List A
       s ∙ ap (rowBy w make y w) e ∙ row-filled y m w (omega arith) ∙ ap (λ i. filled f i old) next
 
 pub rows-none : {A : Type 0} (w : ℕ) (f : ℕ → A) (old : List A) → old ≡ filled f (0 * w) old
-rows-none w f old = filled-none f old ∙ (let z : 0 ≡ 0 * w = omega arith in ap (λ i. filled f i old) z)
+rows-none w f old = filling-start w .held
 
 pub rows-done :
     {A : Type 0} (w h : ℕ) (f : ℕ → A) (old l : List A) → length old ≡ w * h → (y : ℕ) → y ≤ h → h ≤ y → l ≡ filled f (y * w) old → l ≡ tabulate (w * h) f
-rows-done w h f old l n y a b e =
-    let all : y ≡ h = omega arith in
-    e ∙ ap (λ y. filled f (y * w) old) all ∙ filled-done f (h * w) old (n ∙ mul-comm w h) ∙ ap (λ n. tabulate n f) (mul-comm h w)
+rows-done w h f old l n y a b e = filling-rows w (record { held = e; within = omega (arith, mul-comm w h, mul-le-mul-right w a) }) n b

@@ -1,7 +1,8 @@
 -- A loop that stores f 0, f 1, … into a list from the front: its invariant, at the start, after one store and at the end.
-use Prim.Native.Nat.{ℕ, _+_, _≤_, _<_}
-use mathlib.Core.Path.{_≡_, ap, ap₂, _∙_}
+use Prim.Native.Nat.{ℕ, _+_, _*_, _≤_, _<_}
+use mathlib.Core.Path.{_≡_, ap, ap₂, _∙_, subst}
 use mathlib.Core.List.{List}
+use native.Mathlib.Nat.{mul-comm, mul-le-mul-right}
 use native.Mathlib.Omega.{arith}
 use lib.ListN.{length, getD, set}
 use Rattle.lists.specs.Loops.{tabulate}
@@ -36,6 +37,13 @@ module _ {A : Type 0} {f : ℕ → A} {i : ℕ} {old new : List A} (p : Filling 
 
   pub filling-done : (n : ℕ) → length old ≡ n → n ≤ i → new ≡ tabulate n f
   filling-done n e l = stored (omega (arith, p .within)) l ∙ filled-done f n old e
+
+-- row after row of w values
+pub filling-start : {A : Type 0} {f : ℕ → A} {old : List A} (w : ℕ) → Filling f (0 * w) old old
+filling-start {A} {f} {old} w = let e : 0 ≡ 0 * w = omega arith in subst (λ (i : ℕ). Filling f i old old) e filling-none
+
+pub filling-rows : {A : Type 0} {f : ℕ → A} (w : ℕ) {h y : ℕ} {old new : List A} → Filling f (y * w) old new → length old ≡ w * h → h ≤ y → new ≡ tabulate (w * h) f
+filling-rows w {h} p e l = filling-done p (w * h) e (omega (arith, mul-comm w h, mul-le-mul-right w l))
 
 -- a loop that copies the list hs
 pub copied : {A : Type 0} {hs old new : List A} {i : ℕ} (d : A) → Filling (λ k. getD hs k d) i old new → length old ≡ length hs → length hs ≤ i → new ≡ hs

@@ -2,7 +2,6 @@
 use Prim.Native.Nat.{ℕ, zero, suc, _+_, _-_, _*_, _≤_}
 use mathlib.Core.Path.{_≡_, sym, ap, ap₂, _∙_, subst}
 use mathlib.Core.List.{List, [], _∷_, _++_, append-assoc, append-nil}
-use native.Mathlib.Nat.{mul-comm, mul-le-mul-right}
 use native.Mathlib.Omega.{arith}
 use lib.ListN.{length, take, drop}
 use lib.Seq.{take-at, drop-at, drop-drop}
@@ -10,7 +9,7 @@ use lib.Ieee.{Float}
 use borrow.Rule.Slice.PartMut.{putMid, post-is}
 use Rattle.lists.specs.Loops.{tabulate}
 use Rattle.lists.proofs.TableLaws.{length-tabulate}
-use Rattle.lists.proofs.FillLaws.{Filling, filling-none, filling-done}
+use Rattle.lists.proofs.FillLaws.{Filling}
 
 -- f 0 … f (a + b - 1) in two parts
 tabulate-add : {A : Type 0} (f : ℕ → A) (a b : ℕ) → tabulate (a + b) f ≡ tabulate a f ++ tabulate b (λ x. f (a + x))
@@ -19,9 +18,6 @@ tabulate-add f a zero = let e : a + 0 ≡ a = omega arith in ap (λ (n : ℕ). t
 tabulate-add f a (suc b) =
     let e : a + suc b ≡ suc (a + b) = omega arith in
     ap (λ (n : ℕ). tabulate n f) e ∙ ap (λ l. l ++ (f (a + b) ∷ [])) (tabulate-add f a b) ∙ append-assoc (tabulate a f) (tabulate b (λ x. f (a + x))) (f (a + b) ∷ [])
-
-pub filling-start : {f : ℕ → Float} {old : List Float} (w : ℕ) → Filling f (0 * w) old old
-filling-start {f} {old} w = let e : 0 ≡ 0 * w = omega arith in subst (λ (i : ℕ). Filling f i old old) e filling-none
 
 -- what a loop has not reached is as it was
 pub filling-drop : {f : ℕ → Float} {i : ℕ} {old now : List Float} → Filling f i old now → drop i now ≡ drop i old
@@ -42,7 +38,3 @@ stored-row {f} {old} {now} w y p inside row e =
           ∙ ap (λ (l : List Float). l ++ drop (a + w) old) (sym (tabulate-add f a w));
       within = inside;
     })
-
--- every row
-pub filling-rows : {f : ℕ → Float} (w : ℕ) {h y : ℕ} {old now : List Float} → Filling f (y * w) old now → length old ≡ w * h → h ≤ y → now ≡ tabulate (w * h) f
-filling-rows {f} w {h} {y} p e l = filling-done p (w * h) e (omega (arith, mul-comm w h, mul-le-mul-right w l))

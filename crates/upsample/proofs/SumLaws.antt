@@ -1,16 +1,15 @@
 -- The loop over the rows of the map, whether it stores the sums or only tests them.
 use Prim.Native.Nat.{ℕ, _+_, _-_, _*_, _≤_, _<_}
-use mathlib.Core.Path.{_≡_, refl, sym, ap, _∙_, subst}
+use mathlib.Core.Path.{_≡_, refl, sym, ap, _∙_}
 use mathlib.Core.Bool.{Bool, true, false, true≢false, false≢true}
 use mathlib.Core.List.{List}
-use native.Mathlib.Omega.{arith}
 use lib.ListN.{length, take, drop}
 use lib.Ieee.{Float}
 use borrow.Rule.Slice.PartMut.{putMid, put-same}
 use Rattle.lists.specs.Loops.{tabulate}
-use Rattle.lists.proofs.FillLaws.{Filling, filling-length}
+use Rattle.lists.proofs.TestLaws.{clash}
+use Rattle.lists.proofs.FillLaws.{Filling, filling-length, filling-start, filling-rows}
 use Rattle.grid.specs.Heights.{allFinite}
-use Rattle.resample.proofs.RowFillLaws.{filling-start, filling-rows}
 use Rattle.bilinear.specs.Samples.{asSource}
 use Rattle.sample_rows.specs.Rows.{columnOf, wayOf, Mixes}
 use Rattle.upsample.specs.Samples.{summedRow, Summed, addedAt, addedOf, AddedFinite}
@@ -64,7 +63,7 @@ module _ (map : List Float) (w h : ℕ) (delta : List Float) (dw dh y : ℕ) (in
       → Summed store (summedRow (take (y * w + w - y * w) (drop (y * w) now)) north south dy) (take (y * w + w - y * w) (drop (y * w) now)) t row → t ≡ false
       → Summed store (addedOf asSource map w h delta dw dh) map false (putMid (y * w) (y * w + w - y * w) now row)
   unfolding addedOf
-  summing-not true s r e = absurd (true≢false (sym (r .good) ∙ e))
+  summing-not true s r e = absurd (clash (r .good) e)
   summing-not false s r e = record {
     heights = kept (y * w) (y * w + w - y * w) (s .tested refl .0) (r .heights);
     good = sym (row-not (addedAt asSource map w h delta dw dh) w h y l (sym (row-test (s .tested refl .0) (r .good)) ∙ e));

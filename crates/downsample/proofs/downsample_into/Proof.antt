@@ -2,10 +2,9 @@ use denote.Ref.{now}
 use Prim.Native.Nat.{_-_, _*_, _≤_}
 use native.Mathlib.Omega.{arith}
 use lib.ListN.{length-take, length-drop}
-use Rattle.lists.proofs.FillLaws.{Filling, filling-length}
+use Rattle.lists.proofs.FillLaws.{Filling, filling-length, filling-start, filling-rows}
 use Rattle.resample.specs.Blocks.{downsampled}
 use Rattle.resample.proofs.FillLaws.{averageAt}
-use Rattle.resample.proofs.RowFillLaws.{filling-start, filling-rows}
 use Rattle.downsample.proofs.FirstsLaws.{columns-in, rows-in, row-place, averages-more}
 use Rattle.downsample.proofs.downsample_into.Statement.{statement}
 use Rattle.downsample.proofs.downsample_into.Tie as tie
