@@ -3,7 +3,6 @@ use Prim.Native.Nat.{ℕ, _+_, _-_, _*_, _^_, _≤_, _<_}
 use mathlib.Core.Path.{_≡_, ap₂, _∙_}
 use mathlib.Core.Bool.{false, not, _&&_}
 use mathlib.Core.List.{List}
-use native.Mathlib.Nat.{mul-comm, mul-le-mul-right}
 use native.Mathlib.Omega.{arith}
 use lib.ListN.{getD}
 use lib.Dec.{eqb, ltb}
@@ -13,16 +12,12 @@ use Rattle.floats.specs.Stand.{fractOf, indexOf}
 use Rattle.lists.proofs.TestLaws.{both, by-test}
 use Rattle.grid.specs.Sides.{badSides}
 use Rattle.grid.specs.Directions.{Place}
-use Rattle.grid.proofs.SidesLaws.{cells-bound, good-sides}
+use Rattle.grid.proofs.SidesLaws.{row-end, row-few, good-sides}
 use Rattle.bilinear.specs.Places.{Grid}
 use Rattle.bilinear.specs.Samples.{asSource, cornerOf, between, acrossOf, bilinearAt, bilinearOf}
 
--- row y ends within the grid
-pub row-end : (w h y : ℕ) → y < h → y * w + w ≤ w * h
-row-end w h y l = let m : (y + 1) * w ≤ h * w = mul-le-mul-right w (omega arith) in omega (arith, mul-comm w h)
-
 pub place-fits : {w h x y : ℕ} → Place w h x y → (y * w + w ≤ w * h) × (w * h ≤ 2 ^ 24)
-place-fits {w} {h} {x} {y} p = (row-end w h y (p .row), cells-bound w h (p .wide) (p .high))
+place-fits p = row-few (p .wide) (p .high) (p .row)
 
 pub corner-in : {w h x y : ℕ} → Place w h x y → (east south : ℕ) → cornerOf asSource w h x y east south < w * h
 corner-in {w} {h} {x} {y} p east south =
@@ -59,7 +54,7 @@ sample-by v w h x y {i} {j} {dx} {dy} a b c d e =
 
 -- row y of a grid lies within its values, which are few
 pub grid-row : {w h len y : ℕ} → Grid w h len → y < h → (y * w + w ≤ len) × (len ≤ 2 ^ 24)
-grid-row {w} {h} {len} {y} g l = omega (arith, row-end w h y l, cells-bound w h (g .w-high) (g .h-high), g .size)
+grid-row g l = omega (arith, row-few (g .w-high) (g .h-high) l, g .size)
 
 pub grid-good : (w h len : ℕ) → badSides w h ≡ false → not (eqb len (w * h)) ≡ false → Grid w h len
 grid-good w h len e f =

@@ -2,7 +2,6 @@
 use Prim.Native.Nat.{ℕ, _+_, _-_, _*_, _^_, _≤_, _<_}
 use mathlib.Core.Path.{_≡_, sym, ap₂, _∙_}
 use mathlib.Core.List.{List}
-use native.Mathlib.Nat.{mul-comm, mul-le-mul, mul-le-mul-right}
 use native.Mathlib.Omega.{arith}
 use lib.ListN.{length, getD, replicate}
 use lib.Arith.{digits-div, digits-mod}
@@ -11,6 +10,7 @@ use borrow.Rule.Slice.PartMut.{putMid}
 use Rattle.float_order.specs.Whole.{whole}
 use Rattle.lists.proofs.TableLaws.{tabulate-same, filled-read}
 use Rattle.lists.proofs.FillLaws.{Filling, stored}
+use Rattle.grid.proofs.SidesLaws.{row-few}
 use Rattle.resample.specs.WorkSize.{Within}
 use Rattle.resample.specs.Places.{Block}
 use Rattle.resample.specs.Blocks.{firstOf, blockSum, averageOf}
@@ -37,10 +37,7 @@ module _ {w h dw dh : ℕ} (g : Within w h dw dh) where
   rows-in = record { side-high = g .high; reduced-low = g .dh-low; reduced-high = omega (arith, g .high, g .dh-high); end = omega arith }
 
   pub row-place : {len y : ℕ} → len ≡ dw * dh → y < dh → (y * dw + dw ≤ len) × (len ≤ 2 ^ 24)
-  row-place {len} {y} e l =
-      let m : (y + 1) * dw ≤ dh * dw = mul-le-mul-right dw (omega arith) in
-      let n : dw * dh ≤ 4096 * 4096 = mul-le-mul {n₂ = 4096} {m₂ = 4096} (omega (arith, g .wide, g .dw-high)) (omega (arith, g .high, g .dh-high)) in
-      omega (arith, mul-comm dw dh)
+  row-place e l = omega (arith, row-few (columns-in .reduced-high) (rows-in .reduced-high) l)
 
 -- block b runs from one entry to the next
 pub block-run : (s r b : ℕ) {fs : List ℕ} → fs ≡ firstsOf s r → 1 ≤ r → r ≤ s → b < r → (getD fs b 0 < getD fs (b + 1) 0) × (getD fs (b + 1) 0 ≤ s)

@@ -1,6 +1,6 @@
 -- Columns, rows and cell numbers: from one to the other and back, and the number of cells.
 use Prim.Native.Nat.{ℕ, zero, suc, _+_, _*_, _^_, _≤_, _<_}
-use native.Mathlib.Nat.{mul-comm, mul-le-mul, mod-lt, mod-add-div', div-lt-iff-lt-mul, zero-mul}
+use native.Mathlib.Nat.{mul-comm, mul-le-mul, mul-le-mul-right, mod-lt, mod-add-div', div-lt-iff-lt-mul, zero-mul}
 use native.Mathlib.Omega.{arith}
 use mathlib.Core.Path.{_≡_, _∙_, ap}
 use mathlib.Core.Logic.{_≢_}
@@ -27,6 +27,10 @@ module _ (w x y : ℕ) (hx : x < w) where
   pub cell-lt : (h : ℕ) → y < h → cellOf w x y < w * h
   cell-lt h hy = omega (arith, digits-lt hy hx, mul-comm w h)
 
+-- row y ends within the grid
+pub row-end : (w h y : ℕ) → y < h → y * w + w ≤ w * h
+row-end w h y l = omega (arith, mul-le-mul-right w l, mul-comm w h)
+
 pub cell-back : (w c : ℕ) → cellOf w (columnOf w c) (rowOf w c) ≡ c
 cell-back w c = mod-add-div' c w
 
@@ -45,6 +49,10 @@ module _ (w h c : ℕ) (l : c < w * h) where
 -- a grid in range has at most 2 ^ 24 cells
 pub cells-bound : (w h : ℕ) → w ≤ 4096 → h ≤ 4096 → w * h ≤ 2 ^ 24
 cells-bound w h hw hh = mul-le-mul hw hh
+
+-- and row y ends within them
+pub row-few : {w h y : ℕ} → w ≤ 4096 → h ≤ 4096 → y < h → (y * w + w ≤ w * h) × (w * h ≤ 2 ^ 24)
+row-few {w} {h} {y} hw hh l = (row-end w h y l, cells-bound w h hw hh)
 
 pub cells-fit : (w h : ℕ) → w ≤ 4096 → h ≤ 4096 → Fits w64 (w * h)
 cells-fit w h hw hh = record { fits = omega (arith, cells-bound w h hw hh) }

@@ -1,9 +1,9 @@
 -- The records of the output, written one behind the other.
 use Prim.Native.Nat.{ℕ, zero, suc, _+_, _*_, _≤_, _<_}
-use mathlib.Core.Path.{_≡_, refl, sym, ap, _∙_}
+use mathlib.Core.Path.{_≡_, refl, sym, _∙_}
 use mathlib.Core.Bool.{false}
 use mathlib.Core.List.{List, _++_}
-use native.Mathlib.Nat.{mul-le-mul, mul-comm, zero-mul}
+use native.Mathlib.Nat.{zero-mul}
 use native.Mathlib.Omega.{arith}
 use borrow.Author.Tests.{lt-ltb, le-ltb}
 use mir.Syntax.{w16}
@@ -12,6 +12,7 @@ use lib.Dec.{ltb}
 use lib.ListN.{length, length-append}
 use lib.Seq.{sets}
 use lib.Ieee.{Float}
+use Rattle.grid.proofs.SidesLaws.{row-end}
 use Rattle.answers.specs.Outcome.{numberIn, answerOf}
 use Rattle.answers.specs.declared.Answer.{Answer}
 use Rattle.answers.proofs.OutcomeLaws.{refusal-by}
@@ -47,17 +48,9 @@ pub row-put : (l : List ℕ) (at : ℕ) (map : List Float) (cell w : ℕ) {a b :
     → b ≡ sets l at (rowRecord map cell w)
 row-put l at map cell w e f = sets-next l at rowMark (heightBytes map cell w) (at + 2) refl e f
 
--- where a row is written, and which cells it takes
-module _ (w h y : ℕ) (l : y < h) where
-  pub row-room : (n : ℕ) → 6 + h * (2 + 4 * w) ≤ n → 6 + y * (2 + 4 * w) + (2 + 4 * w) ≤ n
-  row-room n k =
-      let m : suc y * (2 + 4 * w) ≤ h * (2 + 4 * w) = mul-le-mul l (omega arith) in
-      omega (arith, m)
-
-  pub row-cells : y * w + w ≤ w * h
-  row-cells =
-      let m : suc y * w ≤ h * w = mul-le-mul l (omega arith) in
-      omega (arith, m, mul-comm w h)
+-- where a row is written
+pub row-room : (w h y : ℕ) → y < h → (n : ℕ) → 6 + h * (2 + 4 * w) ≤ n → 6 + y * (2 + 4 * w) + (2 + 4 * w) ≤ n
+row-room w h y l n k = omega (arith, row-end (2 + 4 * w) h y l)
 
 -- the rows before y
 pub rows-length : (map : List Float) (w y : ℕ) → length (rowRecords map w y) ≡ y * (2 + 4 * w)

@@ -1,10 +1,11 @@
 -- A row as runs: its first cell, the inner ones in blocks, and the rest; and the rows of a grid.
 use Prim.Native.Nat.{ℕ, zero, suc, _+_, _-_, _*_, _^_, _≤_, _<_}
-use mathlib.Core.Path.{_≡_, refl, ap, _∙_, subst}
+use mathlib.Core.Path.{_≡_, refl, _∙_, subst}
 use mathlib.Core.List.{List}
-use native.Mathlib.Nat.{mul-le-mul-right, mul-comm}
+use native.Mathlib.Nat.{mul-comm}
 use native.Mathlib.Omega.{arith}
 use lib.Ieee.{Float}
+use Rattle.lists.proofs.LoopLaws.{at-end}
 use Rattle.inner_cells.specs.Inner.{InnerRun}
 use Rattle.receiver_blocks.specs.Runs.{RunReceived}
 use Rattle.receiver_blocks.proofs.OffsetLaws.{inner-inside, inner-few}
@@ -15,12 +16,8 @@ pub run-few : (w h c n i m : ℕ) → InnerRun w h c n → i ≤ n → c < m →
 run-few w h c zero i m a l lo hi = omega arith
 run-few w h c (suc n) i m a l lo hi = omega (arith, inner-inside (a .inner n (omega arith)), inner-few (a .inner n (omega arith)))
 
--- a row ends inside the grid
-pub row-end : (w h y : ℕ) → y < h → w + y * w ≤ w * h
-row-end w h y l = omega (arith, mul-le-mul-right w l, mul-comm w h)
-
 pub rows-end : (w h y : ℕ) → y ≤ h → h ≤ y → y * w ≡ w * h
-rows-end w h y a b = let e : y ≡ h = omega arith in ap (λ (k : ℕ). k * w) e ∙ mul-comm h w
+rows-end w h y a b = at-end (λ (k : ℕ). k * w) refl a b ∙ mul-comm h w
 
 module _ (w h : ℕ) (spill : List Float) (y n : ℕ) (most : 1 + n ≤ w) {r t : List ℕ} where
   -- the first cell and the inner ones

@@ -1,17 +1,18 @@
 -- Values f 0, f 1, … that are all finite, as a loop finds them so, and `allFinite` of their list.
 use Prim.Native.Nat.{ℕ, _+_, _-_, _*_, _≤_, _<_}
 use mathlib.Core.Path.{_≡_, refl, sym, ap, _∙_, subst}
-use mathlib.Core.Bool.{Bool, true, false, true≢false}
-use native.Mathlib.Nat.{mul-comm}
-use native.Mathlib.Decide.{decLt}
+use mathlib.Core.Bool.{Bool, true, false}
+use native.Mathlib.Nat.{add-comm}
 use native.Mathlib.Omega.{arith}
 use lib.Ieee.{Float, nan}
 use lib.Ieee.Scale.{finite}
 use Rattle.lists.specs.Loops.{tabulate}
+use Rattle.lists.proofs.TestLaws.{clash}
 use Rattle.lists.proofs.TableLaws.{length-tabulate, getD-tabulate}
+use Rattle.lists.proofs.FirstLaws.{first-end, rows-more, rows-end}
 use Rattle.grid.specs.Heights.{allFinite}
+use Rattle.grid.proofs.SidesLaws.{row-end}
 use Rattle.grid.proofs.HeightsLaws.{below-all, all-at}
-use Rattle.bilinear.proofs.CornerLaws.{row-end}
 
 pub record Finites (f : ℕ → Float) (n : ℕ) : Type 0 where
   pub each : (k : ℕ) → k < n → finite (f k) ≡ true
@@ -36,24 +37,19 @@ module _ (f : ℕ → Float) (n : ℕ) where
 -- row by row, w values each
 module _ (f : ℕ → Float) (w h y : ℕ) (l : y < h) where
   pub row-more : Finites f (y * w) → allFinite (tabulate w (λ x. f (y * w + x))) ≡ true → Finites f ((y + 1) * w)
-  row-more p e = record { each = λ k q. go k q (decLt k (y * w)) }
+  row-more p e = record { each = rows-more (λ k. finite (f k)) w y (p .each) (first-end row) (omega arith) }
     where
-      go : (k : ℕ) → k < (y + 1) * w → Dec (k < y * w) → finite (f k) ≡ true
-      go k q (yes b) = p .each k b
-      go k q (no b) =
-          let s : y * w + (k - y * w) ≡ k = omega arith in
-          subst (λ (j : ℕ). finite (f j) ≡ true) s (finites-back (λ x. f (y * w + x)) w e .each (k - y * w) (omega arith))
+      row : (x : ℕ) → x < w → finite (f (x + y * w)) ≡ true
+      row x q = ap (λ (k : ℕ). finite (f k)) (add-comm x (y * w)) ∙ finites-back (λ x. f (y * w + x)) w e .each x q
 
   pub row-not : allFinite (tabulate w (λ x. f (y * w + x))) ≡ false → allFinite (tabulate (w * h) f) ≡ false
   row-not e = go (allFinite (tabulate (w * h) f)) refl
     where
       go : (b : Bool) → allFinite (tabulate (w * h) f) ≡ b → b ≡ false
       go true q =
-          absurd (true≢false (sym (finites-all (λ x. f (y * w + x)) w
-          (record { each = λ k m. finites-back f (w * h) q .each (y * w + k) (omega (arith, row-end w h y l)) })) ∙ e))
+          absurd (clash (finites-all (λ x. f (y * w + x)) w
+          (record { each = λ k m. finites-back f (w * h) q .each (y * w + k) (omega (arith, row-end w h y l)) })) e)
       go false q = refl
 
 pub rows-all : (f : ℕ → Float) (w h y : ℕ) → Finites f (y * w) → y ≤ h → h ≤ y → allFinite (tabulate (w * h) f) ≡ true
-rows-all f w h y p l m =
-    let e : y ≡ h = omega arith in
-    finites-all f (w * h) (subst (Finites f) (ap (λ (k : ℕ). k * w) e ∙ mul-comm h w) p)
+rows-all f w h y p l m = finites-all f (w * h) (record { each = rows-end (λ k. finite (f k)) w h y (p .each) l m .earlier })

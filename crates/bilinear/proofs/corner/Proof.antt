@@ -1,5 +1,6 @@
 use Prim.Native.Nat.{_+_}
-use Rattle.bilinear.proofs.CornerLaws.{place-fits, row-end}
+use Rattle.grid.proofs.SidesLaws.{row-end}
+use Rattle.bilinear.proofs.CornerLaws.{place-fits}
 use borrow.Author.Tests.{lt-ltb, le-ltb}
 use native.Mathlib.Omega.{arith}
 use borrow.Author.Needs.{needs}

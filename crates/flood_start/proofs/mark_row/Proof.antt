@@ -3,11 +3,10 @@ use Rattle.flood_start.proofs.StartLaws.{markAt}
 use Rattle.flood_start.proofs.RowLaws.{row-more}
 use Rattle.grid.specs.Sides.{cellOf}
 use Prim.Native.Nat.{_-_, _*_, _≤_, _<_}
-use native.Mathlib.Nat.{mul-le-mul-right, mul-comm}
 use native.Mathlib.Omega.{arith}
 use mathlib.Core.Path.{_≡_, refl, sym}
 use lib.ListN.{length, length-set}
-use Rattle.grid.proofs.SidesLaws.{cell-lt}
+use Rattle.grid.proofs.SidesLaws.{row-end, cell-lt}
 use Rattle.lists.proofs.TurnLaws.{turns-none}
 use Rattle.lists.proofs.LoopLaws.{at-end}
 use Rattle.flood_start.proofs.mark_row.Statement.{statement}
@@ -23,7 +22,7 @@ inside : (c : tie.In-loop Inv-loop μ-loop) → cellOf (c .before .before .befor
 inside c = cell-lt _ _ _ (c .loop-test .taken) _ (c .before .before .before .before .pre .0)
 
 mul-row : tie.Need-mul-row Inv-loop μ-loop
-mul-row c = omega (arith, c .before .before .pre .1 .0, mul-le-mul-right (c .before .before .args .g .w) (c .before .before .pre .0), mul-comm (c .before .before .args .g .w) (c .before .before .args .g .h))
+mul-row c = omega (arith, c .before .before .pre .1 .0, row-end (c .before .before .args .g .w) (c .before .before .args .g .h) _ (c .before .before .pre .0))
 
 loop-holds : tie.Need-loop-holds Inv-loop μ-loop
 loop-holds c = (omega arith, refl, sym (turns-none _ _))

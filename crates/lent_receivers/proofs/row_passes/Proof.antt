@@ -1,7 +1,7 @@
 use Prim.Native.Nat.{_+_, _-_, _*_}
 use native.Mathlib.Omega.{arith}
 use borrow.Author.Tests.{lt-ltb, le-ltb, eq-eqb, ne-eqb}
-use Rattle.grid.proofs.SidesLaws.{cell-lt, cells-bound}
+use Rattle.grid.proofs.SidesLaws.{row-few}
 use Rattle.lent_receivers.specs.Receivers.{rowPasses}
 use Rattle.lent_receivers.proofs.RowLaws.{passes-west, passes-east, passes-inner}
 use borrow.Author.Needs.{needs}
@@ -24,13 +24,13 @@ unfolding rowPasses
 returns-3 c = rw (le-ltb _ _ (c .before .before .before .if1 .left), ne-eqb _ _ (c .before .before .if2 .left), eq-eqb _ _ (c .if3 .taken))
 
 mul-bad-receiver : tie.Need-mul-bad-receiver
-mul-bad-receiver c = omega (arith, cell-lt (c .before .before .before .before .before .args .size .w) 0 (c .before .before .before .before .before .args .y) (omega (arith, c .before .before .before .before .before .pre .0 .columns)) (c .before .before .before .before .before .args .size .h) (c .before .before .before .before .before .pre .1 .1), cells-bound _ _ (c .before .before .before .before .before .pre .0 .wide) (c .before .before .before .before .before .pre .0 .high), c .before .before .before .before .before .pre .1 .0)
+mul-bad-receiver c = omega (arith, row-few (c .before .before .before .before .before .pre .0 .wide) (c .before .before .before .before .before .pre .0 .high) (c .before .before .before .before .before .pre .1 .1), c .before .before .before .before .before .pre .0 .columns, c .before .before .before .before .before .pre .1 .0)
 
 mul-bad-receiver-2 : tie.Need-mul-bad-receiver-2
-mul-bad-receiver-2 c = omega (arith, cell-lt (c .before .before .before .before .before .args .size .w) 0 (c .before .before .before .before .before .args .y) (omega (arith, c .before .before .before .before .before .pre .0 .columns)) (c .before .before .before .before .before .args .size .h) (c .before .before .before .before .before .pre .1 .1), cells-bound _ _ (c .before .before .before .before .before .pre .0 .wide) (c .before .before .before .before .before .pre .0 .high), c .before .before .before .before .before .pre .1 .0)
+mul-bad-receiver-2 c = omega (arith, row-few (c .before .before .before .before .before .pre .0 .wide) (c .before .before .before .before .before .pre .0 .high) (c .before .before .before .before .before .pre .1 .1), c .before .before .before .before .before .pre .0 .columns, c .before .before .before .before .before .pre .1 .0)
 
 shared-slice-read-bad-receiver : tie.Need-shared-slice-read-bad-receiver
-shared-slice-read-bad-receiver c = omega (arith, cell-lt (c .before .before .before .before .before .before .args .size .w) 0 (c .before .before .before .before .before .before .args .y) (omega (arith, c .before .before .before .before .before .before .pre .0 .columns)) (c .before .before .before .before .before .before .args .size .h) (c .before .before .before .before .before .before .pre .1 .1), cells-bound _ _ (c .before .before .before .before .before .before .pre .0 .wide) (c .before .before .before .before .before .before .pre .0 .high), c .before .before .before .before .before .before .pre .1 .0)
+shared-slice-read-bad-receiver c = omega (arith, row-few (c .before .before .before .before .before .before .pre .0 .wide) (c .before .before .before .before .before .before .pre .0 .high) (c .before .before .before .before .before .before .pre .1 .1), c .before .before .before .before .before .before .pre .0 .columns, c .before .before .before .before .before .before .pre .1 .0)
 
 cast-bad-receiver : tie.Need-cast-bad-receiver
 cast-bad-receiver c = omega (arith, c .shared-slice-known2 .given (c .before .before .before .before .before .before .args .y * c .before .before .before .before .before .before .args .size .w))
@@ -48,16 +48,16 @@ sub-bad-receiver-2 : tie.Need-sub-bad-receiver-2
 sub-bad-receiver-2 c = search needs
 
 mul-bad-receiver-3 : tie.Need-mul-bad-receiver-3
-mul-bad-receiver-3 c = omega (arith, cell-lt (c .before .before .before .before .before .before .before .before .args .size .w) (c .before .before .before .before .before .before .before .before .args .size .w - 1) (c .before .before .before .before .before .before .before .before .args .y) (omega (arith, c .before .before .before .before .before .before .before .before .pre .0 .columns)) (c .before .before .before .before .before .before .before .before .args .size .h) (c .before .before .before .before .before .before .before .before .pre .1 .1), cells-bound _ _ (c .before .before .before .before .before .before .before .before .pre .0 .wide) (c .before .before .before .before .before .before .before .before .pre .0 .high), c .before .before .before .before .before .before .before .before .pre .1 .0)
+mul-bad-receiver-3 c = omega (arith, row-few (c .before .before .before .before .before .before .before .before .pre .0 .wide) (c .before .before .before .before .before .before .before .before .pre .0 .high) (c .before .before .before .before .before .before .before .before .pre .1 .1), c .before .before .before .before .before .before .before .before .pre .0 .columns, c .before .before .before .before .before .before .before .before .pre .1 .0)
 
 add-bad-receiver : tie.Need-add-bad-receiver
-add-bad-receiver c = omega (arith, cell-lt (c .before .before .before .before .before .before .before .before .args .size .w) (c .before .before .before .before .before .before .before .before .args .size .w - 1) (c .before .before .before .before .before .before .before .before .args .y) (omega (arith, c .before .before .before .before .before .before .before .before .pre .0 .columns)) (c .before .before .before .before .before .before .before .before .args .size .h) (c .before .before .before .before .before .before .before .before .pre .1 .1), cells-bound _ _ (c .before .before .before .before .before .before .before .before .pre .0 .wide) (c .before .before .before .before .before .before .before .before .pre .0 .high), c .before .before .before .before .before .before .before .before .pre .1 .0)
+add-bad-receiver c = omega (arith, row-few (c .before .before .before .before .before .before .before .before .pre .0 .wide) (c .before .before .before .before .before .before .before .before .pre .0 .high) (c .before .before .before .before .before .before .before .before .pre .1 .1), c .before .before .before .before .before .before .before .before .pre .0 .columns, c .before .before .before .before .before .before .before .before .pre .1 .0)
 
 mul-bad-receiver-4 : tie.Need-mul-bad-receiver-4
-mul-bad-receiver-4 c = omega (arith, cell-lt (c .before .before .before .before .before .before .before .before .args .size .w) (c .before .before .before .before .before .before .before .before .args .size .w - 1) (c .before .before .before .before .before .before .before .before .args .y) (omega (arith, c .before .before .before .before .before .before .before .before .pre .0 .columns)) (c .before .before .before .before .before .before .before .before .args .size .h) (c .before .before .before .before .before .before .before .before .pre .1 .1), cells-bound _ _ (c .before .before .before .before .before .before .before .before .pre .0 .wide) (c .before .before .before .before .before .before .before .before .pre .0 .high), c .before .before .before .before .before .before .before .before .pre .1 .0)
+mul-bad-receiver-4 c = omega (arith, row-few (c .before .before .before .before .before .before .before .before .pre .0 .wide) (c .before .before .before .before .before .before .before .before .pre .0 .high) (c .before .before .before .before .before .before .before .before .pre .1 .1), c .before .before .before .before .before .before .before .before .pre .0 .columns, c .before .before .before .before .before .before .before .before .pre .1 .0)
 
 shared-slice-read-bad-receiver-2 : tie.Need-shared-slice-read-bad-receiver-2
-shared-slice-read-bad-receiver-2 c = omega (arith, cell-lt (c .before .before .before .before .before .before .before .before .before .args .size .w) (c .before .before .before .before .before .before .before .before .before .args .size .w - 1) (c .before .before .before .before .before .before .before .before .before .args .y) (omega (arith, c .before .before .before .before .before .before .before .before .before .pre .0 .columns)) (c .before .before .before .before .before .before .before .before .before .args .size .h) (c .before .before .before .before .before .before .before .before .before .pre .1 .1), cells-bound _ _ (c .before .before .before .before .before .before .before .before .before .pre .0 .wide) (c .before .before .before .before .before .before .before .before .before .pre .0 .high), c .before .before .before .before .before .before .before .before .before .pre .1 .0)
+shared-slice-read-bad-receiver-2 c = omega (arith, row-few (c .before .before .before .before .before .before .before .before .before .pre .0 .wide) (c .before .before .before .before .before .before .before .before .before .pre .0 .high) (c .before .before .before .before .before .before .before .before .before .pre .1 .1), c .before .before .before .before .before .before .before .before .before .pre .0 .columns, c .before .before .before .before .before .before .before .before .before .pre .1 .0)
 
 cast-bad-receiver-2 : tie.Need-cast-bad-receiver-2
 cast-bad-receiver-2 c = omega (arith, c .shared-slice-known3 .given ((c .before .before .before .before .before .before .before .before .before .args .size .w - 1) + c .before .before .before .before .before .before .before .before .before .args .y * c .before .before .before .before .before .before .before .before .before .args .size .w))

@@ -1,6 +1,7 @@
 use Rattle.stream_bytes.proofs.PutLaws.{Putting, putting-kept, putting-done}
 use Rattle.output.specs.Output.{rowRecords}
-use Rattle.output.proofs.OutputLaws.{rows-none, row-room, row-cells, rows-more}
+use Rattle.grid.proofs.SidesLaws.{row-end}
+use Rattle.output.proofs.OutputLaws.{rows-none, row-room, rows-more}
 use Prim.Native.Nat.{_-_}
 use native.Mathlib.Omega.{arith}
 use Rattle.output.proofs.put_rows.Statement.{statement}
@@ -28,10 +29,10 @@ add-put-row-2 : tie.Need-add-put-row-2 Inv-loop μ-loop
 add-put-row-2 c = omega (arith, row-room (c .before .before .before .before .before .args .size .w) (c .before .before .before .before .before .args .size .h) _ (c .before .loop-test .taken) _ (c .before .before .before .before .before .pre .0))
 
 mul-put-row-3 : tie.Need-mul-put-row-3 Inv-loop μ-loop
-mul-put-row-3 c = omega (arith, row-cells (c .before .before .before .before .before .args .size .w) (c .before .before .before .before .before .args .size .h) _ (c .before .loop-test .taken), c .before .before .before .before .before .pre .1)
+mul-put-row-3 c = omega (arith, row-end (c .before .before .before .before .before .args .size .w) (c .before .before .before .before .before .args .size .h) _ (c .before .loop-test .taken), c .before .before .before .before .before .pre .1)
 
 put-row-requires : tie.Need-put-row-requires Inv-loop μ-loop
-put-row-requires c κs = (omega (arith, row-room (c .before .before .before .before .before .args .size .w) (c .before .before .before .before .before .args .size .h) _ (c .before .loop-test .taken) _ (c .before .before .before .before .before .pre .0), putting-kept (c .before .before .loop .inv)), omega (arith, row-cells (c .before .before .before .before .before .args .size .w) (c .before .before .before .before .before .args .size .h) _ (c .before .loop-test .taken), c .before .before .before .before .before .pre .1))
+put-row-requires c κs = (omega (arith, row-room (c .before .before .before .before .before .args .size .w) (c .before .before .before .before .before .args .size .h) _ (c .before .loop-test .taken) _ (c .before .before .before .before .before .pre .0), putting-kept (c .before .before .loop .inv)), omega (arith, row-end (c .before .before .before .before .before .args .size .w) (c .before .before .before .before .before .args .size .h) _ (c .before .loop-test .taken), c .before .before .before .before .before .pre .1))
 
 add-y : tie.Need-add-y Inv-loop μ-loop
 add-y c = omega (arith, row-room (c .before .before .before .before .before .before .before .before .args .size .w) (c .before .before .before .before .before .before .before .before .args .size .h) _ (c .before .before .before .before .loop-test .taken) _ (c .before .before .before .before .before .before .before .before .pre .0))

@@ -1,10 +1,10 @@
 use Prim.Native.Nat.{_-_}
 use mathlib.Core.Path.{_∙_}
 use native.Mathlib.Omega.{arith}
-use Rattle.grid.proofs.SidesLaws.{cells-bound}
+use Rattle.grid.proofs.SidesLaws.{row-few}
 use Rattle.inner_cells.proofs.InnerLaws.{inner-most, row-inner}
 use Rattle.receiver_rows.proofs.FinderLaws.{near-part, near-after}
-use Rattle.receiver_rows.proofs.RowLaws.{row-end, row-two, row-whole}
+use Rattle.receiver_rows.proofs.RowLaws.{row-two, row-whole}
 use borrow.Author.Needs.{needs}
 use Rattle.receiver_rows.proofs.receive_row.Statement.{statement}
 use Rattle.receiver_rows.proofs.receive_row.Tie as tie
@@ -16,10 +16,10 @@ receive-cells-requires : tie.Need-receive-cells-requires
 receive-cells-requires c κs = let p = c .before .before .before .before .pre in (p .0, (p .1 .0, (p .0 .columns, (near-part _ _ (p .1 .1 .0) (omega arith) (omega (arith, p .0 .columns)), (p .1 .1 .1 .1 .1 .1 .0, p .1 .1 .1 .1 .1 .1 .1)))))
 
 mul-receive-inner-cells : tie.Need-mul-receive-inner-cells
-mul-receive-inner-cells c = omega (arith, row-end (c .before .before .before .before .before .before .before .before .args .size .w) (c .before .before .before .before .before .before .before .before .args .size .h) (c .before .before .before .before .before .before .before .before .args .y) (c .before .before .before .before .before .before .before .before .pre .1 .0), cells-bound _ _ (c .before .before .before .before .before .before .before .before .pre .0 .wide) (c .before .before .before .before .before .before .before .before .pre .0 .high))
+mul-receive-inner-cells c = omega (arith, row-few (c .before .before .before .before .before .before .before .before .pre .0 .wide) (c .before .before .before .before .before .before .before .before .pre .0 .high) (c .before .before .before .before .before .before .before .before .pre .1 .0))
 
 add-receive-inner-cells : tie.Need-add-receive-inner-cells
-add-receive-inner-cells c = omega (arith, row-end (c .before .before .before .before .before .before .before .before .args .size .w) (c .before .before .before .before .before .before .before .before .args .size .h) (c .before .before .before .before .before .before .before .before .args .y) (c .before .before .before .before .before .before .before .before .pre .1 .0), cells-bound _ _ (c .before .before .before .before .before .before .before .before .pre .0 .wide) (c .before .before .before .before .before .before .before .before .pre .0 .high))
+add-receive-inner-cells c = omega (arith, row-few (c .before .before .before .before .before .before .before .before .pre .0 .wide) (c .before .before .before .before .before .before .before .before .pre .0 .high) (c .before .before .before .before .before .before .before .before .pre .1 .0))
 
 receive-inner-cells-requires : tie.Need-receive-inner-cells-requires
 receive-inner-cells-requires c κs = let p = c .before .before .before .before .before .before .before .before .pre in (row-inner _ _ _ _ (c .before .before .before .before .before .inner-cells .ensures) (p .1 .0) (p .0 .wide) (p .0 .high), (near-after _ _ _ _ _ (p .1 .1 .0) (c .before .before .before .receive-cells .ensures) (omega arith) (omega arith) (omega (arith, inner-most _ _ _ _ (c .before .before .before .before .before .inner-cells .ensures) (c .before .before .before .before .before .before .before .before .pre .0 .columns))), (p .1 .1 .1 .0, (p .1 .1 .1 .1 .0, (p .1 .1 .1 .1 .1 .0, (p .1 .1 .1 .1 .1 .1 .0, c .before .before .before .receive-cells .ensures .long ∙ p .1 .1 .1 .1 .1 .1 .1))))))

@@ -2,10 +2,11 @@ use Prim.Native.Nat.{_-_, _*_, _≤_}
 use mathlib.Core.Path.{refl, _∙_}
 use native.Mathlib.Omega.{arith}
 use borrow.Author.Needs.{needs}
+use Rattle.grid.proofs.SidesLaws.{row-end}
 use Rattle.receiver_blocks.specs.Runs.{RunReceived}
 use Rattle.receiver_blocks.proofs.RunLaws.{run-none, run-end, run-join}
 use Rattle.receiver_rows.proofs.FinderLaws.{run-all, near-all, near-after}
-use Rattle.receiver_rows.proofs.RowLaws.{row-end, rows-end}
+use Rattle.receiver_rows.proofs.RowLaws.{rows-end}
 use Rattle.receiver_rows.proofs.steepest_receivers.Statement.{statement}
 use Rattle.receiver_rows.proofs.steepest_receivers.Tie as tie
 
@@ -28,7 +29,7 @@ loop-holds : tie.Need-loop-holds Inv-loop μ-loop
 loop-holds c = (omega arith, run-end _ _ _ (run-none _ _ _ _ _) (omega arith))
 
 receive-row-requires : tie.Need-receive-row-requires Inv-loop μ-loop
-receive-row-requires c κs = let p = c .before .before .before .before .before .before .before .before .before .before .before .before .pre in (p .0, (c .before .before .before .before .loop-test .taken, (near-after _ _ _ _ _ (near-all (p .1 .1 .1) 0 _ (omega arith)) (c .before .before .before .before .before .loop .inv .1) (omega arith) (omega arith) (row-end _ _ _ (c .before .before .before .before .loop-test .taken)), (c .before .before .before .before .before .before .before .before .before .offsets .ensures, (c .before .before .before .before .before .before .before .narrow .ensures, (c .before .before .before .before .before .before .distances .ensures, (p .1 .0, c .before .before .before .before .before .loop .inv .1 .long ∙ p .1 .1 .0)))))))
+receive-row-requires c κs = let p = c .before .before .before .before .before .before .before .before .before .before .before .before .pre in (p .0, (c .before .before .before .before .loop-test .taken, (near-after _ _ _ _ _ (near-all (p .1 .1 .1) 0 (c .before .before .before .before .before .before .before .before .before .before .before .before .args .g .w * c .before .before .before .before .before .before .before .before .before .before .before .before .args .g .h) (omega arith)) (c .before .before .before .before .before .loop .inv .1) (omega arith) (omega arith) (omega (arith, row-end (c .before .before .before .before .before .before .before .before .before .before .before .before .args .g .w) _ _ (c .before .before .before .before .loop-test .taken))), (c .before .before .before .before .before .before .before .before .before .offsets .ensures, (c .before .before .before .before .before .before .before .narrow .ensures, (c .before .before .before .before .before .before .distances .ensures, (p .1 .0, c .before .before .before .before .before .loop .inv .1 .long ∙ p .1 .1 .0)))))))
 
 add-y : tie.Need-add-y Inv-loop μ-loop
 add-y c = omega (arith, c .before .before .before .before .before .before .before .loop-test .taken)
