@@ -4,21 +4,15 @@ use mathlib.Core.Bool.{Bool, true, false, not, _&&_, _||_, Bool·beq, and-true}
 use Prim.Native.Nat.{ℕ, _+_, _*_, _^_, _≤_, _<_}
 use native.Mathlib.Nat.{mul-right-comm, mul-assoc, mul-comm, mul-pos}
 use native.Mathlib.Omega.{arith}
-use borrow.Author.Tests.{lt-ltb, le-ltb, ne-eqb, le-leb, lt-leb, ltb-true, ltb-false, eqb-true, eqb-false}
-use lib.Dec.{T, ltb, leb, eqb, ltb→lt, lt→ltb, eqb→eq}
+use borrow.Author.Tests.{lt-ltb, le-ltb, ne-eqb}
+use lib.Dec.{T, ltb, leb, eqb, eqb→eq}
 use lib.IntN.{ℤ}
 use lib.Pow.{pow-pos}
 use lib.Ieee.{Float, nan, inf, fin, binary32, up, down, below, level, lt, le, eq, fits, isNan}
 use lib.Ieee.Fits.{down-pos, eq→eqb, and-i, and-l, and-r}
-use Rattle.floats.proofs.ValueLaws.{same-test, below-scaled, level-scaled}
+use Rattle.floats.proofs.ValueLaws.{same-test, same-lt, same-eq, or-leb, below-scaled, level-scaled}
 use Rattle.float_order.specs.Order.{Number, signOf, unitsOf, signed, rank}
 use Rattle.float_order.proofs.SizeLaws.{rank-is, units-exact, units-lt, units-le}
-
-pub same-lt : (a b u v : ℕ) → (a < b → u < v) → (u < v → a < b) → ltb a b ≡ ltb u v
-same-lt a b u v f g = same-test (ltb a b) (ltb u v) (λ t. lt→ltb u v (f (ltb→lt a b t))) (λ t. lt→ltb a b (g (ltb→lt u v t)))
-
-same-eq : (a b u v : ℕ) → (a ≡ b → u ≡ v) → (u ≡ v → a ≡ b) → eqb a b ≡ eqb u v
-same-eq a b u v f g = same-test (eqb a b) (eqb u v) (λ t. eq→eqb (f (eqb→eq a b t))) (λ t. eq→eqb (g (eqb→eq u v t)))
 
 -- ---- numbers compare as their signs and sizes do
 
@@ -128,26 +122,22 @@ level-ranked B a b true true h k = and-true (eqb a b) ∙ same-eq a b (signed B 
 
 -- ---- the laws
 
+-- a comparison that says of signs and sizes what `op` says of their ranks
+by-ranks : (op : ℕ → ℕ → Bool) {compare : Float → Float → Bool} {test : Bool → ℕ → Bool → ℕ → Bool}
+    → ((x y : Float) → Number x → Number y → compare x y ≡ test (signOf x) (unitsOf x) (signOf y) (unitsOf y))
+    → ((B a b : ℕ) (s t : Bool) → a ≤ B → b ≤ B → test s a t b ≡ op (signed B s a) (signed B t b))
+    → (x y : Float) → Number x → Number y → compare x y ≡ op (rank x) (rank y)
+by-ranks op told ranked x y p q =
+    told x y p q
+    ∙ ranked (2 ^ 277) (unitsOf x) (unitsOf y) (signOf x) (signOf y) (units-le x p) (units-le y q)
+    ∙ ap₂ op (sym (rank-is x p)) (sym (rank-is y q))
+
 pub lt-is : (x y : Float) → Number x → Number y → lt x y ≡ ltb (rank x) (rank y)
-lt-is x y p q =
-    lt-below x y p q
-    ∙ below-ranked (2 ^ 277) (unitsOf x) (unitsOf y) (signOf x) (signOf y) (units-le x p) (units-le y q)
-    ∙ ap₂ ltb (sym (rank-is x p)) (sym (rank-is y q))
+lt-is = by-ranks ltb lt-below below-ranked
 
 pub eq-is : (x y : Float) → Number x → Number y → eq x y ≡ eqb (rank x) (rank y)
-eq-is x y p q =
-    eq-level x y p q
-    ∙ level-ranked (2 ^ 277) (unitsOf x) (unitsOf y) (signOf x) (signOf y) (units-le x p) (units-le y q)
-    ∙ ap₂ eqb (sym (rank-is x p)) (sym (rank-is y q))
-
-either : (a b : ℕ) → (ltb a b || eqb a b) ≡ leb a b
-either a b = go (ltb a b) (eqb a b) refl refl
-  where
-    go : (u v : Bool) → ltb a b ≡ u → eqb a b ≡ v → (u || v) ≡ leb a b
-    go true v h k = sym (le-leb a b (omega (arith, ltb-true)))
-    go false true h k = sym (le-leb a b (omega (arith, eqb-true)))
-    go false false h k = sym (lt-leb a b (omega (arith, ltb-false, eqb-false)))
+eq-is = by-ranks eqb eq-level level-ranked
 
 pub le-is : (x y : Float) → Number x → Number y → le x y ≡ leb (rank x) (rank y)
 unfolding le
-le-is x y p q = ap₂ (λ (u v : Bool). u || v) (lt-is x y p q) (eq-is x y p q) ∙ either (rank x) (rank y)
+le-is x y p q = ap₂ (λ (u v : Bool). u || v) (lt-is x y p q) (eq-is x y p q) ∙ or-leb (rank x) (rank y)

@@ -11,11 +11,11 @@ use lib.Ieee.{Float, nan, inf, fin, binary32, up, down, sum, add, lt, ofInt, ofB
 use lib.Ieee.Exact.{HasValue}
 use lib.Ieee.Fits.{down-pos, ofInt-fits}
 use lib.Ieee.Scale.{finite}
-use Rattle.floats.proofs.ValueLaws.{ofInt-value, ofInt-add}
+use Rattle.floats.proofs.ValueLaws.{same-lt, ofInt-value, ofInt-add}
 use Rattle.floats.proofs.FiniteLaws.{value-finite}
 use Rattle.float_order.specs.Order.{Number, rank}
 use Rattle.float_order.specs.Whole.{whole, WholeNumbers}
-use Rattle.float_order.proofs.OrderLaws.{same-lt, lt-is}
+use Rattle.float_order.proofs.OrderLaws.{lt-is}
 use Rattle.float_order.proofs.RankLaws.{finite-number}
 
 pub whole-fits : (n : ℕ) → T (fits binary32 (whole n))

@@ -1,14 +1,13 @@
 -- A finite float as the fraction that it equals (`HasValue x s a c`, lib.Ieee.Exact): a format writes each fraction in one way, what it holds rounds to
 -- itself, and comparisons and cuts are those of the fractions.
 use mathlib.Core.Path.{_≡_, refl, sym, ap, _∙_, subst}
-use mathlib.Core.Bool.{Bool, true, false, _&&_, _||_, Bool·beq, cond, true≢false, false≢true}
-use mathlib.Core.Logic.{_⊎_, inl, inr}
+use mathlib.Core.Bool.{Bool, true, false, _&&_, _||_, Bool·beq, cond, and-true, true≢false, false≢true}
 use Prim.Native.Nat.{ℕ, zero, suc, _+_, _-_, _*_, _/_, _%_, _^_, _≤_, _<_, min}
-use native.Mathlib.Nat.{le-of-eq, le-of-lt, eq-or-lt-of-le, le-of-suc-le-suc, lt-of-le-of-lt, min-le-left, div-lt-iff-lt-mul, lt-of-lt-of-le, lt-of-not-le, lt-irrefl, zero-mul, mul-one, one-mul, mul-comm, mul-assoc, mul-left-comm, mul-right-comm, mul-pos, add-mul, mul-lt-mul-of-pos-right, lt-of-mul-lt-mul-right, eq-of-mul-eq-mul-right, le-div-iff-mul-le}
+use native.Mathlib.Nat.{sub-add-cancel, le-of-eq, le-of-suc-le-suc, lt-of-le-of-lt, min-le-left, div-lt-iff-lt-mul, lt-of-lt-of-le, lt-of-not-le, lt-irrefl, zero-mul, mul-one, one-mul, mul-comm, mul-assoc, mul-left-comm, mul-right-comm, mul-pos, add-mul, mul-lt-mul-of-pos-right, lt-of-mul-lt-mul-right, eq-of-mul-eq-mul-right, le-div-iff-mul-le}
 use native.Mathlib.Omega.{arith}
-use borrow.Author.Tests.{ltb-true, ltb-false}
+use borrow.Author.Tests.{ltb-true, ltb-false, eqb-true, eqb-false, le-leb, lt-leb}
 use lib.IntN.{ℤ, pos, negsuc}
-use lib.Dec.{T, leb, ltb, eqb, ltb→lt, lt→ltb, leb→le, le→leb, eqb→eq}
+use lib.Dec.{T, leb, ltb, eqb, ltb→lt, lt→ltb, leb→le, eqb→eq}
 use lib.Pow.{pow-add, pow-pos, pow-lt}
 use lib.Ieee.{Float, nan, inf, fin, Format, binary32, prec, emax, low, up, down, size, hid, top, round, sum, add, below, level, lt, eq, le, fits, ofBits, toBits, ofInt, toUnsigned}
 use lib.Ieee.Fits.{down-pos, eq→eqb, and-l, and-r, round-fits}
@@ -71,15 +70,12 @@ held f s (suc m) e t =
 pub pow-back : (a l : ℕ) → 2 ^ a ≤ 2 ^ l → a ≤ l
 pow-back a l h = le-of-suc-le-suc (lt-of-not-le (λ (g : suc l ≤ a). lt-irrefl (2 ^ l) (lt-of-lt-of-le (pow-lt g) h)))
 
-back : (a l : ℕ) → a ≤ l → l - a + a ≡ l
-back a l h = omega arith
-
 in-units : (l m : ℕ) (e : ℤ) → down e ≤ 2 ^ l → (j : ℕ) × (m * up e * 2 ^ l ≡ m * 2 ^ j * down e)
 in-units l m (pos k) h = (k + l, mul-assoc m (2 ^ k) (2 ^ l) ∙ ap (λ (z : ℕ). m * z) (sym (pow-add 2 k l)) ∙ sym (mul-one (m * 2 ^ (k + l))))
 in-units l m (negsuc k) h = (
   l - suc k,
   ap (λ (z : ℕ). z * 2 ^ l) (mul-one m)
-      ∙ ap (λ (z : ℕ). m * 2 ^ z) (sym (back (suc k) l (pow-back (suc k) l h)))
+      ∙ ap (λ (z : ℕ). m * 2 ^ z) (sym (sub-add-cancel (pow-back (suc k) l h)))
       ∙ ap (λ (z : ℕ). m * z) (pow-add 2 (l - suc k) (suc k))
       ∙ sym (mul-assoc m (2 ^ (l - suc k)) (2 ^ suc k)),
 )
@@ -123,17 +119,25 @@ same-test true false p q = absurd (p tt)
 same-test false true p q = absurd (q tt)
 same-test false false p q = refl
 
+pub same-lt : (a b u v : ℕ) → (a < b → u < v) → (u < v → a < b) → ltb a b ≡ ltb u v
+same-lt a b u v f g = same-test (ltb a b) (ltb u v) (λ t. lt→ltb u v (f (ltb→lt a b t))) (λ t. lt→ltb a b (g (ltb→lt u v t)))
+
+pub same-eq : (a b u v : ℕ) → (a ≡ b → u ≡ v) → (u ≡ v → a ≡ b) → eqb a b ≡ eqb u v
+same-eq a b u v f g = same-test (eqb a b) (eqb u v) (λ t. eq→eqb (f (eqb→eq a b t))) (λ t. eq→eqb (g (eqb→eq u v t)))
+
 -- p and q are A and B, scaled alike
 module _ (p q A B K L : ℕ) (u : p * K ≡ A * L) (v : q * K ≡ B * L) (P : 0 < K) (Q : 0 < L) where
   scaled-ltb : ltb p q ≡ ltb A B
-  scaled-ltb = same-test (ltb p q) (ltb A B)
-      (λ t. lt→ltb A B (lt-of-mul-lt-mul-right L (subst (λ (z : ℕ). z < B * L) u (subst (λ (z : ℕ). p * K < z) v (mul-lt-mul-of-pos-right (ltb→lt p q t) P)))))
-      (λ t. lt→ltb p q (lt-of-mul-lt-mul-right K (subst (λ (z : ℕ). z < q * K) (sym u) (subst (λ (z : ℕ). A * L < z) (sym v) (mul-lt-mul-of-pos-right (ltb→lt A B t) Q)))))
+  scaled-ltb =
+      same-lt p q A B
+      (λ l. lt-of-mul-lt-mul-right L (subst (λ (z : ℕ). z < B * L) u (subst (λ (z : ℕ). p * K < z) v (mul-lt-mul-of-pos-right l P))))
+      (λ l. lt-of-mul-lt-mul-right K (subst (λ (z : ℕ). z < q * K) (sym u) (subst (λ (z : ℕ). A * L < z) (sym v) (mul-lt-mul-of-pos-right l Q))))
 
   scaled-eqb : eqb p q ≡ eqb A B
-  scaled-eqb = same-test (eqb p q) (eqb A B)
-      (λ t. eq→eqb (eq-of-mul-eq-mul-right L Q A B (sym u ∙ ap (λ (z : ℕ). z * K) (eqb→eq p q t) ∙ v)))
-      (λ t. eq→eqb (eq-of-mul-eq-mul-right K P p q (u ∙ ap (λ (z : ℕ). z * L) (eqb→eq A B t) ∙ sym v)))
+  scaled-eqb =
+      same-eq p q A B
+      (λ e. eq-of-mul-eq-mul-right L Q A B (sym u ∙ ap (λ (z : ℕ). z * K) e ∙ v))
+      (λ e. eq-of-mul-eq-mul-right K P p q (u ∙ ap (λ (z : ℕ). z * L) e ∙ sym v))
 
 scaled-zero : (p A K L : ℕ) → p * K ≡ A * L → 0 < K → 0 < L → eqb p 0 ≡ eqb A 0
 scaled-zero p A K L u P Q = scaled-eqb p 0 A 0 K L u (zero-mul K ∙ sym (zero-mul L)) P Q
@@ -179,23 +183,21 @@ unfolding le
 le-values x y s t a c b d C D v w =
     ap (λ (z : Bool). z || eq x y) (lt-values x y s t a c b d C D v w) ∙ ap (λ (z : Bool). below s (a * d) t (b * c) || z) (eq-values x y s t a c b d C D v w)
 
--- of two that are not negative `le` is one test
-or-leb : (a b : ℕ) → (ltb a b || (eqb a b && true)) ≡ leb a b
-or-leb a b = same-test (ltb a b || (eqb a b && true)) (leb a b) (go (ltb a b) (eqb a b) (ltb→lt a b) (eqb→eq a b)) (λ t. back-in (ltb a b) (eqb a b) (eq-or-lt-of-le (leb→le a b t)) (lt→ltb a b) (λ (e : a ≡ b). eq→eqb e))
+-- less or equal is at most
+pub or-leb : (a b : ℕ) → (ltb a b || eqb a b) ≡ leb a b
+or-leb a b = go (ltb a b) (eqb a b) refl refl
   where
-    go : (p q : Bool) → (T p → a < b) → (T q → a ≡ b) → T (p || (q && true)) → T (leb a b)
-    go true q l e t = le→leb a b (le-of-lt (l tt))
-    go false true l e t = le→leb a b (le-of-eq (e tt))
-    go false false l e t = absurd t
+    go : (u v : Bool) → ltb a b ≡ u → eqb a b ≡ v → (u || v) ≡ leb a b
+    go true v h k = sym (le-leb a b (omega (arith, ltb-true)))
+    go false true h k = sym (le-leb a b (omega (arith, eqb-true)))
+    go false false h k = sym (lt-leb a b (omega (arith, ltb-false, eqb-false)))
 
-    back-in : (p q : Bool) → (a ≡ b) ⊎ (a < b) → (a < b → T p) → (a ≡ b → T q) → T (p || (q && true))
-    back-in true q h l e = tt
-    back-in false true h l e = tt
-    back-in false false (inl h) l e = e h
-    back-in false false (inr h) l e = l h
+-- of two that are not negative `le` is one test
+pub one-leb : (a b : ℕ) → (ltb a b || (eqb a b && true)) ≡ leb a b
+one-leb a b = ap (λ (z : Bool). ltb a b || z) (and-true (eqb a b)) ∙ or-leb a b
 
 pub le-positive : (x y : Float) (a c b d : ℕ) → 0 < c → 0 < d → HasValue x false a c → HasValue y false b d → le x y ≡ leb (a * d) (b * c)
-le-positive x y a c b d C D v w = le-values x y false false a c b d C D v w ∙ or-leb (a * d) (b * c)
+le-positive x y a c b d C D v w = le-values x y false false a c b d C D v w ∙ one-leb (a * d) (b * c)
 
 -- ---- a whole number up to 2^24 as a float, and a float against one
 pub ofInt-value : (n : ℕ) → n ≤ 2 ^ 24 → HasValue (ofInt binary32 (pos n)) false n 1

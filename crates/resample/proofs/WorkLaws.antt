@@ -1,11 +1,11 @@
 -- The working sides lie between 1 and the full ones: a fraction of at most n rounds to at most n, so the coefficient is at most 1, side × coefficient at
 -- most the side, and so is that rounded half away.
 use Prim.Native.Nat.{ℕ, zero, suc, max, _+_, _*_, _/_, _^_, _≤_, _<_}
-use mathlib.Core.Path.{_≡_, refl, sym, ap, _∙_, subst}
+use mathlib.Core.Path.{_≡_, refl, sym, ap, subst}
 use mathlib.Core.Bool.{Bool, true, false, true≢false, cond, _&&_, _||_}
 use native.Mathlib.Nat.{le-of-mul-le-mul-right, mul-le-mul-right, mul-le-mul-left, div-lt-iff-lt-mul, mul-pos, le-trans, le-of-eq}
 use native.Mathlib.Omega.{arith}
-use lib.Dec.{T, leb, ltb, eqb, lit≤, le→leb, ltb→lt, eqb→eq, eqb·suc-zero}
+use lib.Dec.{T, leb, ltb, eqb, lit≤, le→leb, leb→le, eqb·suc-zero}
 use lib.Ieee.{Float, nan, inf, fin, binary32, low, up, down, round, units, odd, ofInt, mul, div, le, lt, eq, toUnsigned, inFloat}
 use lib.Ieee.Fits.{round-is, down-pos}
 use lib.Ieee.Exact.{HasValue, odd-sign}
@@ -13,6 +13,7 @@ use lib.Ieee.Order.{round-mono, drop, kept}
 use lib.Ieee.Back.{round-whole, unsigned-back}
 use borrow.Author.Tests.{leb-false, le-leb, lt-leb}
 use Rattle.floats.specs.Stand.{wholeBy, roundOf}
+use Rattle.floats.proofs.ValueLaws.{one-leb}
 use Rattle.float_order.specs.Whole.{whole}
 use Rattle.resample.specs.WorkSize.{scaledSide, workSize, Within, WorkWithin}
 use Rattle.grid.specs.Sides.{InRange}
@@ -48,12 +49,7 @@ plus-round a c = subst Plus (sym (round-is binary32 false a c)) (of-units (kept 
 
 -- a ≤ b from the test that `le` makes of two numbers that are not negative
 of-le : (a b : ℕ) → T (ltb a b || (eqb a b && true)) → a ≤ b
-of-le a b t = go (ltb a b) (eqb a b) (ltb→lt a b) (eqb→eq a b) t
-  where
-    go : (x y : Bool) → (T x → a < b) → (T y → a ≡ b) → T (x || (y && true)) → a ≤ b
-    go true y l e t = let h : a < b = l tt in omega arith
-    go false true l e t = let h : a ≡ b = e tt in omega arith
-    go false false l e t = absurd t
+of-le a b t = leb→le a b (subst T (one-leb a b) t)
 
 below-of-le : (x y : Float) (n : ℕ) → Plus x → HasValue y false n 1 → T (le x y) → Below x n
 unfolding le lt eq
