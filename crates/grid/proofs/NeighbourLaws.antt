@@ -4,11 +4,12 @@ use native.Mathlib.Omega.{arith}
 use native.Mathlib.Decide.{decLt}
 use mathlib.Core.Path.{_≡_, refl, sym, ap, ap₂, _∙_}
 use mathlib.Core.Logic.{_≢_, _⊎_, inl, inr}
-use mathlib.Core.Bool.{Bool, true, false, cond, _&&_, true≢false}
+use mathlib.Core.Bool.{Bool, true, false, cond, _&&_}
 use lib.IntN.{ℤ, pos, negsuc, negℤ, natAbs}
 use lib.ListN.{getD}
 use lib.Dec.{ltb, lit≤}
 use borrow.Author.Tests.{lt-ltb, le-ltb, ltb-true}
+use Rattle.lists.proofs.TestLaws.{clash, not-second}
 use Rattle.grid.specs.Sides.{cellOf, columnOf, rowOf}
 use Rattle.grid.specs.Directions.{dirX, dirY, shiftedOf, neighbourOf, neighbourAt}
 use Rattle.grid.specs.Joined.{Mutual, Apart}
@@ -39,19 +40,6 @@ small-steps =
     each-direction (λ d. (natAbs (stepX d) ≤ 1) × (natAbs (stepY d) ≤ 1)) (lit≤ tt, lit≤ tt) (lit≤ tt, lit≤ tt) (lit≤ tt, lit≤ tt) (lit≤ tt, lit≤ tt)
     (lit≤ tt, lit≤ tt) (lit≤ tt, lit≤ tt) (lit≤ tt, lit≤ tt) (lit≤ tt, lit≤ tt)
 
--- and leads to a place at most one off
-pub close-step : (x : ℕ) (z : ℤ) (side n : ℕ) → natAbs z ≤ 1 → shiftedOf x z side ≡ n → n < side → (x ≤ n + 1) × (n ≤ x + 1)
-close-step x (pos k) side n s e l = go (ltb (x + k) side) e
-  where
-    go : (b : Bool) → cond b (x + k) side ≡ n → (x ≤ n + 1) × (n ≤ x + 1)
-    go true e = (omega arith, omega arith)
-    go false e = absurd (omega arith)
-close-step x (negsuc k) side n s e l = go (ltb k x) refl e
-  where
-    go : (b : Bool) → ltb k x ≡ b → cond b (x - suc k) side ≡ n → (x ≤ n + 1) × (n ≤ x + 1)
-    go true t e = let q : k < x = ltb-true k x t in (omega arith, omega arith)
-    go false t e = absurd (omega arith)
-
 abbrev pub isZero : ℤ → Bool
 isZero (pos zero) = true
 isZero (pos (suc n)) = false
@@ -79,23 +67,27 @@ turns =
 pub shift-ahead : (x k side : ℕ) → x + k < side → shiftedOf x (pos k) side ≡ x + k
 shift-ahead x k side h = rw (lt-ltb (x + k) side h)
 
-shift-behind : (x k side : ℕ) → k < x → shiftedOf x (negsuc k) side ≡ x - suc k
+pub shift-behind : (x k side : ℕ) → k < x → shiftedOf x (negsuc k) side ≡ x - suc k
 shift-behind x k side h = rw (lt-ltb k x h)
 
 held : (b : Bool) (m side n : ℕ) → cond b m side ≡ n → n < side → (b ≡ true) × (m ≡ n)
-held true m side n e l = (refl, e)
-held false m side n e l = absurd (omega arith)
+held b m side n e l = not-second b m side (λ z. omega arith) e
 
 -- and back from where it led
-from-ahead : (x k side n : ℕ) → shiftedOf x (pos k) side ≡ n → n < side → x + k ≡ n
+pub from-ahead : (x k side n : ℕ) → shiftedOf x (pos k) side ≡ n → n < side → x + k ≡ n
 from-ahead x k side n e l = held (ltb (x + k) side) (x + k) side n e l .1
 
-from-behind : (x k side n : ℕ) → shiftedOf x (negsuc k) side ≡ n → n < side → n + suc k ≡ x
+pub from-behind : (x k side n : ℕ) → shiftedOf x (negsuc k) side ≡ n → n < side → n + suc k ≡ x
 from-behind x k side n e l =
     let t = held (ltb k x) (x - suc k) side n e l in
     let u : k < x = ltb-true k x (t .0) in
     let p : x - suc k ≡ n = t .1 in
     omega arith
+
+-- a step of at most one leads to a place at most one off
+pub close-step : (x : ℕ) (z : ℤ) (side n : ℕ) → natAbs z ≤ 1 → shiftedOf x z side ≡ n → n < side → (x ≤ n + 1) × (n ≤ x + 1)
+close-step x (pos k) side n s e l = omega (arith, from-ahead x k side n e l)
+close-step x (negsuc k) side n s e l = omega (arith, from-behind x k side n e l)
 
 shift-back : (x : ℕ) (z : ℤ) (side n : ℕ) → x < side → shiftedOf x z side ≡ n → n < side → shiftedOf n (negℤ z) side ≡ x
 shift-back x (pos zero) side n h e l =
@@ -194,7 +186,7 @@ module _ (w h a d : ℕ) (lo : 1 ≤ d) (hi : d ≤ 8) (l : a < w * h) where
   pub neighbour-apart : a ≢ neighbourAt w h a d
   neighbour-apart e =
       let s = inside-beside w h a a d l (sym e) in
-      true≢false (sym (ap₂ _&&_ (shift-still _ (stepX d) w (s .columns) (s .column)) (shift-still _ (stepY d) h (s .rows) (s .row))) ∙ turns d lo hi .moves)
+      clash (ap₂ _&&_ (shift-still _ (stepX d) w (s .columns) (s .column)) (shift-still _ (stepY d) h (s .rows) (s .row))) (turns d lo hi .moves)
 
 pub adjacent-back : (w h : ℕ) → Mutual w h
 adjacent-back w h a b l s =

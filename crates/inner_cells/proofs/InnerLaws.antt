@@ -8,14 +8,14 @@ use native.Mathlib.Omega.{arith}
 use lib.Dec.{eqb, ltb}
 use lib.IntN.{ℤ, pos, negsuc, natAbs}
 use lib.ListN.{getD}
-use borrow.Author.Tests.{lt-ltb, ltb-true, ltb-false, eqb-false}
+use borrow.Author.Tests.{ltb-true, ltb-false, eqb-false}
 use Rattle.lists.proofs.TableLaws.{getD-tabulate}
 use Rattle.grid.specs.Sides.{cellOf, columnOf, rowOf}
 use Rattle.grid.specs.Base.{borderAt}
 use Rattle.grid.specs.Directions.{shiftedOf, neighbourOf, neighbourAt}
 use Rattle.grid.proofs.SidesLaws.{cell-lt, cell-back, column-cell, row-cell, column-lt, row-lt, cells-bound}
 use Rattle.grid.proofs.BaseLaws.{border-ends}
-use Rattle.grid.proofs.NeighbourLaws.{stepX, stepY, within, shift-ahead, small-steps}
+use Rattle.grid.proofs.NeighbourLaws.{stepX, stepY, within, shift-ahead, shift-behind, small-steps}
 use Rattle.inner_cells.specs.Inner.{Inner, InnerRun, innerOf, offsetOf, offsetsOf}
 
 -- a step of at most one from an inner place stays inside, and goes as far as from place 1
@@ -23,7 +23,7 @@ near : (z : ℤ) (x side : ℕ) → natAbs z ≤ 1 → 1 ≤ x → x + 1 < side 
 near (pos zero) x side s lo hi = let e = shift-ahead x 0 side (omega arith) in omega (arith, e)
 near (pos (suc zero)) x side s lo hi = let e = shift-ahead x 1 side (omega arith) in omega (arith, e)
 near (pos (suc (suc k))) x side s lo hi = absurd (omega arith)
-near (negsuc zero) x side s lo hi = rw (lt-ltb 0 x lo) (omega arith)
+near (negsuc zero) x side s lo hi = let e = shift-behind x 0 side lo in omega (arith, e)
 near (negsuc (suc k)) x side s lo hi = absurd (omega arith)
 
 -- an offset is small

@@ -14,7 +14,7 @@ use Rattle.lists.specs.Loops.{turns}
 use Rattle.grid.specs.Sides.{cellOf}
 use Rattle.grid.specs.Directions.{Place, shiftedOf, neighbourOf, neighbourAt, Adjacent}
 use Rattle.grid.proofs.SidesLaws.{cell-lt, cells-bound}
-use Rattle.grid.proofs.NeighbourLaws.{stepX, stepY, Beside, beside, outside-or-beside, neighbour-cell, small-steps, close-step}
+use Rattle.grid.proofs.NeighbourLaws.{stepX, stepY, Beside, beside, outside-or-beside, neighbour-cell, small-steps, close-step, shift-ahead, shift-behind}
 use Rattle.grid.proofs.ReachLaws.{beside-adjacent}
 use Rattle.lent_receivers.specs.Receivers.{goodReceiver}
 
@@ -96,9 +96,9 @@ step-to : {x side n : ℕ} → x < side → Close x side n → Step x side n
 step-to {x} {side} {n} l k = go (ℕ-discrete (n + 1) x) (ℕ-discrete n x)
   where
     go : Dec (n + 1 ≡ x) → Dec (n ≡ x) → Step x side n
-    go (yes e) d = let q : x - 1 ≡ n = omega arith in back (rw (lt-ltb 0 x (omega arith)) q)
-    go (no e) (yes d) = let q : x + 0 ≡ n = omega arith in stay (rw (lt-ltb (x + 0) side (omega arith)) q) d
-    go (no e) (no d) = let q : x + 1 ≡ n = omega (arith, k .inside, k .least, k .most) in ahead (rw (lt-ltb (x + 1) side (omega (arith, k .inside))) q)
+    go (yes e) d = let q : x - 1 ≡ n = omega arith in back (shift-behind x 0 side (omega arith) ∙ q)
+    go (no e) (yes d) = let q : x + 0 ≡ n = omega arith in stay (shift-ahead x 0 side (omega arith) ∙ q) d
+    go (no e) (no d) = let q : x + 1 ≡ n = omega (arith, k .inside, k .least, k .most) in ahead (shift-ahead x 1 side (omega (arith, k .inside)) ∙ q)
 
 step-from : (x : ℕ) (z : ℤ) (side n : ℕ) → natAbs z ≤ 1 → shiftedOf x z side ≡ n → n < side → Close x side n
 step-from x z side n s e i = let k = close-step x z side n s e i in record { inside = i; least = k .0; most = k .1 }

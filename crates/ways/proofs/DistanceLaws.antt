@@ -1,5 +1,5 @@
 -- The distance from a cell to its receiver is that of the direction which leads there.
-use Prim.Native.Nat.{ℕ, zero, suc, _+_, _-_, _*_, _≤_, _<_}
+use Prim.Native.Nat.{ℕ, zero, suc, _-_, _*_, _≤_, _<_}
 use native.Mathlib.Omega.{arith}
 use mathlib.Core.Path.{_≡_, refl, sym, ap, _∙_}
 use mathlib.Core.Logic.{_≢_, _⊎_, inl, inr}
@@ -7,13 +7,13 @@ use mathlib.Core.Bool.{Bool, true, false, cond}
 use mathlib.Core.List.{List}
 use lib.IntN.{ℤ, pos, negsuc}
 use lib.ListN.{getD}
-use lib.Dec.{eqb, ltb}
+use lib.Dec.{eqb}
 use lib.Ieee.{Float, nan, binary32, ofBits}
-use borrow.Author.Tests.{eq-eqb, ne-eqb, eqb-true, eqb-false, ltb-true}
+use borrow.Author.Tests.{eq-eqb, ne-eqb, eqb-true, eqb-false}
 use Rattle.lists.specs.Loops.{turns}
 use Rattle.grid.specs.Sides.{columnOf, rowOf}
 use Rattle.grid.specs.Directions.{shiftedOf, neighbourAt, Adjacent}
-use Rattle.grid.proofs.NeighbourLaws.{stepX, stepY, each-direction, Beside, inside-beside, neighbour-apart, isZero}
+use Rattle.grid.proofs.NeighbourLaws.{stepX, stepY, each-direction, from-ahead, from-behind, Beside, inside-beside, neighbour-apart, isZero}
 use Rattle.drainage.specs.Ground.{gridGround, distances}
 use Rattle.drainage.specs.Receivers.{directionTo, distanceTo}
 use Rattle.ways.specs.Apart.{apart}
@@ -50,21 +50,9 @@ by-steps =
 
 -- a step keeps a place exactly if it is 0
 kept : (x : ℕ) (z : ℤ) (side n : ℕ) → shiftedOf x z side ≡ n → n < side → eqb x n ≡ isZero z
-kept x (pos zero) side n e l = go (ltb (x + 0) side) e
-  where
-    go : (b : Bool) → cond b (x + 0) side ≡ n → eqb x n ≡ true
-    go true e = eq-eqb x n (omega arith)
-    go false e = absurd (omega arith)
-kept x (pos (suc k)) side n e l = go (ltb (x + suc k) side) e
-  where
-    go : (b : Bool) → cond b (x + suc k) side ≡ n → eqb x n ≡ false
-    go true e = ne-eqb x n (λ q. omega arith)
-    go false e = absurd (omega arith)
-kept x (negsuc k) side n e l = go (ltb k x) refl e
-  where
-    go : (b : Bool) → ltb k x ≡ b → cond b (x - suc k) side ≡ n → eqb x n ≡ false
-    go true t e = let m : k < x = ltb-true k x t in ne-eqb x n (λ q. omega arith)
-    go false t e = absurd (omega arith)
+kept x (pos zero) side n e l = eq-eqb x n (omega (arith, from-ahead x 0 side n e l))
+kept x (pos (suc k)) side n e l = ne-eqb x n (λ q. omega (arith, from-ahead x (suc k) side n e l))
+kept x (negsuc k) side n e l = ne-eqb x n (λ q. omega (arith, from-behind x k side n e l))
 
 module _ (w h : ℕ) (water : Float) (hs : List Float) (c : ℕ) (l : c < w * h) where
   own-distance : distanceTo (gridGround w h water hs) c c ≡ apart w c c
