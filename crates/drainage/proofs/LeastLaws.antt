@@ -4,15 +4,15 @@ use mathlib.Core.Path.{_≡_, refl}
 use mathlib.Core.Bool.{Bool, true, false, not, _&&_, _||_, cond}
 use mathlib.Core.Logic.{inl, inr}
 use mathlib.Core.List.{List}
-use native.Mathlib.Nat.{eq-or-lt-of-le}
+use native.Mathlib.Nat.{eq-or-lt-of-le, le-antisymm}
 use native.Mathlib.Omega.{arith}
 use borrow.Author.Tests.{ltb-true, ltb-false}
 use lib.Dec.{ltb}
 use Rattle.lists.proofs.TestLaws.{clash}
+use Rattle.lists.proofs.LoopLaws.{below-suc}
 use Rattle.lists.specs.Loops.{turns}
 use Rattle.drainage.specs.Ground.{Ground, Kind}
 use Rattle.drainage.specs.Flood.{Flood, place, waits, leastWaiting}
-use Rattle.drainage.proofs.TallyLaws.{below-suc}
 
 -- after i turns of a scan over n cells, `best` is the waiting cell below i with the least place, or n
 pub record Least (n : ℕ) (waits : ℕ → Bool) (place : ℕ → ℕ) (i best : ℕ) : Type 0 where
@@ -84,14 +84,11 @@ module _ (n : ℕ) (waits : ℕ → Bool) (place : ℕ → ℕ) where
       → ((b : ℕ) → b < n → waits b ≡ true → place c ≤ place b) → turns n taken n ≡ c
   least-is apart c l w low = elim (eq-or-lt-of-le (found .bound)) [
     | inl e ↦ absurd (found .nobody (omega arith) c l w)
-    | inr m ↦ apart (turns n taken n) c m l (antisym (found .least m c l w) (low (turns n taken n) m (found .one-waits m)))
+    | inr m ↦ apart (turns n taken n) c m l (le-antisymm (found .least m c l w) (low (turns n taken n) m (found .one-waits m)))
   ]
     where
       found : Least n waits place n (turns n taken n)
       found = least-found
-
-      antisym : {a b : ℕ} → a ≤ b → b ≤ a → a ≡ b
-      antisym h k = omega arith
 
   -- where nobody waits, it finds n
   pub least-nobody : ((c : ℕ) → c < n → waits c ≡ true → ⊥) → turns n taken n ≡ n

@@ -8,7 +8,10 @@ use native.Mathlib.Nat.{eq-or-lt-of-le, le-of-suc-le-suc}
 use native.Mathlib.Decide.{ℕ-discrete, decLt}
 use native.Mathlib.Omega.{arith}
 use lib.Dec.{eqb}
+use lib.ListN.{length, getD, take}
+use lib.Seq.{take-suc}
 use borrow.Author.Tests.{eq-eqb, ne-eqb}
+use Rattle.lists.proofs.LoopLaws.{below-suc}
 use Rattle.drainage.specs.Ways.{one, times, countBelow}
 use Rattle.drainage.proofs.CountLaws.{bit-le, bit, count-same, count-le, count-or, times-append}
 
@@ -17,10 +20,6 @@ same-or-not a b = elim (ℕ-discrete a b) [ yes e ↦ inl e | no d ↦ inr d ]
 
 pub lower-or-not : (a b : ℕ) → (a < b) ⊎ (b ≤ a)
 lower-or-not a b = elim (decLt a b) [ yes l ↦ inl l | no n ↦ inr (omega arith) ]
-
--- what holds of every cell below i and of cell i
-pub below-suc : (P : ℕ → Type 0) (i : ℕ) → ((c : ℕ) → c < i → P c) → P i → (c : ℕ) → c < suc i → P c
-below-suc P i h p c l = elim (eq-or-lt-of-le (le-of-suc-le-suc l)) [ inl e ↦ subst P (sym e) p | inr m ↦ h c m ]
 
 -- counting up to n
 pub up-to : (P : ℕ → Type 0) (n : ℕ) → P 0 → ((i : ℕ) → i < n → P i → P (suc i)) → (i : ℕ) → i ≤ n → P i
@@ -101,6 +100,10 @@ module _ (p : ℕ → Bool) where
 pub times-last : (c a : ℕ) (l : List ℕ) → times c (l ++ (a ∷ [])) ≡ times c l + one a c
 unfolding times
 times-last c a l = times-append c l (a ∷ []) ∙ omega arith
+
+-- among the first entries, with one entry more
+pub times-more : (c i : ℕ) (l : List ℕ) → i < length l → times c (take (suc i) l) ≡ times c (take i l) + one (getD l i 0) c
+times-more c i l h = ap (times c) (take-suc l i 0 h) ∙ times-last c (getD l i 0) (take i l)
 
 -- a list with one cell more, split at a cell: at that last one, or earlier
 pub record Earlier (l before : List ℕ) (c : ℕ) : Type 0 where

@@ -2,7 +2,7 @@
 use Prim.Native.Nat.{ℕ, zero, suc, _+_, min, _≤_, _<_}
 use native.Mathlib.Omega.{arith}
 use native.Mathlib.Numerals.{add-one}
-use native.Mathlib.Decide.{decLt, ℕ-discrete}
+use native.Mathlib.Decide.{ℕ-discrete}
 use mathlib.Core.Path.{_≡_, refl, sym, _∙_, ap, ap₂}
 use mathlib.Core.Bool.{Bool, true, false, cond, _&&_, and-assoc, and-true}
 use mathlib.Core.List.{List, [], _∷_, _++_}
@@ -14,6 +14,7 @@ use lib.Ieee.Scale.{finite}
 use borrow.Author.Tests.{eq-eqb, ne-eqb, eqb-true, eqb-false}
 use lib.Arith.{lt-of-le-ne}
 use Rattle.lists.specs.Loops.{tabulate}
+use Rattle.lists.proofs.LoopLaws.{at-end, below-suc}
 use Rattle.lists.proofs.TableLaws.{tabulate-getD}
 use Rattle.grid.specs.Heights.{firstNotFinite, allFinite, FiniteBelow, FirstBad}
 
@@ -24,13 +25,7 @@ pub below-less : {hs : List Float} {n m : ℕ} → m ≤ n → FiniteBelow hs n 
 below-less h p = record { each = λ i l. p .each i (omega arith) }
 
 pub below-more : {hs : List Float} {n m : ℕ} → m ≤ suc n → FiniteBelow hs n → finite (getD hs n nan) ≡ true → FiniteBelow hs m
-below-more {hs} {n} {m} h p e = record { each = λ i l. go i l (decLt i n) }
-  where
-    go : (i : ℕ) → i < m → Dec (i < n) → finite (getD hs i nan) ≡ true
-    go i l (yes q) = p .each i q
-    go i l (no q) =
-        let same : i ≡ n = omega arith in
-        ap (λ (k : ℕ). finite (getD hs k nan)) same ∙ e
+below-more {hs} {n} h p e = record { each = λ i l. below-suc (λ k. finite (getD hs k nan) ≡ true) n (p .each) e i (omega arith) }
 
 pub below-cons : {x : Float} {xs : List Float} {n : ℕ} → finite x ≡ true → FiniteBelow xs n → FiniteBelow (x ∷ xs) (suc n)
 below-cons {x} {xs} {n} e p = record { each = go }
@@ -189,6 +184,4 @@ all-more f i e g =
     all-one x = all-cons x [] ∙ and-true (finite x)
 
 pub all-done : (hs : List Float) (i : ℕ) {good : Bool} → good ≡ allFinite (tabulate i (λ k. getD hs k nan)) → i ≤ length hs → length hs ≤ i → good ≡ allFinite hs
-all-done hs i e a b =
-    let all : i ≡ length hs = omega arith in
-    e ∙ ap (λ (n : ℕ). allFinite (tabulate n (λ k. getD hs k nan))) all ∙ ap allFinite (tabulate-getD hs nan)
+all-done hs i e a b = at-end (λ (n : ℕ). allFinite (tabulate n (λ k. getD hs k nan))) e a b ∙ ap allFinite (tabulate-getD hs nan)

@@ -9,6 +9,7 @@ use lib.Dec.{eqb}
 use lib.Arith.{digits-lt}
 use borrow.Author.Tests.{eqb-true, eqb-false}
 use Rattle.lists.proofs.TestLaws.{clash}
+use Rattle.lists.proofs.LoopLaws.{below-suc}
 use Rattle.lists.specs.Firsts.{firstFailing, First}
 
 -- one number more is tested
@@ -18,8 +19,7 @@ more {p} {n} {f} s = go (eqb f n) refl (p n) refl
     go : (b : Bool) → eqb f n ≡ b → (t : Bool) → p n ≡ t → First (suc n) p (cond b (cond t (suc n) n) f)
     go true e true h =
         let q : f ≡ n = eqb-true f n e in
-        let at : (i : ℕ) → i < suc n → Dec (i < n) → p i ≡ true = λ i l. elim [ yes k ↦ s .earlier i (omega arith) | no k ↦ let same : i ≡ n = omega arith in ap p same ∙ h ] in
-        record { bound = omega arith; earlier = λ i l. at i l (decLt i n); fails = λ l. absurd (omega arith) }
+        record { bound = omega arith; earlier = below-suc (λ i. p i ≡ true) n (λ i l. s .earlier i (omega arith)) h; fails = λ l. absurd (omega arith) }
     go true e false h =
         let q : f ≡ n = eqb-true f n e in
         record { bound = omega arith; earlier = λ i l. s .earlier i (omega arith); fails = λ l. h }

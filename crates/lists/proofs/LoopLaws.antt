@@ -1,8 +1,9 @@
 -- A counting loop by the state that its turns make: at the start, after one turn more and at the end. And a loop that tests all numbers below n.
 use Prim.Native.Nat.{ℕ, zero, suc, _+_, _≤_, _<_}
 use native.Mathlib.Omega.{arith}
-use native.Mathlib.Decide.{ℕ-discrete}
-use mathlib.Core.Path.{_≡_, sym, ap, _∙_}
+use native.Mathlib.Nat.{eq-or-lt-of-le, le-of-suc-le-suc}
+use mathlib.Core.Path.{_≡_, sym, ap, _∙_, subst}
+use mathlib.Core.Logic.{inl, inr}
 use mathlib.Core.Bool.{Bool, true, _&&_}
 use Rattle.lists.specs.Loops.{turns}
 use Rattle.lists.proofs.TestLaws.{both}
@@ -11,6 +12,10 @@ use Rattle.lists.proofs.TurnLaws.{turns-none, turns-more}
 -- a value that i turns make is that of all n turns once i has come to n
 pub at-end : {A : Type 0} (f : ℕ → A) {x : A} {i n : ℕ} → x ≡ f i → i ≤ n → n ≤ i → x ≡ f n
 at-end f {i = i} {n} e a b = let same : i ≡ n = omega arith in e ∙ ap f same
+
+-- what holds of every number below n and of n
+pub below-suc : (P : ℕ → Type 0) (n : ℕ) → ((i : ℕ) → i < n → P i) → P n → (i : ℕ) → i < suc n → P i
+below-suc P n h p i l = elim (eq-or-lt-of-le (le-of-suc-le-suc l)) [ inl e ↦ subst P (sym e) p | inr m ↦ h i m ]
 
 -- s is the state after i of n turns of f
 pub record Turning {S : Type 0} (f : ℕ → S → S) (n i : ℕ) (start s : S) : Type 0 where
@@ -33,8 +38,4 @@ unfolding turns
 all-pass zero f e i l = absurd (omega arith)
 all-pass (suc n) f e i l =
     let parts = both (turns n (λ i good. good && f i) true) (f n) e in
-    go (ℕ-discrete i n) (parts .1) (all-pass n f (parts .0) i)
-  where
-    go : Dec (i ≡ n) → f n ≡ true → (i < n → f i ≡ true) → f i ≡ true
-    go (yes q) s h = ap f q ∙ s
-    go (no q) s h = h (omega arith)
+    below-suc (λ i. f i ≡ true) n (all-pass n f (parts .0)) (parts .1) i l
