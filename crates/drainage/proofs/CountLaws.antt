@@ -3,6 +3,7 @@ use Prim.Native.Nat.{ℕ, zero, suc, _+_, _≤_, _<_}
 use mathlib.Core.Path.{_≡_, refl, sym, ap, ap₂, _∙_, subst}
 use mathlib.Core.Bool.{Bool, true, false, _&&_, _||_, cond}
 use mathlib.Core.List.{List, [], _∷_, _++_}
+use native.Mathlib.Numerals.{one-add}
 use native.Mathlib.Omega.{arith}
 use lib.Dec.{eqb}
 use borrow.Author.Tests.{eq-eqb, ne-eqb, eqb-true, eqb-false}
@@ -103,8 +104,11 @@ sum-on (suc m) p x f h e = go (λ l. sum-on m p x f l e) (eqb x m) refl
         let none : cond (p m) (bit (eqb x m) + f m) 0 ≡ cond (p m) (f m) 0 = let z : bit (eqb x m) + f m ≡ f m = omega (arith, ap bit t) in ap (λ (k : ℕ). cond (p m) k 0) z in
         omega (arith, none, ih (omega (arith, other)))
 
-pub one-more : (k : ℕ) → 1 + k ≡ suc k
-one-more k = omega arith
+-- numbers of at most 1 each
+pub sum-bound : (n : ℕ) (f : ℕ → ℕ) → ((c : ℕ) → c < n → f c ≤ 1) → sumBelow n (λ c. true) f ≤ n
+unfolding sumBelow
+sum-bound zero f h = omega arith
+sum-bound (suc n) f h = omega (arith, h n (omega arith), sum-bound n f (λ c l. h c (omega arith)))
 
 -- numbers f 0 … f (k - 1) below m that p holds of, counted by their value: k in all
 pub sum-of-counts : (m : ℕ) (p : ℕ → Bool) (k : ℕ) (f : ℕ → ℕ) → ((j : ℕ) → j < k → f j < m) → ((j : ℕ) → j < k → p (f j) ≡ true)
@@ -114,7 +118,7 @@ sum-of-counts m p zero f below held = sum-zero m p
 sum-of-counts m p (suc k) f below held =
     sum-on m p (f k) (λ c. countBelow k (λ j. eqb (f j) c)) (below k (omega arith)) (held k (omega arith))
     ∙ ap (λ (x : ℕ). 1 + x) (sum-of-counts m p k f (λ j l. below j (omega arith)) (λ j l. held j (omega arith)))
-    ∙ one-more k
+    ∙ one-add k
 
 -- ---- how often a cell stands in a list
 pub times-append : (c : ℕ) (s t : List ℕ) → times c (s ++ t) ≡ times c s + times c t

@@ -5,12 +5,13 @@ use mathlib.Core.Logic.{_⊎_, inl, inr}
 use mathlib.Core.Bool.{Bool, true, false}
 use mathlib.Core.List.{List, [], _∷_, _++_}
 use native.Mathlib.Nat.{lt-of-not-le}
+use native.Mathlib.Numerals.{one-add}
 use native.Mathlib.Omega.{arith}
 use lib.Dec.{eqb}
 use lib.ListN.{length, getD}
 use borrow.Author.Tests.{eqb-true, eqb-false}
 use Rattle.drainage.specs.Ways.{times, WorkList, sumBelow}
-use Rattle.drainage.proofs.CountLaws.{bit, sum-same, sum-on, sum-zero, times-append, times-here, one-more}
+use Rattle.drainage.proofs.CountLaws.{bit, sum-same, sum-on, sum-zero, times-append, times-here}
 use Rattle.drainage.proofs.TrailLaws.{Downstream}
 
 -- where a cell stands in a list
@@ -41,7 +42,7 @@ length-is n [] below = sum-zero n (λ c. true)
 length-is n (a ∷ l) below =
     sum-on n (λ c. true) a (λ c. times c l) (below a (omega (arith, times-here a l))) refl
     ∙ ap (λ (x : ℕ). 1 + x) (length-is n l (λ c p. below c (omega (arith, times-tail c a l))))
-    ∙ one-more (length l)
+    ∙ one-add (length l)
 
 sum-ones : (n : ℕ) → sumBelow n (λ c. true) (λ c. 1) ≡ n
 unfolding sumBelow
