@@ -23,10 +23,11 @@ use Rattle.grid.proofs.ReachLaws.{spreads}
 use Rattle.grid.proofs.BaseLaws.{base-first}
 use Rattle.grid.proofs.HeightsLaws.{all-at}
 use Rattle.drainage.specs.Ground.{Ground, floats, gridGround}
-use Rattle.drainage.specs.Flood.{floodAfter}
+use Rattle.drainage.specs.Flood.{floodAfter, flooded}
 use Rattle.drainage.specs.Chains.{Near}
 use Rattle.drainage.specs.Theorems.{Joined, Numbers}
 use Rattle.drainage.specs.Grids.{Height, GridNetworks}
+use Rattle.drainage.proofs.StateLaws.{Stands, floodAfter-stands, flooded-left}
 use Rattle.drainage.proofs.FloodLaws.{Stage, floodAfter-stage}
 use Rattle.drainage.proofs.NetworkLaws.{network}
 
@@ -35,7 +36,7 @@ module _ (w h : ℕ) (base : ℕ → Bool) (distance : ℕ → Float) where
   abbrev pub onGrid : Ground
   onGrid = record { cells = w * h; near = neighbourAt w h; base = base; distance = distance }
 
-  to-adjacent : {c m : ℕ} → Near onGrid c m → Adjacent w h c m
+  pub to-adjacent : {c m : ℕ} → Near onGrid c m → Adjacent w h c m
   to-adjacent n = record { direction = n .direction; first = n .first; last = n .last; inside = n .inside; leads = n .leads }
 
   to-near : {c m : ℕ} → Adjacent w h c m → Near onGrid c m
@@ -76,10 +77,19 @@ pub grid-networks : GridNetworks
 grid-networks w h water hs r e fit all =
     network floats (gridGround w h water hs) hs Height rank (gridGround-joined w h water hs r) finite-numbers e (grid-heights (w * h) hs e fit all)
 
--- every state of an accepted routing
-pub grid-stage :
-    (w h : ℕ) (water : Float) (hs : List Float) → InRange w h → length hs ≡ w * h → Fit hs → allFinite hs ≡ true → (i : ℕ) → i ≤ w * h
-    → Stage floats (gridGround w h water hs) hs Height i (floodAfter floats (gridGround w h water hs) hs i)
-grid-stage w h water hs r e fit all =
-    floodAfter-stage floats (gridGround w h water hs) hs Height rank (gridGround-joined w h water hs r) finite-numbers e
-    (grid-heights (w * h) hs e fit all)
+-- every state of an accepted routing, and the last
+module _ (w h : ℕ) (water : Float) (hs : List Float) (r : InRange w h) (e : length hs ≡ w * h) (fit : Fit hs) (all : allFinite hs ≡ true) where
+  pub grid-stands : (i : ℕ) → i ≤ w * h → Stands floats (gridGround w h water hs) hs Height rank i (floodAfter floats (gridGround w h water hs) hs i)
+  grid-stands =
+      floodAfter-stands floats (gridGround w h water hs) hs Height rank (gridGround-joined w h water hs r) finite-numbers e
+      (grid-heights (w * h) hs e fit all)
+
+  pub grid-stage : (i : ℕ) → i ≤ w * h → Stage floats (gridGround w h water hs) hs Height i (floodAfter floats (gridGround w h water hs) hs i)
+  grid-stage =
+      floodAfter-stage floats (gridGround w h water hs) hs Height rank (gridGround-joined w h water hs r) finite-numbers e
+      (grid-heights (w * h) hs e fit all)
+
+  pub grid-left : (c : ℕ) → c < w * h → getD (flooded floats (gridGround w h water hs) hs .status) c 0 ≡ 2
+  grid-left =
+      flooded-left floats (gridGround w h water hs) hs Height rank (gridGround-joined w h water hs r) finite-numbers e
+      (grid-heights (w * h) hs e fit all)

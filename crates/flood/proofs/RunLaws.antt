@@ -13,7 +13,7 @@ use lib.Dec.{eqb, ltb}
 use lib.Ieee.{Float, nan}
 use borrow.Author.Tests.{eq-eqb, ne-eqb, eqb-true, lt-ltb, le-ltb}
 use Rattle.float_order.specs.Fit.{Fit}
-use Rattle.float_order.specs.Order.{rank}
+use Rattle.lists.proofs.LoopLaws.{at-end}
 use Rattle.grid.proofs.SidesLaws.{cells-bound}
 use Rattle.drainage.specs.Ground.{floats, gridGround}
 use Rattle.drainage.specs.Grids.{Height}
@@ -21,8 +21,7 @@ use Rattle.drainage.specs.Flood.{Flood, leastWaiting, step, floodAfter, flooded
 use Rattle.drainage.specs.Ways.{countBelow}
 use Rattle.drainage.proofs.TallyLaws.{count-more, count-apart}
 use Rattle.drainage.proofs.FloodLaws.{step-leaves, leastWaiting-is, leastWaiting-found, floodAfter-none, floodAfter-more}
-use Rattle.drainage.proofs.StateLaws.{Stands, floodAfter-stands}
-use Rattle.drainage.proofs.GroundLaws.{grid-stage, grid-heights, gridGround-joined, finite-numbers}
+use Rattle.drainage.proofs.GroundLaws.{grid-stage, grid-stands, grid-heights}
 use Rattle.scan_queue.specs.declared.Scan.{Scan}
 use Rattle.flood_start.specs.Slices.{stateOf, Started}
 use Rattle.flood.specs.Slices.{Accepted, Flooded}
@@ -89,12 +88,8 @@ module _ (w h : ℕ) (water : Float) (hs : List Float) where
     -- as many cells have left as stand in the order
     left-count : Fit hs → i ≤ w * h → countBelow (w * h) (λ c. eqb (getD status c 0) 2) ≡ i
     left-count fit l =
+        let stands = grid-stands w h water hs (a .sides) (a .cells) fit (a .finites) i l in
         ap (λ (t : Flood Float). countBelow (w * h) (λ c. eqb (getD (t .status) c 0) 2)) (r .state) ∙ stands .holds .flooding .count ∙ stands .left
-      where
-        stands : Stands floats (gridGround w h water hs) hs Height rank i (floodAfter floats (gridGround w h water hs) hs i)
-        stands =
-            floodAfter-stands floats (gridGround w h water hs) hs Height rank (gridGround-joined w h water hs (a .sides)) finite-numbers (a .cells)
-            (grid-heights (w * h) hs (a .cells) fit (a .finites)) i l
 
     module _ (fit : Fit hs) (l : i < w * h) (t : Scan) (status′ queue′ : List ℕ) (turned : Turned hs order (s .head) status spill t status′ queue′)
         (sized : length status ≡ w * h) where
@@ -121,16 +116,13 @@ module _ (w h : ℕ) (water : Float) (hs : List Float) where
               arith,
               left-count fit (omega arith),
               count-more (λ b. eqb (getD status b 0) 2) (λ b. eqb (getD status′ b 0) 2) (w * h) c inside
-                  (ne-eqb (getD status c 0) 2 (λ z. unlike (v .waited) z)) (eq-eqb (getD status′ c 0) 2 left-now) (λ b d. ap (λ z. eqb z 2) (sym (other b d))),
+                  (ne-eqb (getD status c 0) 2 (λ z. omega (arith, v .waited))) (eq-eqb (getD status′ c 0) 2 left-now) (λ b d. ap (λ z. eqb z 2) (sym (other b d))),
               count-apart (λ b. eqb (getD status′ b 0) 2) (atLimit hs (t .limit)) (w * h)
                   (λ b k e. under-limit hs (t .limit) b (turned .queued .gone b (eqb-true (getD status′ b 0) 2 e))),
               ap (λ n. t .head + countBelow n (atLimit hs (t .limit))) (sym (a .cells)),
               turned .listed .many,
               a .cells,
             )
-          where
-            unlike : {x : ℕ} → x ≡ 1 → x ≡ 2 → ⊥
-            unlike p q = omega arith
 
         pub leaver : length order ≡ w * h → Leaver hs (t .limit) c i status′ spill order
         leaver n = record {
@@ -217,8 +209,5 @@ module _ (w h : ℕ) (water : Float) (hs : List Float) where
       raised = ap (λ (s : Flood Float). s .spill) whole;
     }
       where
-        all : i ≡ w * h
-        all = omega arith
-
         whole : now-state ≡ flooded floats (gridGround w h water hs) hs
-        whole = r .state ∙ ap (floodAfter floats (gridGround w h water hs) hs) all
+        whole = at-end (floodAfter floats (gridGround w h water hs) hs) (r .state) lo hi

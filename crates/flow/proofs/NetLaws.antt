@@ -2,7 +2,7 @@
 use Prim.Native.Nat.{ℕ, _*_, _<_}
 use mathlib.Core.Path.{_≡_, refl, sym, ap₂, _∙_, subst}
 use mathlib.Core.Bool.{Bool, true, false}
-use mathlib.Core.Logic.{_≢_, _⊎_, inl, inr}
+use mathlib.Core.Logic.{_⊎_, inl, inr}
 use mathlib.Core.List.{List}
 use native.Mathlib.Omega.{arith}
 use lib.ListN.{length, getD, take}
@@ -16,16 +16,16 @@ use Rattle.drainage.specs.Ground.{Ground, floats, gridGround}
 use Rattle.drainage.specs.Flood.{flooded}
 use Rattle.drainage.specs.Receivers.{receivers}
 use Rattle.drainage.specs.Ways.{WorkList, areasAlong}
-use Rattle.drainage.specs.Chains as chains
 use Rattle.drainage.specs.Theorems.{Network}
 use Rattle.drainage.specs.Grids.{Height}
 use Rattle.drainage.proofs.TallyLaws.{same-or-not}
 use Rattle.drainage.proofs.InvariantLaws.{Flooding}
-use Rattle.drainage.proofs.StateLaws.{Stands, floodAfter-stands, flooded-left, heightOf, viewOf}
-use Rattle.drainage.proofs.GroundLaws.{gridGround-joined, finite-numbers, grid-heights, grid-networks}
+use Rattle.drainage.proofs.StateLaws.{Stands, heightOf, viewOf}
+use Rattle.drainage.proofs.GroundLaws.{to-adjacent, grid-networks, grid-stands, grid-left}
 use Rattle.flood_start.specs.Slices.{Sizes}
 use Rattle.flood.specs.Slices.{Accepted, Flooded}
 use Rattle.network.specs.Passes.{Finders}
+use Rattle.network.proofs.ReceiverLaws.{near-inside}
 use Rattle.steps.specs.Step.{Near, Steps}
 use Rattle.steps.proofs.PlaceLaws.{near-of}
 use Rattle.flow.specs.Route.{floodOf, orderOf, receiversOf, lentOf, Enough, Holding}
@@ -34,18 +34,8 @@ module _ (w h : ℕ) (hs : List Float) (water : Float) (a : Accepted w h hs) (fi
   abbrev ground : Ground
   ground = gridGround w h water hs
 
-  adjacent : {c r : ℕ} → chains.Near ground c r → Adjacent w h c r
-  adjacent n = record { direction = n .direction; first = n .first; last = n .last; inside = n .inside; leads = n .leads }
-
   stands : Stands floats ground hs Height rank (w * h) (flooded floats ground hs)
-  stands =
-      floodAfter-stands floats ground hs Height rank (gridGround-joined w h water hs (a .sides)) finite-numbers (a .cells)
-      (grid-heights (w * h) hs (a .cells) fit (a .finites)) (w * h) (omega arith)
-
-  left : (c : ℕ) → c < w * h → getD (flooded floats ground hs .status) c 0 ≡ 2
-  left =
-      flooded-left floats ground hs Height rank (gridGround-joined w h water hs (a .sides)) finite-numbers (a .cells)
-      (grid-heights (w * h) hs (a .cells) fit (a .finites))
+  stands = grid-stands w h water hs (a .sides) (a .cells) fit (a .finites) (w * h) (omega arith)
 
   finder-near : (c : ℕ) → c < w * h → (getD (floodOf w h hs water .finder) c 0 ≡ c → ⊥) → Adjacent w h c (getD (floodOf w h hs water .finder) c 0)
   finder-near c l d = go (ground .base c) refl
@@ -55,7 +45,7 @@ module _ (w h : ℕ) (hs : List Float) (water : Float) (a : Accepted w h hs) (fi
 
       go : (b : Bool) → ground .base c ≡ b → Adjacent w h c (getD (floodOf w h hs water .finder) c 0)
       go true e = absurd (d (flooding .base-finder c l e))
-      go false e = adjacent (flooding .found c l (omega (arith, left c l)) e .near)
+      go false e = to-adjacent w h _ _ (flooding .found c l (omega (arith, grid-left w h water hs (a .sides) (a .cells) fit (a .finites) c l)) e .near)
 
   pub finders : (recv : List ℕ) → recv ≡ floodOf w h hs water .finder → Finders w h recv
   finders recv e = record { near = λ c l. subst (λ t. (getD t c 0 ≡ c → ⊥) → Adjacent w h c (getD t c 0)) (sym e) (finder-near c l) }
@@ -63,7 +53,14 @@ module _ (w h : ℕ) (hs : List Float) (water : Float) (a : Accepted w h hs) (fi
   net : Network floats ground hs rank
   net = grid-networks w h water hs (a .sides) (a .cells) fit (a .finites)
 
-  -- receivers are the cells themselves or neighbours, and the order is a work list of them
+  -- receivers are the cells themselves or neighbours
+  pub receiver-near : (c : ℕ) → c < w * h → (getD (receiversOf w h hs water) c 0 ≡ c) ⊎ Adjacent w h c (getD (receiversOf w h hs water) c 0)
+  receiver-near c l = elim (same-or-not (getD (receiversOf w h hs water) c 0) c) [
+    | inl own ↦ inl own
+    | inr other ↦ inr (to-adjacent w h _ _ (net .adjacent c l other))
+  ]
+
+  -- and the order is a work list of them
   pub downward :
       (n : ℕ) (recv order : List ℕ) → n ≡ w * h → length recv ≡ w * h → recv ≡ receiversOf w h hs water → order ≡ orderOf w h hs water → Steps w n recv × WorkList n recv order
   downward n recv order m long e f = (
@@ -71,19 +68,11 @@ module _ (w h : ℕ) (hs : List Float) (water : Float) (a : Accepted w h hs) (fi
       wide = a .sides .wide;
       few = omega (arith, cells-bound w h (a .sides .wide) (a .sides .high));
       receivers = omega arith;
-      inside = λ c l. subst (λ (t : List ℕ). getD t c 0 < n) (sym e) (below c (omega arith) (same-or-not (getD (receiversOf w h hs water) c 0) c));
-      near = λ c l. subst (λ (t : List ℕ). Near w c (getD t c 0)) (sym e) (beside c (omega arith) (same-or-not (getD (receiversOf w h hs water) c 0) c));
+      inside = λ c l. subst (λ (t : List ℕ). getD t c 0 < n) (sym e) (rw m (near-inside w h c _ (omega arith) (receiver-near c (omega arith))));
+      near = λ c l. subst (λ (t : List ℕ). Near w c (getD t c 0)) (sym e) (near-of (a .sides .columns) (a .sides .wide) (receiver-near c (omega arith)));
     },
     rw (m, e, f) (net .work-list),
   )
-    where
-      below : (c : ℕ) → c < w * h → (getD (receiversOf w h hs water) c 0 ≡ c) ⊎ (getD (receiversOf w h hs water) c 0 ≢ c) → getD (receiversOf w h hs water) c 0 < n
-      below c l (inl z) = omega arith
-      below c l (inr z) = omega (arith, net .adjacent c l z .inside)
-
-      beside : (c : ℕ) → c < w * h → (getD (receiversOf w h hs water) c 0 ≡ c) ⊎ (getD (receiversOf w h hs water) c 0 ≢ c) → Near w c (getD (receiversOf w h hs water) c 0)
-      beside c l (inl z) = near-of {h = h} (a .sides .columns) (a .sides .wide) (inl z)
-      beside c l (inr z) = near-of (a .sides .columns) (a .sides .wide) (inr (adjacent (net .adjacent c l z)))
 
 -- the sizes that the flood asks for, with as many statuses as cells
 pub sizes-of :

@@ -7,22 +7,18 @@ use mathlib.Core.List.{List}
 use native.Mathlib.Omega.{arith}
 use lib.ListN.{length, getD}
 use lib.Ieee.{Float}
-use Rattle.float_order.specs.Order.{rank}
 use Rattle.float_order.specs.Fit.{Fit}
 use Rattle.grid.specs.Heights.{allFinite}
 use Rattle.generators.specs.Marks.{reportOf}
 use Rattle.generators.specs.declared.Progress.{Progress}
-use Rattle.drainage.specs.Ground.{floats, gridGround}
+use Rattle.drainage.specs.Ground.{gridGround}
 use Rattle.drainage.specs.Ways.{areasAlong}
-use Rattle.drainage.specs.Theorems.{Network}
-use Rattle.drainage.proofs.TallyLaws.{same-or-not}
-use Rattle.drainage.proofs.GroundLaws.{grid-networks}
 use Rattle.steps.proofs.PlaceLaws.{along-of}
 use Rattle.lent_receivers.specs.Receivers.{goodReceiver}
 use Rattle.lent_receivers.proofs.ReceiverLaws.{good-own, good-near}
 use Rattle.flood.specs.Slices.{Accepted}
 use Rattle.flow.specs.Route.{receiversOf, Holding}
-use Rattle.flow.proofs.NetLaws.{downward}
+use Rattle.flow.proofs.NetLaws.{receiver-near, downward}
 use Rattle.fluvial_erosion.specs.Incision.{inciseAlong, incisedBy}
 use Rattle.fluvial_erosion.specs.Along.{Drains}
 use Rattle.fluvial_erosion.specs.declared.FluvialParams.{FluvialParams}
@@ -33,15 +29,10 @@ use Rattle.erosion.proofs.ReachedLaws.{worked, made-stopped, made-done, made-of
 use Rattle.incision_step.specs.Opening.{cutOf, Carves, afterOpening}
 
 module _ (w h : ℕ) (hs : List Float) (water : Float) (a : Accepted w h hs) (fit : Fit hs) where
-  net : Network floats (gridGround w h water hs) hs rank
-  net = grid-networks w h water hs (a .sides) (a .cells) fit (a .finites)
-
   near : (c : ℕ) → c < w * h → goodReceiver w h c (getD (receiversOf w h hs water) c 0) ≡ true
-  near c l = elim (same-or-not (getD (receiversOf w h hs water) c 0) c) [
+  near c l = elim (receiver-near w h hs water a fit c l) [
     | inl own ↦ good-own w h c _ (omega arith) own
-    | inr other ↦
-        let n = net .adjacent c l other in
-        good-near w h c _ (record { direction = n .direction; first = n .first; last = n .last; inside = n .inside; leads = n .leads })
+    | inr other ↦ good-near w h c _ other
   ]
 
   -- receivers and order of a routing are a network that an incision may go along
