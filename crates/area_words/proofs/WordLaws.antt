@@ -12,6 +12,7 @@ use lib.IntN.{pos}
 use lib.Ieee.{Float, nan, binary32, ofBits, toBits, isNan, inFloat}
 use borrow.Author.Tests.{eqb-true, eqb-false}
 use Rattle.lists.specs.Loops.{tabulate}
+use Rattle.lists.proofs.LoopLaws.{at-end}
 use Rattle.lists.proofs.TableLaws.{tabulate-same, tabulate-getD, length-tabulate, getD-tabulate}
 use Rattle.floats.proofs.BitsLaws.{plain-bits, bits-back}
 use Rattle.floats.proofs.WholeLaws.{float-in}
@@ -19,8 +20,8 @@ use Rattle.float_order.specs.Whole.{whole}
 use Rattle.drainage.specs.Ways.{times, countBelow, WorkList, areasAlong}
 use Rattle.drainage.proofs.CountLaws.{count-le, count-one}
 use Rattle.drainage.proofs.TrailLaws.{trail}
-use Rattle.drainage.proofs.WorkListLaws.{entry-lt, receiver-lt, downstream}
-use Rattle.drainage.proofs.AreaLaws.{been-receiver, been-other, been-own, areas-are, length-areas}
+use Rattle.drainage.proofs.WorkListLaws.{entry-lt, downstream}
+use Rattle.drainage.proofs.AreaLaws.{been-receiver, been-other, been-own, work-areas, length-areas}
 use Rattle.steps.specs.Step.{Steps}
 use Rattle.area_words.specs.Words.{stepOf, steppedTo, wordOf, areaIn, receiverIn, passedOn, Word, Words, Network, Passing}
 use Rattle.area_words.proofs.StepLaws.{Step, step-back}
@@ -104,14 +105,11 @@ module _ {w cells : ℕ} {recv list : List ℕ} (net : Network w recv cells) whe
         ∙ ap (λ (n : ℕ). tabulate n (λ c. getD (areasAlong (length recv) recv list) c nan)) (sym (length-areas (length recv) (few net) recv list))
         ∙ tabulate-getD (areasAlong (length recv) recv list) nan
       where
-        none : k ≡ 0
-        none = omega arith
-
         area : (c : ℕ) → c < length recv → areaIn (getD words c nan) ≡ getD (areasAlong (length recv) recv list) c nan
         area c l =
             let count : toBits binary32 (getD words c nan) / 16 ≡ passed recv (drop k list) c = omega (arith, told c l, step-small net l) in
-            ap whole (count ∙ ap (λ (j : ℕ). passed recv (drop j list) c) none)
-            ∙ sym (areas-are (length recv) (few net) recv list (downstream work) (λ b c t e. (entry-lt work b c t e, receiver-lt work c (entry-lt work b c t e))) c l)
+            ap whole (at-end (λ (j : ℕ). passed recv (drop j list) c) count z (omega arith))
+            ∙ sym (work-areas (few net) work c l)
 
     -- one entry more
     module _ (work : WorkList (length recv) recv list) (more : 0 < k) where

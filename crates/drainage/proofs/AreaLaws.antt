@@ -8,7 +8,7 @@ use native.Mathlib.Omega.{arith}
 use lib.Dec.{eqb}
 use lib.ListN.{length, getD, set, length-replicate, getD-replicate, length-set}
 use lib.Seq.{getD-set-same, getD-set-other}
-use lib.Ieee.{Float, nan, binary32, ofBits, add}
+use lib.Ieee.{nan, binary32, ofBits, add}
 use borrow.Author.Tests.{eq-eqb, ne-eqb, eqb-true, eqb-false}
 use Rattle.float_order.specs.Whole.{whole}
 use Rattle.float_order.proofs.WholeLaws.{whole-sum, whole-one}
@@ -23,6 +23,9 @@ or-none : (a b : Bool) → a || (b && false) ≡ a
 or-none a b = ap (λ (c : Bool). a || c) (and-false b) ∙ or-false a
 
 module _ (n : ℕ) (small : n ≤ 2 ^ 24) (recv : List ℕ) where
+  abbrev r : ℕ → ℕ
+  r c = getD recv c 0
+
   -- how many units have been at x once the suffix s has passed its units on
   abbrev pub been : List ℕ → ℕ → ℕ
   been s x = countBelow n (λ j. trail (λ c. getD recv c 0) s j x)
@@ -43,9 +46,6 @@ module _ (n : ℕ) (small : n ≤ 2 ^ 24) (recv : List ℕ) where
       count-same n (λ j. trail r s j (r c) || (eqb (home r s j) c && eqb (r c) (r c))) (λ j. trail r s j (r c) || trail r s j c) (λ j h. ap (λ (b : Bool). trail r s j (r c) || b) (same j))
       ∙ count-or n (λ j. trail r s j (r c)) (λ j. trail r s j c) (λ j h. ap₂ (λ (a b : Bool). a && b) (trail-home r s j (r c) behind) (trail-home r s j c once) ∙ apart (home r s j))
     where
-      r : ℕ → ℕ
-      r c = getD recv c 0
-
       same : (j : ℕ) → eqb (home r s j) c && eqb (r c) (r c) ≡ trail r s j c
       same j = ap (λ (b : Bool). eqb (home r s j) c && b) (eq-eqb (r c) (r c) refl) ∙ and-true (eqb (home r s j) c) ∙ sym (trail-home r s j c once)
 
@@ -60,18 +60,12 @@ module _ (n : ℕ) (small : n ≤ 2 ^ 24) (recv : List ℕ) where
   pub been-other : (c x : ℕ) (s : List ℕ) → (getD recv c 0 ≡ x → ⊥) → been (c ∷ s) x ≡ been s x
   unfolding trail
   been-other c x s other = count-same n (λ j. trail r s j x || (eqb (home r s j) c && eqb (r c) x)) (λ j. trail r s j x) (λ j h. ap (λ (b : Bool). trail r s j x || (eqb (home r s j) c && b)) (ne-eqb (r c) x other) ∙ or-none (trail r s j x) (eqb (home r s j) c))
-    where
-      r : ℕ → ℕ
-      r c = getD recv c 0
 
   -- nor does it at a cell that is its own receiver
   pub been-own : (c x : ℕ) (s : List ℕ) → times c s ≡ 0 → getD recv c 0 ≡ c → been (c ∷ s) x ≡ been s x
   unfolding trail
   been-own c x s once own = count-same n (λ j. trail r s j x || (eqb (home r s j) c && eqb (r c) x)) (λ j. trail r s j x) (λ j h. go j (eqb (r c) x) refl)
     where
-      r : ℕ → ℕ
-      r c = getD recv c 0
-
       go : (j : ℕ) (b : Bool) → eqb (r c) x ≡ b → trail r s j x || (eqb (home r s j) c && eqb (r c) x) ≡ trail r s j x
       go j true e =
           let same : c ≡ x = sym own ∙ eqb-true (r c) x e in
@@ -80,7 +74,7 @@ module _ (n : ℕ) (small : n ≤ 2 ^ 24) (recv : List ℕ) where
       go j false e = ap (λ (b : Bool). trail r s j x || (eqb (home r s j) c && b)) e ∙ or-none (trail r s j x) (eqb (home r s j) c)
 
   -- the areas of the definition are these counts
-  pub areas-are : (s : List ℕ) → Downstream (λ c. getD recv c 0) s → ((before : List ℕ) (c : ℕ) (rest : List ℕ) → s ≡ before ++ (c ∷ rest) → (c < n) × (getD recv c 0 < n))
+  areas-are : (s : List ℕ) → Downstream (λ c. getD recv c 0) s → ((before : List ℕ) (c : ℕ) (rest : List ℕ) → s ≡ before ++ (c ∷ rest) → (c < n) × (getD recv c 0 < n))
       → (x : ℕ) → x < n → getD (areasAlong n recv s) x nan ≡ whole (been s x)
   unfolding areasAlong trail
   areas-are [] d below x h =
@@ -92,12 +86,6 @@ module _ (n : ℕ) (small : n ≤ 2 ^ 24) (recv : List ℕ) where
 
       behind : times (getD recv c 0) s ≡ 0
       behind = d .behind [] c s refl
-
-      a : List Float
-      a = areasAlong n recv s
-
-      sum : Float
-      sum = add binary32 (getD (areasAlong n recv s) (getD recv c 0) nan) (getD (areasAlong n recv s) c nan)
 
       go : ((y : ℕ) → y < n → getD (areasAlong n recv s) y nan ≡ whole (been s y)) → (b : Bool) → eqb (getD recv c 0) c ≡ b
           → getD (cond (eqb (getD recv c 0) c) (areasAlong n recv s) (set (areasAlong n recv s) (getD recv c 0) (add binary32 (getD (areasAlong n recv s) (getD recv c 0) nan) (getD (areasAlong n recv s) c nan)))) x nan ≡ whole (been (c ∷ s) x)
@@ -126,21 +114,20 @@ module _ (n : ℕ) (small : n ≤ 2 ^ 24) (recv : List ℕ) where
               ∙ ih x h
               ∙ ap whole (sym (been-other c x s off))
 
+-- along a work list
+pub work-areas : {n : ℕ} (small : n ≤ 2 ^ 24) {recv list : List ℕ} → WorkList n recv list → (c : ℕ) → c < n → getD (areasAlong n recv list) c nan ≡ whole (been n small recv list c)
+work-areas {n} small {recv} {list} w = areas-are n small recv list (downstream w) (λ b c t e. let l = entry-lt w b c t e in (l, receiver-lt w c l))
+
 -- ---- the theorem
 pub areas : (n : ℕ) → n ≤ 2 ^ 24 → (recv list : List ℕ) → WorkList n recv list → Areas n recv list
 unfolding areaOf countBelow
 areas n small recv list w = record { area = area; total = total }
   where
-    r : ℕ → ℕ
-    r c = getD recv c 0
-
     count-is : (c : ℕ) → countBelow n (λ j. trail (λ c. getD recv c 0) list j c) ≡ areaOf n recv c
     count-is c = count-same n (λ j. trail (λ c. getD recv c 0) list j c) (λ j. passes recv n j c) (λ j h. trail-passes w j c h)
 
     area : (c : ℕ) → c < n → getD (areasAlong n recv list) c nan ≡ whole (areaOf n recv c)
-    area c h =
-        areas-are n small recv list (downstream w) (λ b c t e. (entry-lt w b c t e, receiver-lt w c (entry-lt w b c t e))) c h
-        ∙ ap whole (count-is c)
+    area c h = work-areas small w c h ∙ ap whole (count-is c)
 
     home-lt : (j : ℕ) → j < n → home (λ c. getD recv c 0) list j < n
     home-lt j h = let q : (k : ℕ) × (home (λ c. getD recv c 0) list j ≡ down recv k j) = home-down recv list j in subst (λ (x : ℕ). x < n) (sym (q .1)) (down-lt w (q .0) j h)

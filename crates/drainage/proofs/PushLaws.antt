@@ -59,6 +59,9 @@ module _ (g : Ground) (height : ℕ → ℕ) where
     apart : (a : ℕ) → 1 ≤ s .status a → a ≡ m → ⊥
     apart a h i = omega (arith, ap (s .status) i)
 
+    old : (a : ℕ) → a ≡ m → s .status a ≡ 2 → ⊥
+    old a i e = apart a (omega arith) i
+
     apart-left : (a : ℕ) → t .status a ≡ 2 → a ≡ m → ⊥
     apart-left a h i = omega (arith, ap (t .status) i, ch .here)
 
@@ -110,12 +113,9 @@ module _ (g : Ground) (height : ℕ → ℕ) where
 
     pushes-once : (a : ℕ) → a < g .cells → times a (t .order) ≡ one (t .status a) 2
     pushes-once a l = ap (times a) (ch .same-order) ∙ f .once a l ∙ elim (same-or-not a m) [
-      | inl i ↦ one-other (s .status a) 2 (old i) ∙ sym (one-other (t .status a) 2 (λ e. apart-left a e i))
+      | inl i ↦ one-other (s .status a) 2 (old a i) ∙ sym (one-other (t .status a) 2 (λ e. apart-left a e i))
       | inr n ↦ ap (λ k. one k 2) (sym (ch .elsewhere a n))
     ]
-      where
-        old : a ≡ m → s .status a ≡ 2 → ⊥
-        old i e = apart a (omega arith) i
 
     pushes-count : countBelow (g .cells) (λ a. eqb (t .status a) 2) ≡ length (t .order)
     pushes-count =
@@ -125,9 +125,6 @@ module _ (g : Ground) (height : ℕ → ℕ) where
         ])
         ∙ f .count
         ∙ ap length (sym (ch .same-order))
-      where
-        old : (a : ℕ) → a ≡ m → s .status a ≡ 2 → ⊥
-        old a i e = apart a (omega arith) i
 
     pushes-after : (before : List ℕ) (a : ℕ) (rest : List ℕ) → t .order ≡ before ++ (a ∷ rest) → After g height t before a
     pushes-after before a rest e = record {

@@ -62,9 +62,6 @@ module _ (recv : List ℕ) where
   trail-down [] j x t = (0, eqb-true j x t)
   trail-down (c ∷ s) j x t = go (trail-down s j x) (home-down s j) (trail (λ c. getD recv c 0) s j x) refl t
     where
-      r : ℕ → ℕ
-      r c = getD recv c 0
-
       go : (trail (λ c. getD recv c 0) s j x ≡ true → (k : ℕ) × (down recv k j ≡ x)) → (k : ℕ) × (home (λ c. getD recv c 0) s j ≡ down recv k j) → (b : Bool) → trail (λ c. getD recv c 0) s j x ≡ b
           → trail (λ c. getD recv c 0) s j x || (eqb (home (λ c. getD recv c 0) s j) c && eqb (getD recv c 0) x) ≡ true → (k : ℕ) × (down recv k j ≡ x)
       go ih p true e t = ih e
