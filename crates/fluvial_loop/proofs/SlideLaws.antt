@@ -25,15 +25,25 @@ use Rattle.runs.proofs.IterationLaws.{Place, place-opening, place-pass}
 use Rattle.erosion.specs.Reached.{Worked, seen, halted, afterPass, PassReady}
 use Rattle.erosion.specs.declared.Reached.{Reached}
 use Rattle.erosion.proofs.ReachedLaws.{worked, rowsBy, pass-seen, made-cases}
-use Rattle.fluvial_loop.specs.Loops.{passedBy, slidBy, Slides}
+use Rattle.fluvial_loop.specs.Loops.{courseBy, passedBy, slidBy, Places, Slides}
+use Rattle.fluvial_loop.specs.declared.FluvialPlan.{FluvialPlan}
 
 -- a count is exact in binary32
 pub count-float : (n : ℕ) → n ≤ 32768 → T (inFloat binary32 (pos n))
 count-float n h = float-in n (omega arith)
 
 -- passes of a bounded course
-pub passes-few : (c : Course) → Bounded c → c .passes ≤ 32768
+passes-few : (c : Course) → Bounded c → c .passes ≤ 32768
 passes-few c b = omega (arith, b .passes, mul-le-mul-right (c .passes) (b .due))
+
+-- the counts up to its last pass
+pub slides-places : {w h stop it map copy : ℕ} {plan : FluvialPlan} {r : Reached} → Slides (courseBy w h plan stop) it map copy r → (q : ℕ) → q ≤ plan .passes → Places plan it q
+slides-places s q l = record {
+  iteration = omega (arith, s .due, s .bounded .iterations);
+  passed = omega (arith, passes-few _ (s .bounded));
+  iterations = s .bounded .iterations;
+  passes = passes-few _ (s .bounded);
+}
 
 -- a pass asks at most one question for each row, and completes at most one pass
 module _ (c : Course) (it q : ℕ) (x : Worked) where

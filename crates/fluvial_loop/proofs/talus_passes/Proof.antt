@@ -5,7 +5,7 @@ use borrow.Author.Needs.{needs}
 use lib.ListN.{length}
 use Rattle.fluvial_loop.specs.Loops.{courseBy}
 use Rattle.erosion.proofs.ReachedLaws.{worked}
-use Rattle.fluvial_loop.proofs.SlideLaws.{Slid, passes-few, slid-none, slid-ready, slid-more, slid-done, slid-ended}
+use Rattle.fluvial_loop.proofs.SlideLaws.{Slid, slides-places, slid-none, slid-ready, slid-more, slid-done, slid-ended}
 use Rattle.fluvial_loop.proofs.talus_passes.Statement.{statement}
 use Rattle.fluvial_loop.proofs.talus_passes.Tie as tie
 
@@ -31,13 +31,13 @@ returns : tie.Need-returns Inv-loop μ-loop
 returns c = slid-ended _ _ _ _ _ _ _ (c .before .before .before .loop .inv) (c .if1 .taken)
 
 pass-begins-requires : tie.Need-pass-begins-requires Inv-loop μ-loop
-pass-begins-requires c κs = let s = c .before .before .before .before .before .before .before .pre in record { iteration = omega (arith, s .due, s .bounded .iterations); passed = omega (arith, c .before .before .before .loop .inv .within, passes-few _ (s .bounded)); iterations = s .bounded .iterations; passes = passes-few _ (s .bounded) }
+pass-begins-requires c κs = slides-places (c .before .before .before .before .before .before .before .pre) _ (c .before .before .before .loop .inv .within)
 
 add-pass-begins : tie.Need-add-pass-begins Inv-loop μ-loop
 add-pass-begins c = omega arith
 
 pass-begins-requires-2 : tie.Need-pass-begins-requires-2 Inv-loop μ-loop
-pass-begins-requires-2 c κs = let s = c .before .before .before .before .before .before .before .before .pre in record { iteration = omega (arith, s .due, s .bounded .iterations); passed = omega (arith, c .before .before .before .loop-test .taken, passes-few _ (s .bounded)); iterations = s .bounded .iterations; passes = passes-few _ (s .bounded) }
+pass-begins-requires-2 c κs = slides-places (c .before .before .before .before .before .before .before .before .pre) _ (omega (arith, c .before .before .before .loop-test .taken))
 
 run-pass-requires : tie.Need-run-pass-requires Inv-loop μ-loop
 run-pass-requires c κs = slid-ready _ _ _ _ _ _ _ (c .before .before .before .before .before .before .before .before .loop .inv) (c .before .before .before .before .before .before .before .before .before .before .before .before .pre) (c .before .before .before .before .before .before .before .loop-test .taken)
