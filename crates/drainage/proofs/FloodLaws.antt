@@ -4,7 +4,7 @@ use mathlib.Core.Path.{_≡_, ap, _∙_}
 use mathlib.Core.Bool.{true, false, cond}
 use mathlib.Core.Logic.{inl, inr}
 use mathlib.Core.List.{List}
-use native.Mathlib.Nat.{eq-or-lt-of-le}
+use native.Mathlib.Nat.{eq-or-lt-of-le, add-zero, add-suc}
 use native.Mathlib.Omega.{arith}
 use lib.Dec.{eqb, ltb}
 use lib.ListN.{length, getD, take}
@@ -18,10 +18,6 @@ use Rattle.drainage.proofs.TallyLaws.{count-apart}
 use Rattle.drainage.proofs.StateLaws.{Stands, floodAfter-stands, some-waits, flooded-left}
 pub use Rattle.drainage.proofs.LeastLaws.{Least, leastWaiting-found, leastWaiting-is, leastWaiting-nobody}
 pub use Rattle.drainage.proofs.KeptLaws.{Sized, Later, floodAfter-none, floodAfter-more, floodAfter-sized, floodAfter-later}
-
--- a waiting cell has not left
-unlike : {a : ℕ} → a ≡ 1 → a ≡ 2 → ⊥
-unlike p q = omega arith
 
 module _ {H : Type 0} (k : Kind H) (g : Ground) (hs : List H) where
   -- a step once the next leaver is known
@@ -59,7 +55,7 @@ module _ {H : Type 0} (k : Kind H) (g : Ground) (hs : List H) where
         s = floodAfter k g hs i
 
         not-both : (c : ℕ) → c < g .cells → waits k g hs s c ≡ true → eqb (getD (s .status) c 0) 2 ≡ false
-        not-both c l w = ne-eqb (getD (s .status) c 0) 2 (λ e. unlike (eqb-true (getD (s .status) c 0) 1 w) e)
+        not-both c l w = ne-eqb (getD (s .status) c 0) 2 (λ e. omega (arith, eqb-true (getD (s .status) c 0) 1 w))
 
         of : Stands k g hs Good number i s → Stage Good i s
         of h = record {
@@ -92,21 +88,14 @@ module _ {H : Type 0} (k : Kind H) (g : Ground) (hs : List H) where
 
     -- in the end nobody waits, and further steps do nothing
     pub flooded-nobody : leastWaiting k g hs (flooded k g hs) ≡ g .cells
-    flooded-nobody = leastWaiting-nobody k g hs (flooded k g hs) (λ c l w. unlike (eqb-true _ 1 w) (left c l))
-      where
-        left : (c : ℕ) → c < g .cells → getD (flooded k g hs .status) c 0 ≡ 2
-        left = flooded-left k g hs Good number joined numbers many fine
+    flooded-nobody =
+        leastWaiting-nobody k g hs (flooded k g hs)
+        (λ c l w. omega (arith, eqb-true (getD (flooded k g hs .status) c 0) 1 w, flooded-left k g hs Good number joined numbers many fine c l))
 
     pub floodAfter-ends : (j : ℕ) → floodAfter k g hs (g .cells + j) ≡ flooded k g hs
-    floodAfter-ends zero = ap (floodAfter k g hs) (none (g .cells))
-      where
-        none : (n : ℕ) → n + 0 ≡ n
-        none n = omega arith
+    floodAfter-ends zero = ap (floodAfter k g hs) (add-zero (g .cells))
     floodAfter-ends (suc j) =
-        ap (floodAfter k g hs) (more (g .cells) j)
+        ap (floodAfter k g hs) (add-suc (g .cells) j)
         ∙ floodAfter-more k g hs (g .cells + j)
         ∙ ap (step k g hs) (floodAfter-ends j)
         ∙ step-stays (flooded k g hs) flooded-nobody
-      where
-        more : (n j : ℕ) → n + suc j ≡ suc (n + j)
-        more n j = omega arith

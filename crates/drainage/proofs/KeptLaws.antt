@@ -5,6 +5,7 @@ use mathlib.Core.Path.{_≡_, refl, sym, ap, _∙_, subst}
 use mathlib.Core.Bool.{Bool, true, false, cond}
 use mathlib.Core.Logic.{inl, inr}
 use mathlib.Core.List.{List, [], _∷_, _++_, append-assoc, append-nil}
+use native.Mathlib.Nat.{add-zero, add-suc}
 use native.Mathlib.Omega.{arith}
 use lib.Dec.{eqb, ltb}
 use lib.ListN.{length, getD, set, length-set, List·getD-eq-default}
@@ -192,13 +193,7 @@ module _ {H : Type 0} (k : Kind H) (g : Ground) (hs : List H) where
 
     -- what was pushed after i steps is as it was then after j steps more
     pub floodAfter-later : (i j : ℕ) → Later (k .absent) (floodAfter k g hs i) (floodAfter k g hs (i + j))
-    floodAfter-later i zero = subst (λ n. Later (k .absent) (floodAfter k g hs i) (floodAfter k g hs n)) (none i) (later-same (k .absent) (floodAfter k g hs i))
-      where
-        none : (i : ℕ) → i ≡ i + 0
-        none i = omega arith
+    floodAfter-later i zero = subst (λ n. Later (k .absent) (floodAfter k g hs i) (floodAfter k g hs n)) (sym (add-zero i)) (later-same (k .absent) (floodAfter k g hs i))
     floodAfter-later i (suc j) =
-        subst (λ n. Later (k .absent) (floodAfter k g hs i) (floodAfter k g hs n)) (more i j)
+        subst (λ n. Later (k .absent) (floodAfter k g hs i) (floodAfter k g hs n)) (sym (add-suc i j))
         (rw floodAfter-more (later-more (floodAfter-later i j) (step-later (floodAfter k g hs (i + j)) (floodAfter-sized (i + j)))))
-      where
-        more : (i j : ℕ) → suc (i + j) ≡ i + suc j
-        more i j = omega arith

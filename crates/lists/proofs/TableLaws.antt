@@ -3,7 +3,7 @@ use Prim.Native.Nat.{ℕ, zero, suc, _+_, _-_, _≤_, _<_}
 use mathlib.Core.Path.{_≡_, refl, sym, ap, ap₂, _∙_, subst}
 use mathlib.Core.Logic.{inl, inr}
 use mathlib.Core.List.{List, [], _∷_, _++_, append-assoc, append-nil}
-use native.Mathlib.Nat.{eq-or-lt-of-le, le-of-suc-le-suc, le-of-eq}
+use native.Mathlib.Nat.{eq-or-lt-of-le, le-of-suc-le-suc, le-of-eq, add-sub-of-le}
 use native.Mathlib.Decide.{decLt}
 use native.Mathlib.Numerals.{add-one}
 use native.Mathlib.Omega.{arith}
@@ -35,10 +35,7 @@ module _ {A : Type 0} (f : ℕ → A) where
 
   pub filled-length : (i : ℕ) (old : List A) → i ≤ length old → length (filled i old) ≡ length old
   filled-length i old h =
-      length-append (tabulate i f) (drop i old) ∙ ap₂ (λ (x y : ℕ). x + y) (length-tabulate i) (length-drop i old) ∙ back i (length old) h
-    where
-      back : (i n : ℕ) → i ≤ n → i + (n - i) ≡ n
-      back i n h = omega arith
+      length-append (tabulate i f) (drop i old) ∙ ap₂ (λ (x y : ℕ). x + y) (length-tabulate i) (length-drop i old) ∙ add-sub-of-le h
 
   pub filled-more : (i : ℕ) (old : List A) → i < length old → set (filled i old) i (f i) ≡ filled (i + 1) old
   unfolding tabulate

@@ -13,7 +13,7 @@ use borrow.Author.Tests.{eq-eqb, ne-eqb}
 use Rattle.floats.specs.Key.{keyOf}
 use Rattle.floats.specs.Stand.{maxOf}
 use Rattle.drainage.specs.Ground.{floats}
-use Rattle.drainage.specs.Flood.{Flood, push}
+use Rattle.drainage.specs.Flood.{Flood}
 use Rattle.drainage.specs.Ways.{one}
 use Rattle.drainage.proofs.TallyLaws.{same-or-not, one-same, one-other, one-bound}
 use Rattle.drainage.proofs.KeptLaws.{getD-inside}
@@ -170,7 +170,7 @@ module _ (hs : List Float) (limit c m : ℕ) (status : List ℕ) (spill : List F
               arith,
               q .below j k,
               one-same m j z,
-              one-other (getD status j 0) 1 (unlike (ap (λ i. getD status i 0) (sym z) ∙ e)),
+              one-other (getD status j 0) 1 (λ y. omega (arith, ap (λ i. getD status i 0) (sym z) ∙ e)),
               one-same (getD status′ j 0) 1 (ap (λ i. getD status′ i 0) (sym z) ∙ here),
             )
         | inr z ↦ omega (arith, q .below j k, one-other m j z, ap (λ v. one v 1) (other j (λ y. z (sym y))))
@@ -181,8 +181,5 @@ module _ (hs : List Float) (limit c m : ℕ) (status : List ℕ) (spill : List F
       gone = gone;
     })
       where
-        unlike : {v : ℕ} → v ≡ 0 → v ≡ 1 → ⊥
-        unlike z y = omega arith
-
         over : (j : ℕ) → limit ≤ placeOf hs j → j ≡ m → ⊥
         over j k z = omega (arith, ap (placeOf hs) z, own-place)

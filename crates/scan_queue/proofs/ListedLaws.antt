@@ -1,7 +1,7 @@
 -- Laws of the list that a scan goes through, and of its limit.
 use Prim.Native.Nat.{ℕ, zero, suc, _+_, _*_, _^_, _≤_, _<_}
-use mathlib.Core.Path.{_≡_, refl, sym, ap, ap₂, _∙_, subst}
-use mathlib.Core.Bool.{Bool, true, false, _&&_, cond}
+use mathlib.Core.Path.{_≡_, sym, ap, ap₂, _∙_, subst}
+use mathlib.Core.Bool.{true, false, _&&_, cond, and-false}
 use mathlib.Core.Logic.{inl, inr}
 use mathlib.Core.List.{List}
 use native.Mathlib.Decide.{decLt}
@@ -47,11 +47,7 @@ module _ (hs : List Float) (limit c : ℕ) where
   at-limit l h = ap₂ (λ a b. a && b) (lt-ltb c (length hs) l) (le-leb limit (placeOf hs c) h)
 
   pub under-limit : placeOf hs c < limit → atLimit hs limit c ≡ false
-  under-limit h = ap (λ t. ltb c (length hs) && t) (lt-leb limit (placeOf hs c) h) ∙ never (ltb c (length hs))
-    where
-      never : (b : Bool) → (b && false) ≡ false
-      never true = refl
-      never false = refl
+  under-limit h = ap (λ t. ltb c (length hs) && t) (lt-leb limit (placeOf hs c) h) ∙ and-false (ltb c (length hs))
 
   pub outside-limit : length hs ≤ c → atLimit hs limit c ≡ false
   outside-limit l = ap (λ b. b && leb limit (placeOf hs c)) (le-ltb c (length hs) l)

@@ -78,7 +78,7 @@ module _ (hs : List Float) (limit : ℕ) (status : List ℕ) (spill : List Float
               p .cells b,
               one-same c b z,
               one-same (getD status b 0) 1 (ap (λ i. getD status i 0) (sym z) ∙ waited),
-              one-other (getD (set status c 2) b 0) 1 (unlike (ap (λ i. getD (set status c 2) i 0) (sym z) ∙ getD-set-same status c 2 0 l)),
+              one-other (getD (set status c 2) b 0) 1 (λ y. omega (arith, ap (λ i. getD (set status c 2) i 0) (sym z) ∙ getD-set-same status c 2 0 l)),
             )
         | inr z ↦ omega (arith, q .below b h, p .cells b, one-other c b z, ap (λ v. one v 1) (other b (λ y. z (sym y))))
       ];
@@ -94,9 +94,6 @@ module _ (hs : List Float) (limit : ℕ) (status : List ℕ) (spill : List Float
       ];
     }
       where
-        unlike : {v : ℕ} → v ≡ 2 → v ≡ 1 → ⊥
-        unlike z y = omega arith
-
         other : (b : ℕ) → (b ≡ c → ⊥) → getD (set status c 2) b 0 ≡ getD status b 0
         other b z = getD-set-other status c b 2 0 z
 

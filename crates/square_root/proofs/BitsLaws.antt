@@ -2,17 +2,17 @@
 use mathlib.Core.Path.{_≡_, refl, sym, ap, _∙_, subst}
 use mathlib.Core.Bool.{Bool, false, not, cond}
 use Prim.Native.Nat.{ℕ, suc, _+_, _-_, _*_, _/_, _%_, _^_, _≤_, _<_}
-use native.Mathlib.Nat.{mul-assoc, mul-right-comm, mul-one, mul-le-mul-right, mod-eq-of-lt, mul-div-cancel, eq-of-mul-eq-mul-right, lt-of-lt-of-le, lt-of-not-le, not-le-of-lt, zero-add}
+use native.Mathlib.Nat.{mul-assoc, mul-right-comm, mul-one, mul-le-mul-right, mod-eq-of-lt, mul-div-cancel, eq-of-mul-eq-mul-right, lt-of-lt-of-le, lt-of-not-le, not-le-of-lt, zero-add, suc-add}
 use native.Mathlib.Omega.{arith}
-use borrow.Author.Tests.{lt-leb, le-ltb, ne-eqb}
+use borrow.Author.Tests.{lt-leb, ne-eqb}
 use lib.Dec.{T, eqb}
 use lib.Pow.{pow-add, pow-pos, pow-mono, shl-lt}
 use lib.Count.{leadingZeros, leading-top}
 use lib.Ieee.{Float, nan, inf, fin, binary32, up, down, size, odd, ofFields, nanBits, ofBits, toBits}
-use lib.Ieee.Bits.{nanBits-above}
 use lib.Ieee.Digits.{size-lt, size-le}
 use lib.Ieee.Fits.{down-pos}
 use lib.Ieee.Exact.{HasValue, odd-sign}
+use Rattle.floats.proofs.BitsLaws.{no-nan-pattern}
 
 -- ---- powers and fractions
 
@@ -97,15 +97,12 @@ raised b p l =
       record {
         few = omega (arith, t .1);
         low = subst (λ (w : ℕ). w ≤ b * 2 ^ (z - 8)) (sym (pow-add 2 j (z - 8)) ∙ ap (λ (w : ℕ). 2 ^ w) e) (mul-le-mul-right (2 ^ (z - 8)) (t .2));
-        high = subst (λ (w : ℕ). b * 2 ^ (z - 8) < 2 ^ w) (ap suc e) (subst (λ (w : ℕ). b * 2 ^ (z - 8) < 2 ^ w) (suc-sum j (z - 8)) (shl-lt (suc j) (z - 8) (t .3)));
+        high = subst (λ (w : ℕ). b * 2 ^ (z - 8) < 2 ^ w) (ap suc e) (subst (λ (w : ℕ). b * 2 ^ (z - 8) < 2 ^ w) (suc-add j (z - 8)) (shl-lt (suc j) (z - 8) (t .3)));
       },
     )
   where
     place : (j : ℕ) → 2 ^ j ≤ b → j < 23
     place j g = lt-of-not-le (λ (k : 23 ≤ j). not-le-of-lt (lt-of-lt-of-le l (pow-mono k)) g)
-
-    suc-sum : (a c : ℕ) → suc a + c ≡ suc (a + c)
-    suc-sum a c = omega arith
 
 -- ---- writing
 
@@ -136,4 +133,4 @@ bits-at v q k h l g =
 
 -- bits below those of the infinity are no NaN's
 pub no-nan : (b : ℕ) → b < 255 * 2 ^ 23 → T (not (nanBits binary32 b))
-no-nan b h = subst (λ (s : Bool). T (not s)) (sym (nanBits-above binary32 b ∙ le-ltb (255 * 2 ^ 23) (b % 2 ^ 31) (omega arith))) tt
+no-nan b h = no-nan-pattern b (omega arith)

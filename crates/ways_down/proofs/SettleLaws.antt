@@ -6,17 +6,12 @@ use mathlib.Core.Path.{_≡_, refl, sym, ap, _∙_, subst}
 use mathlib.Core.List.{List, [], _∷_, _++_, append-nil, append-assoc}
 use lib.ListN.{length, getD, set, length-append, length-set}
 use lib.Seq.{getD-set-same, getD-set-other, ext-getD}
-use Rattle.drainage.proofs.TallyLaws.{one-same, one-other}
+use Rattle.drainage.proofs.TallyLaws.{one-same, one-other, times-last}
 use Rattle.drainage.specs.Ways.{one, times, WorkList}
-use Rattle.drainage.proofs.CountLaws.{times-append, times-here}
+use Rattle.drainage.proofs.CountLaws.{times-here}
 use Rattle.drainage.proofs.WorkListLaws.{split, entry-lt, receiver-lt, list-length}
 use Rattle.ways_down.specs.Settled.{madeAlong, settled}
 use Rattle.ways_down.proofs.PlaceLaws.{Falls, placeIn, falls}
-
--- how often a cell stands in a list with one cell more
-tally : (done : List ℕ) (c d : ℕ) → times d (done ++ (c ∷ [])) ≡ times d done + one c d
-unfolding times
-tally done c d = omega (arith, times-append d done (c ∷ []))
 
 module _ {A : Type 0} (absent : A) (recv : List ℕ) (make : ℕ → A → A → A) (start : List A)
     -- a cell that is its own receiver is made of its own value alone
@@ -55,11 +50,11 @@ module _ {A : Type 0} (absent : A) (recv : List ℕ) (make : ℕ → A → A →
         made d t k h (yes e) = rw e (at-c k h)
         made d t k h (no n) =
             getD-set-other l c d value absent n
-            ∙ m .made d (omega (arith, tally done c d, one-other c d (λ e. n (sym e)))) k (omega (arith, length-append done (c ∷ [])))
+            ∙ m .made d (omega (arith, times-last d c done, one-other c d (λ e. n (sym e)))) k (omega (arith, length-append done (c ∷ [])))
 
         still : (d : ℕ) → times d (done ++ (c ∷ [])) ≡ 0 → Dec (d ≡ c) → getD (set l c value) d absent ≡ getD start d absent
-        still d t (yes e) = absurd (omega (arith, tally done c d, ap (one c) e, one-same c c refl))
-        still d t (no n) = getD-set-other l c d value absent n ∙ m .still d (omega (arith, tally done c d))
+        still d t (yes e) = absurd (omega (arith, times-last d c done, ap (one c) e, one-same c c refl))
+        still d t (no n) = getD-set-other l c d value absent n ∙ m .still d (omega (arith, times-last d c done))
 
   module _ (list : List ℕ) (n : ℕ) (long : length start ≡ n) (w : WorkList n recv list) where
     made-run : (done rest : List ℕ) (l : List A) → list ≡ done ++ rest → Made done l → Made list (madeAlong absent recv make rest l)
