@@ -1,10 +1,11 @@
 -- The endings of a whole-run call.
 use Prim.Native.Nat.{ℕ}
 use mathlib.Core.Path.{_≡_, refl, sym, ap, _∙_}
-use mathlib.Core.Bool.{Bool, true, false, _&&_, true≢false}
+use mathlib.Core.Bool.{Bool, true, false, _&&_}
 use mathlib.Core.Logic.{⊎-elim}
 use mathlib.Core.List.{List}
 use lib.Ieee.{Float}
+use Rattle.lists.proofs.TestLaws.{clash}
 use Rattle.answers.specs.Outcome.{Outcome, gives, refused, refusalOf, answerOf}
 use Rattle.answers.specs.declared.Answer.{Answer}
 use Rattle.answers.specs.declared.Refusal.{Refusal}
@@ -38,7 +39,7 @@ done-accepts f e = sym f ∙ ap answerOf e
 
 -- so what is kept where one is refused need not be
 pub done-keeps : {early : Answer} {o : Outcome (Unit {0})} → answerOf early ≡ o → early ≡ Answer.Done → {A : Type 0} {x y : A} → accepted o ≡ false → x ≡ y
-done-keeps f e z = absurd (true≢false (sym (ap accepted (done-accepts f e)) ∙ z))
+done-keeps f e z = absurd (clash (ap accepted (done-accepts f e)) z)
 
 -- what an answer shows of a run's end: of the record only the questions
 abbrev pub ranBy : Worked → Ran

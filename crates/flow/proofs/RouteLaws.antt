@@ -1,13 +1,13 @@
 -- Laws of the public call: which answer the tests give, what is accepted, and what the slices hold then.
 use Prim.Native.Nat.{ℕ, _*_}
 use mathlib.Core.Path.{_≡_, refl, sym, ap, _∙_}
-use mathlib.Core.Bool.{Bool, true, false, not, _&&_, cond, true≢false}
+use mathlib.Core.Bool.{Bool, true, false, not, _&&_, cond}
 use mathlib.Core.List.{List}
 use lib.ListN.{length}
 use lib.Ieee.{Float}
 use lib.Ieee.Scale.{finite}
 use borrow.Author.Tests.{eqb-true, ltb-false, not-true, not-false}
-use Rattle.lists.proofs.TestLaws.{neither, both, chosen, passed}
+use Rattle.lists.proofs.TestLaws.{neither, both, chosen, passed, clash}
 use Rattle.answers.specs.Outcome.{Outcome, gives, refused, refusedAt, answerOf, given}
 use Rattle.answers.specs.declared.Answer.{Answer}
 use Rattle.grid.specs.Sides.{badSides}
@@ -106,8 +106,8 @@ module _ (w h : ℕ) (hs : List Float) (water : Float) (order recv : List ℕ) (
     receivers = s .received ∙ chosen (accepted w h hs water lent) (receiversOf w h hs water) recv yes′;
     spills = s .raised ∙ chosen (accepted w h hs water lent) (floodOf w h hs water .spill) spill yes′;
     areas = s .drained ∙ chosen (accepted w h hs water lent) (areasOf w h hs water) area yes′;
-    kept-queue = λ f. absurd (true≢false (sym yes′ ∙ f));
-    kept-status = λ f. absurd (true≢false (sym yes′ ∙ f));
+    kept-queue = λ f. absurd (clash yes′ f);
+    kept-status = λ f. absurd (clash yes′ f);
   }
     where
       yes′ : accepted w h hs water lent ≡ true

@@ -8,7 +8,7 @@ use mathlib.Core.List.{List}
 use lib.ListN.{getD}
 use lib.Dec.{eqb, leb, ltb}
 use borrow.Author.Tests.{lt-ltb, le-ltb, ltb-true, ltb-false, eqb-false, ne-eqb, leb-true, le-leb, lt-leb}
-use Rattle.lists.proofs.TestLaws.{both}
+use Rattle.lists.proofs.TestLaws.{both, chosen, passed}
 use Rattle.lists.proofs.LoopLaws.{all-pass}
 use Rattle.grid.specs.Sides.{InRange, cellOf}
 use Rattle.grid.proofs.SidesLaws.{cell-lt, cells-bound}
@@ -131,12 +131,10 @@ module _ (w h : ℕ) (recv : List ℕ) (y : ℕ) (row : y < h) where
 
 -- ---- the ends of `row_passes` in an inner row
 stop : (s x : Bool) {t : Bool} → t ≡ s → t ≡ true → false ≡ cond s false x
-stop true x e f = refl
-stop false x e f = absurd (true≢false (sym f ∙ e))
+stop s x e f = chosen s false x (sym e ∙ f)
 
 pass : (s x : Bool) {t v : Bool} → t ≡ s → t ≡ false → v ≡ x → v ≡ cond s false x
-pass true x e f g = absurd (true≢false (sym e ∙ f))
-pass false x e f g = g
+pass s x e f g = g ∙ passed s false x (sym e ∙ f)
 
 module _ (w h : ℕ) (recv : List ℕ) (y : ℕ) (wide : 3 ≤ w) (first : y ≡ 0 → ⊥) (last : y + 1 ≡ h → ⊥) {west : Bool} (a : west ≡ not (goodReceiver w h (cellOf w 0 y) (getD recv (y * w) 0))) where
   at : west ≡ not (receiverTest w h recv (0 + y * w))

@@ -1,6 +1,6 @@
 -- Laws of the receivers: one neighbour against the best so far, all eight, and the list of them.
 use Prim.Native.Nat.{ℕ, suc, _+_, _*_, _≤_, _<_}
-use mathlib.Core.Path.{_≡_, refl, sym, ap, ap₂, _∙_}
+use mathlib.Core.Path.{_≡_, sym, ap, ap₂, _∙_}
 use mathlib.Core.Logic.{_⊎_, inl, inr}
 use mathlib.Core.Bool.{Bool, true, false, _&&_, cond}
 use mathlib.Core.List.{List}
@@ -13,6 +13,7 @@ use borrow.Author.Tests.{lt-ltb, le-ltb, eq-eqb, ne-eqb}
 use Rattle.lists.specs.Loops.{turns}
 use Rattle.lists.proofs.TestLaws.{either, through, through₂}
 use Rattle.lists.proofs.TurnLaws.{turns-none, turns-more}
+use Rattle.lists.proofs.LoopLaws.{at-end}
 use Rattle.grid.specs.Directions.{neighbourAt, Adjacent}
 use Rattle.drainage.specs.Ground.{floats, gridGround, distances}
 use Rattle.drainage.specs.Receivers.{Steepest, distanceTo, compared, steepestOf, receiverOf}
@@ -101,13 +102,10 @@ module _ (w h : ℕ) (spill : List Float) (c f : ℕ) where
   unfolding receiverOf steepestOf
   leading-done d best other lo hi b = record {
     is = λ water hs.
-        ap (λ (s : Steepest). s .cell) (b .is water hs ∙ ap (λ n. turns n (against w h spill c water hs) (toFinder w h spill c water hs f)) all)
+        ap (λ (s : Steepest). s .cell) (at-end (λ (n : ℕ). turns n (against w h spill c water hs) (toFinder w h spill c water hs f)) (b .is water hs) lo hi)
         ∙ sym (ap (λ t. cond t c (steepestOf floats (gridGround w h water hs) spill c f .cell)) (ne-eqb f c other));
     inside = b .inside;
   }
-    where
-      all : d ≡ 8
-      all = omega arith
 
   -- a base cell
   pub received-own : f ≡ c → c < w * h → Received w h spill c f f

@@ -8,9 +8,10 @@ use lib.ListN.{length, getD, take}
 use lib.Seq.{take-suc, take-all}
 use lib.Ieee.{Float}
 use Rattle.lists.specs.Loops.{tabulate}
+use Rattle.lists.proofs.LoopLaws.{at-end}
 use Rattle.lists.proofs.TableLaws.{length-tabulate}
 use Rattle.grid.specs.Directions.{neighbourAt}
-use Rattle.drainage.specs.Ground.{Ground, floats, gridGround}
+use Rattle.drainage.specs.Ground.{floats, gridGround}
 use Rattle.drainage.specs.Flood.{push, pushAll}
 use Rattle.drainage.proofs.KeptLaws.{pushedTo}
 use Rattle.flood_start.specs.Slices.{stateOf}
@@ -60,8 +61,7 @@ module _ (hs : List Float) (limit c : ℕ) (status : List ℕ) (spill : List Flo
         (found : List ℕ) (some i : ℕ) → i ≤ some → some ≤ i → cells ≡ take i found
         → ReachedBy hs limit c (take some found) status spill recv len₁ status₁ spill₁ recv₁ queue₁
     reached-end found some i a b e =
-        let all : i ≡ some = omega arith in
-        subst (λ l. ReachedBy hs limit c l status spill recv len₁ status₁ spill₁ recv₁ queue₁) (e ∙ ap (λ i. take i found) all) r
+        subst (λ l. ReachedBy hs limit c l status spill recv len₁ status₁ spill₁ recv₁ queue₁) (at-end (λ (i : ℕ). take i found) e a b) r
 
     all-reached :
         (w h : ℕ) → ((water : Float) (order : List ℕ) → pushedBy floats (gridGround w h water hs) hs c cells (stateOf status spill recv order) ≡ pushedTo floats (gridGround w h water hs) hs c 8 (stateOf status spill recv order))

@@ -7,6 +7,7 @@ use lib.ListN.{getD}
 use lib.Dec.{eqb}
 use lib.Ieee.{Float}
 use borrow.Author.Tests.{eq-eqb, ne-eqb}
+use Rattle.lists.proofs.TestLaws.{clash}
 use Rattle.float_order.specs.Order.{rank}
 use Rattle.grid.specs.Sides.{InRange}
 use Rattle.grid.specs.Heights.{allFinite}
@@ -33,10 +34,7 @@ module _ (w h : ℕ) (water : Float) (range : InRange w h) (hs : List Float) (si
     where
       go : (b : Bool) → gridGround w h water hs .base c ≡ b → eqb (getD (receiversOn (gridGround w h water) hs) c 0) c ≡ b
       go true e = eq-eqb _ c (net .base-own c l e)
-      go false e = ne-eqb _ c (λ own. true-false (sym (net .own-base c l own) ∙ e))
-        where
-          true-false : true ≡ false → ⊥
-          true-false = mathlib.Core.Bool.true≢false
+      go false e = ne-eqb _ c (λ own. clash (net .own-base c l own) e)
 
   pub drained : (list : List ℕ) → WorkList (w * h) (receiversOn (gridGround w h water) hs) list → Drained (gridGround w h water) hs list
   drained list work =

@@ -10,6 +10,7 @@ use native.Mathlib.Omega.{arith}
 use borrow.Author.Tests.{lt-ltb, le-ltb, eq-eqb, ne-eqb, not-true, not-false}
 use lib.Arith.{lt-of-le-ne}
 use lib.ListN.{length}
+use Rattle.lists.proofs.LoopLaws.{at-end}
 use Rattle.grid.specs.Sides.{InRange}
 use Rattle.drainage.proofs.TallyLaws.{same-or-not}
 use Rattle.stream_bytes.specs.Bytes.{gridMark, fluvialMark, thermalMark, rowMark, same, markAt, marked}
@@ -84,9 +85,7 @@ module _ (s : List ℕ) (rows w : ℕ) where
   marked-none h = record { within = omega arith; place = omega arith; all = refl }
 
   pub marked-done : {h at y : ℕ} → Marked h at y → h ≤ y → true ≡ rowsMarked s rows w h
-  marked-done {h} {at} {y} m l =
-      let e : y ≡ h = omega (arith, m .within) in
-      sym (ap (rowsMarked s rows w) (sym e) ∙ m .all)
+  marked-done m l = at-end (rowsMarked s rows w) (sym (m .all)) (m .within) l
 
   -- every row begins inside the stream
   pub row-inside : {h at y : ℕ} → Framed s rows w h → Marked h at y → y < h → at + rowLength w ≤ length s

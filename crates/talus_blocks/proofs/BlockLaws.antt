@@ -1,14 +1,16 @@
 -- A block of inner cells: totals and losses worked out one after the other, and the cells slid by them.
 use Prim.Native.Nat.{ℕ, zero, suc, _+_, _*_, _≤_, _<_}
 use mathlib.Core.Path.{_≡_, refl, sym, ap, ap₂, _∙_}
-use mathlib.Core.Bool.{Bool, true, false, cond, true≢false}
+use mathlib.Core.Bool.{Bool, true, false, cond}
 use mathlib.Core.List.{List}
 use native.Mathlib.Numerals.{add-one}
 use native.Mathlib.Omega.{arith}
 use native.Mathlib.Decide.{ℕ-discrete}
 use lib.ListN.{getD, set}
 use lib.Ieee.{Float, nan, binary32, ofBits, sub, lt, le}
+use Rattle.lists.proofs.TestLaws.{clash, either}
 use Rattle.lists.proofs.TurnLaws.{turns-keep}
+use Rattle.lists.proofs.LoopLaws.{at-end}
 use Rattle.lists.proofs.TableLaws.{filled-read}
 use Rattle.talus.specs.Talus.{shedOf, gainsOf, slideCell, slideCells}
 use Rattle.talus.proofs.CellLaws.{slide-under, slide-still, slide-moved}
@@ -50,15 +52,14 @@ module _ (w h : ℕ) (ts hs : List Float) (strength water : Float) (c : ℕ) (ou
   cell-moved moved r f t g = go (lt (getD hs c nan) water) refl
     where
       go : (b : Bool) → lt (getD hs c nan) water ≡ b → r ≡ slideCell w h ts hs strength water c out
-      go true u = absurd (true≢false (sym (under u) ∙ t))
+      go true u = absurd (clash (under u) t)
       go false u =
           slide-moved w h ts hs strength water c out (shedOf w h ts hs c) refl u r (ap (λ (z : Float). le z (ofBits binary32 0)) (sym (above u)) ∙ t)
           (g ∙ ap₂ (λ (m a : Float). gainsOf w h ts hs c m a (set out c (sub binary32 (getD out c nan) m))) f (above u))
 
 -- how many shed
 shed-one : (b : Bool) (k n : ℕ) → k ≤ n → k + cond b 0 1 ≤ suc n
-shed-one true k n l = omega arith
-shed-one false k n l = omega arith
+shed-one b k n l = either (λ (v : ℕ). k + v ≤ suc n) b 0 1 (omega arith) (omega arith)
 
 pub shedders-most : (totals : List Float) (n : ℕ) → shedders totals n ≤ n
 unfolding shedders
@@ -71,7 +72,7 @@ unfolding shedders
 shedders-more totals i k v e f = ap₂ (λ (a b : ℕ). a + b) e f ∙ ap (shedders totals) (sym (add-one i))
 
 pub shedders-end : (totals : List Float) {i n k : ℕ} → k ≡ shedders totals i → i ≤ n → n ≤ i → k ≡ shedders totals n
-shedders-end totals {i} {n} e a b = let same : i ≡ n = omega arith in e ∙ ap (shedders totals) same
+shedders-end totals e a b = at-end (shedders totals) e a b
 
 shed-none : (b : Bool) (k : ℕ) → k + cond b 0 1 ≡ 0 → (k ≡ 0) × (b ≡ true)
 shed-none true k e = (omega arith, refl)

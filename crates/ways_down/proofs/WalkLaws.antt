@@ -3,13 +3,14 @@ use Prim.Native.Nat.{ℕ, _+_, _-_, _*_, _≤_, _<_}
 use native.Mathlib.Omega.{arith}
 use native.Mathlib.Decide.{decLt, ℕ-discrete}
 use mathlib.Core.Path.{_≡_, refl, sym, ap, _∙_, subst}
-use mathlib.Core.Bool.{Bool, true, false, not, cond, true≢false}
+use mathlib.Core.Bool.{Bool, true, false, not, cond}
 use mathlib.Core.List.{List, [], _∷_}
 use lib.ListN.{length, getD, set, replicate, length-set, length-replicate, getD-replicate, List·getD-eq-default}
 use lib.Seq.{getD-set-same, getD-set-other}
 use lib.Dec.{T}
 use lib.Ieee.{Float, nan, binary32, ofBits, toBits, isNan, lt, le}
 use borrow.Author.Tests.{eq-eqb, ne-eqb}
+use Rattle.lists.proofs.TestLaws.{clash}
 use Rattle.floats.proofs.BitsLaws.{plain-bits, bits-back}
 use Rattle.drainage.specs.Ways.{times}
 use Rattle.drainage.proofs.TallyLaws.{one-same, one-other}
@@ -77,7 +78,7 @@ descent-at s = trail-inside (s .trail)
 
 -- a walk goes on from no cell that is its own receiver
 goes-on : (recv : List ℕ) (out : List Float) (j : ℕ) → endsAt recv out j ≡ false → getD recv j 0 ≡ j → ⊥
-goes-on recv out j e q = true≢false (sym (ap (λ (b : Bool). cond b true (isMade (getD out (getD recv j 0) nan))) (eq-eqb (getD recv j 0) j q)) ∙ e)
+goes-on recv out j e q = clash (ap (λ (b : Bool). cond b true (isMade (getD out (getD recv j 0) nan))) (eq-eqb (getD recv j 0) j q)) e
 
 module _ {recv : List ℕ} {made : ℕ → Float} {out : List Float} {i j steps : ℕ} (s : Ascent recv i made out j steps) where
   pub ascent-at : j < length recv
@@ -213,7 +214,7 @@ pub upto-none : {n : ℕ} {made : ℕ → Float} {out : List Float} → out ≡ 
 upto-none {n} {made} {out} e =
     record {
       long = ap length e ∙ length-replicate n nan;
-      held = λ c. record { earlier = λ l. absurd (omega arith); already = λ m. absurd (true≢false (sym m ∙ none-made n out e c)) };
+      held = λ c. record { earlier = λ l. absurd (omega arith); already = λ m. absurd (clash m (none-made n out e c)) };
     }
 
 module _ {n i : ℕ} {made : ℕ → Float} {out : List Float} (u : Upto n i made out) where
