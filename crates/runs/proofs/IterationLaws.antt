@@ -11,8 +11,9 @@ use Rattle.lists.specs.Loops.{turns}
 use Rattle.lists.proofs.TurnLaws.{turns-hold, turns-kept, turns-stay}
 use Rattle.grid.specs.Heights.{allFinite}
 use Rattle.generators.specs.Marks.{reportOf}
+use Rattle.generators.specs.declared.Progress.{Progress}
 use Rattle.thermal_erosion.specs.SlidePass.{Pass, rowsOf}
-use Rattle.runs.specs.Machine.{Course, State, start, cut, openStep, closed}
+use Rattle.runs.specs.Machine.{Course, State, start, endedBy, cut, openStep, closed}
 use Rattle.runs.specs.Nested.{rowsFrom, passDone, onePass, oneOpening, passesAfter, oneIteration, iterated, nested, Due, Underway}
 use Rattle.runs.proofs.PassLaws.{pass-ended}
 
@@ -34,35 +35,33 @@ module _ (c : Course) (s : State) where
     unfolding oneIteration
     iteration-ended = passes-ended (c .passes)
 
--- rows p after which the run goes on to t: no question stopped it, every height is finite, and the pass is closed
-pub record Passed (c : Course) (s : State) (p : Pass) (t : State) : Type 0 where
-  pub unstopped : p .marks .stopped ≡ false
-  pub finite : allFinite (p .out) ≡ true
-  pub same : t ≡ closed c (p .out) (p .marks) s
+-- what a question and new heights lead to
+abbrev madeBy : Course → State → Progress → List Float → State → State
+madeBy c s m new t = cond (m .stopped) (endedBy c 21 m s) (cond (allFinite new) t (endedBy c 22 m s))
 
-done-on : (c : Course) (s : State) (p : Pass) → passDone c s p .number ≡ 0 → Passed c s p (passDone c s p)
-done-on c s p after = go (p .marks .stopped) refl (allFinite (p .out)) refl
+-- a run that goes on to u: no question stopped it, every height is finite, and u is t
+pub record Made (m : Progress) (new : List Float) (t u : State) : Type 0 where
+  pub unstopped : m .stopped ≡ false
+  pub finite : allFinite new ≡ true
+  pub same : u ≡ t
+
+made-on : (c : Course) (s : State) (m : Progress) (new : List Float) (t : State) → madeBy c s m new t .number ≡ 0 → Made m new t (madeBy c s m new t)
+made-on c s m new t after = go (m .stopped) refl (allFinite new) refl
   where
-    go : (a : Bool) → p .marks .stopped ≡ a → (b : Bool) → allFinite (p .out) ≡ b → Passed c s p (passDone c s p)
+    go : (a : Bool) → m .stopped ≡ a → (b : Bool) → allFinite new ≡ b → Made m new t (madeBy c s m new t)
     go true e b f = let z : _≡_ {A = ℕ} 21 0 = rw e at after in let n : ⊥ = omega arith in absurd n
     go false e true f = record { unstopped = e; finite = f; same = rw (e, f) }
     go false e false f = let z : _≡_ {A = ℕ} 22 0 = rw (e, f) at after in let n : ⊥ = omega arith in absurd n
 
--- likewise the opening of an iteration
-pub record Cut (c : Course) (s : State) (t : State) : Type 0 where
-  pub unstopped : reportOf (s .marks) (c .opening (s .iteration)) (c .stop) .stopped ≡ false
-  pub finite : allFinite (c .incision (s .iteration) (s .heights)) ≡ true
-  pub same : t ≡ cut c (c .incision (s .iteration) (s .heights)) (reportOf (s .marks) (c .opening (s .iteration)) (c .stop)) s
+-- by the rows p of a pass, which is closed, and by the opening of an iteration
+abbrev pub Passed : Course → State → Pass → State → Type 0
+Passed c s p = Made (p .marks) (p .out) (closed c (p .out) (p .marks) s)
 
-open-on : (c : Course) (s : State) → openStep c s .number ≡ 0 → Cut c s (openStep c s)
-open-on c s after =
-    go (reportOf (s .marks) (c .opening (s .iteration)) (c .stop) .stopped) refl (allFinite (c .incision (s .iteration) (s .heights))) refl
-  where
-    go : (a : Bool) → reportOf (s .marks) (c .opening (s .iteration)) (c .stop) .stopped ≡ a → (b : Bool)
-        → allFinite (c .incision (s .iteration) (s .heights)) ≡ b → Cut c s (openStep c s)
-    go true e b f = let z : _≡_ {A = ℕ} 21 0 = rw e at after in let n : ⊥ = omega arith in absurd n
-    go false e true f = record { unstopped = e; finite = f; same = rw (e, f) }
-    go false e false f = let z : _≡_ {A = ℕ} 22 0 = rw (e, f) at after in let n : ⊥ = omega arith in absurd n
+abbrev pub Cut : Course → State → State → Type 0
+Cut c s =
+    let m = reportOf (s .marks) (c .opening (s .iteration)) (c .stop) in
+    let new = c .incision (s .iteration) (s .heights) in
+    Made m new (cut c new m s)
 
 -- a run that goes on after a step had not ended before it
 before : (s t : State) → (eqb (s .number) 0 ≡ false → t ≡ s) → t .number ≡ 0 → s .number ≡ 0
@@ -93,7 +92,7 @@ module _ (c : Course) (s : State) where
   pub pass-on : onePass c s .number ≡ 0 → Passed c s (rowsFrom c (c .h) s) (onePass c s)
   pass-on after =
       let e : onePass c s ≡ passDone c s (rowsFrom c (c .h) s) = pass-is (pass-before after) in
-      subst (λ (t : State). Passed c s (rowsFrom c (c .h) s) t) (sym e) (done-on c s (rowsFrom c (c .h) s) (ap (λ (t : State). t .number) (sym e) ∙ after))
+      subst (λ (t : State). Passed c s (rowsFrom c (c .h) s) t) (sym e) (made-on c s _ _ _ (ap (λ (t : State). t .number) (sym e) ∙ after))
 
   pub opening-is : c .cutting ≡ true → s .number ≡ 0 → oneOpening c s ≡ openStep c s
   unfolding oneOpening
@@ -108,7 +107,7 @@ module _ (c : Course) (s : State) where
   pub opening-on : c .cutting ≡ true → oneOpening c s .number ≡ 0 → Cut c s (oneOpening c s)
   opening-on cutting after =
       let e : oneOpening c s ≡ openStep c s = opening-is cutting (opening-before after) in
-      subst (λ (t : State). Cut c s t) (sym e) (open-on c s (ap (λ (t : State). t .number) (sym e) ∙ after))
+      subst (λ (t : State). Cut c s t) (sym e) (made-on c s _ _ _ (ap (λ (t : State). t .number) (sym e) ∙ after))
 
 -- ---- places
 -- a run begins due to begin iteration 0
