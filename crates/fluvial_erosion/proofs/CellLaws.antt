@@ -17,6 +17,7 @@ use Rattle.drainage.specs.Receivers.{distanceTo}
 use Rattle.drainage.specs.Ways.{passes, areaOf, areasAlong}
 use Rattle.drainage.proofs.CountLaws.{count-le}
 use Rattle.drainage.proofs.AreaLaws.{length-areas, areas}
+use Rattle.ways.specs.Apart.{apart}
 use Rattle.ways.proofs.DistanceLaws.{distance-is}
 use Rattle.lent_receivers.proofs.ReceiverLaws.{good-is}
 use Rattle.rates.specs.Rate.{ratesOver, WholeAreas}
@@ -26,11 +27,10 @@ use Rattle.cuts.proofs.DistanceLaws.{coefficient, length-coefficients}
 use Rattle.steps.specs.Step.{Near, Steps}
 use Rattle.steps.proofs.PlaceLaws.{near-of}
 use Rattle.ways_down.specs.Settled.{madeAlong}
-use Rattle.ways_down.proofs.SettleLaws.{along-alike}
 use Rattle.fluvial_erosion.specs.Incision.{inciseAlong, incisedBy}
 use Rattle.fluvial_erosion.specs.Along.{Drains, Carved}
 use Rattle.fluvial_erosion.specs.declared.FluvialParams.{FluvialParams}
-use Rattle.fluvial_erosion.proofs.IndependenceLaws.{cut, cut-alone, cut-along}
+use Rattle.fluvial_erosion.proofs.IndependenceLaws.{cut, cut-alike}
 
 -- what `incise_cell` makes of a cell, from its coefficient and the new height of its receiver
 abbrev pub fromCoef : FluvialParams → List Float → List ℕ → ℕ → Float → Float → Float
@@ -43,6 +43,9 @@ coefficients w n p areas recv = overDistances w recv (ratesOver areas n (p .k))
 module _ {w h : ℕ} {recv list : List ℕ} (drains : Drains w h recv list) where
   receiver-near : (c : ℕ) → c < w * h → Near w c (getD recv c 0)
   receiver-near c l = near-of (some-column w h c l) (drains .sides .wide) (good-is w h c (getD recv c 0) (drains .near c l))
+
+  pub receiver-distance : (water : Float) (hs : List Float) (c : ℕ) → c < w * h → apart w c (getD recv c 0) ≡ distanceTo (gridGround w h water hs) c (getD recv c 0)
+  receiver-distance water hs c l = distance-is w h water hs c l (getD recv c 0) (good-is w h c (getD recv c 0) (drains .near c l))
 
   pub steps-of : {n : ℕ} → n ≡ w * h → Steps w n recv
   steps-of {n} e =
@@ -71,7 +74,7 @@ module _ {w h : ℕ} {recv list : List ℕ} (drains : Drains w h recv list) wher
     coef-is c l =
         coefficient w recv (ratesOver areas (ofInt binary32 (pos (w * h))) (p .k)) c (omega (arith, length-over areas (ofInt binary32 (pos (w * h))) (p .k)))
         ∙ ap₂ (div binary32) (rate-over areas (ofInt binary32 (pos (w * h))) (p .k) c (omega arith))
-        (distance-is w h (p .«water_level») hs c l (getD recv c 0) (good-is w h c (getD recv c 0) (drains .near c l)))
+        (receiver-distance (p .«water_level») hs c l)
 
     long-coefs : length coefs ≡ w * h
     long-coefs = length-coefficients w recv (ratesOver areas (ofInt binary32 (pos (w * h))) (p .k)) ∙ length-over areas (ofInt binary32 (pos (w * h))) (p .k) ∙ few
@@ -81,10 +84,7 @@ module _ {w h : ℕ} {recv list : List ℕ} (drains : Drains w h recv list) wher
         ap (λ (k : Float). cutOf (getD hs c nan) (p .uplift) (p .«water_level») k (drainedTo c (getD recv c 0) x (p .«water_level»))) (coef-is c l)
 
     pub along-is : madeAlong nan recv (fromCoef p hs recv) list coefs ≡ inciseAlong ground p areas recv list hs
-    along-is =
-        along-alike nan recv (fromCoef p hs recv) (cut ground p areas recv) (w * h) coefs hs long-coefs long alike (λ c y z l. cut-alone ground p areas recv c _ y z) list list
-        (drains .work) (drains .work)
-        ∙ sym (cut-along ground p areas recv list hs)
+    along-is = cut-alike ground p areas recv (fromCoef p hs recv) coefs hs long-coefs long alike list list (drains .work) (drains .work)
 
 -- the values once the first i entries are made: what is left to do from here is what there was to do
 pub record Incising (p : FluvialParams) (hs : List Float) (recv list : List ℕ) (start : List Float) (i : ℕ) (out : List Float) : Type 0 where

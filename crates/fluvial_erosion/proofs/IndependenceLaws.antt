@@ -33,16 +33,23 @@ module _ (g : Ground) (p : FluvialParams) (areas : List Float) (recv : List ℕ)
       incisedHeight p (g .cells) (getD areas c nan) (distanceTo g c (getD recv c 0)) own
       (cond (eqb (getD recv c 0) c) (p .«water_level») (maxOf down (p .«water_level»)))
 
-  pub cut-alone : (c : ℕ) (x y z : Float) → getD recv c 0 ≡ c → cut c x y ≡ cut c x z
+  cut-alone : (c : ℕ) (x y z : Float) → getD recv c 0 ≡ c → cut c x y ≡ cut c x z
   cut-alone c x y z e = rw (eq-eqb (getD recv c 0) c e)
 
-  pub cut-along : (list : List ℕ) (hs : List Float) → inciseAlong g p areas recv list hs ≡ madeAlong nan recv cut list hs
+  cut-along : (list : List ℕ) (hs : List Float) → inciseAlong g p areas recv list hs ≡ madeAlong nan recv cut list hs
   unfolding inciseAlong madeAlong
   cut-along [] hs = refl
   cut-along (c ∷ rest) hs = cut-along rest (set hs c (incisedAt g p areas recv hs c))
 
+  -- what is made along one list by a combination that cuts as the incision does is what the incision leaves along any
+  pub cut-alike : {n : ℕ} (make : ℕ → Float → Float → Float) (start hs : List Float) → length start ≡ n → length hs ≡ n
+      → ((c : ℕ) (x : Float) → c < n → make c (getD start c nan) x ≡ cut c (getD hs c nan) x)
+      → (a b : List ℕ) → WorkList n recv a → WorkList n recv b → madeAlong nan recv make a start ≡ inciseAlong g p areas recv b hs
+  cut-alike {n} make start hs few long alike a b v w =
+      along-alike nan recv make cut n start hs few long alike (λ c y z l. cut-alone c _ y z) a b v w ∙ sym (cut-along b hs)
+
   pub incise-same : (n : ℕ) (a b : List ℕ) (hs : List Float) → length hs ≡ n → WorkList n recv a → WorkList n recv b → inciseAlong g p areas recv a hs ≡ inciseAlong g p areas recv b hs
-  incise-same n a b hs long v w = cut-along a hs ∙ along-alike nan recv cut cut n hs hs long long (λ c x l. refl) (λ c y z l. cut-alone c _ y z) a b v w ∙ sym (cut-along b hs)
+  incise-same n a b hs long v w = cut-along a hs ∙ cut-alike cut hs hs long long (λ c x l. refl) a b v w
 
 pub independent : Independence
 unfolding incisedBy

@@ -10,20 +10,17 @@ use lib.Ieee.{Float, nan, binary32, ofInt}
 use Rattle.grid.specs.Sides.{InRange}
 use Rattle.drainage.specs.Ground.{gridGround}
 use Rattle.drainage.specs.Ways.{WorkList}
-use Rattle.ways.proofs.DistanceLaws.{distance-is}
-use Rattle.lent_receivers.proofs.ReceiverLaws.{good-is}
 use Rattle.rates.specs.Rate.{WholeAreas}
 use Rattle.cuts.specs.Cut.{incisionCoef, drainedTo, cutOf}
 use Rattle.ways_down.specs.declared.Incision.{Incision}
 use Rattle.ways_down.specs.Settled.{cutDown, settledHeights}
 use Rattle.ways_down.specs.Walk.{Ways}
-use Rattle.ways_down.proofs.SettleLaws.{along-alike}
 use Rattle.ways_down.proofs.HeightLaws.{heights-along}
 use Rattle.fluvial_erosion.specs.Incision.{inciseAlong}
 use Rattle.fluvial_erosion.specs.Along.{Drains, Lengths}
 use Rattle.fluvial_erosion.specs.declared.FluvialParams.{FluvialParams}
-use Rattle.fluvial_erosion.proofs.IndependenceLaws.{cut, cut-alone, cut-along}
-use Rattle.fluvial_erosion.proofs.CellLaws.{steps-of}
+use Rattle.fluvial_erosion.proofs.IndependenceLaws.{cut, cut-alike}
+use Rattle.fluvial_erosion.proofs.CellLaws.{receiver-distance, steps-of}
 
 -- the settings of an incision on a w × h grid, as its ways down take them
 abbrev pub onGrid : ℕ → ℕ → FluvialParams → Incision
@@ -54,12 +51,10 @@ module _ {w h : ℕ} {recv list : List ℕ} (drains : Drains w h recv list) wher
       → settledHeights (onGrid w h p) hs areas recv ≡ inciseAlong (gridGround w h (p .«water_level») hs) p areas recv list hs
   ways-along p areas hs long =
       heights-along (onGrid w h p) hs areas recv list work (long ∙ sym (drains .along .receivers))
-      ∙ along-alike nan recv (cutDown (onGrid w h p) areas recv) (cut (gridGround w h (p .«water_level») hs) p areas recv) (w * h) hs hs long long alike
-      (λ c y z l. cut-alone (gridGround w h (p .«water_level») hs) p areas recv c _ y z) list list (drains .work) (drains .work)
-      ∙ sym (cut-along (gridGround w h (p .«water_level») hs) p areas recv list hs)
+      ∙ cut-alike (gridGround w h (p .«water_level») hs) p areas recv (cutDown (onGrid w h p) areas recv) hs hs long long alike list list (drains .work) (drains .work)
     where
       alike : (c : ℕ) (x : Float) → c < w * h → cutDown (onGrid w h p) areas recv c (getD hs c nan) x ≡ cut (gridGround w h (p .«water_level») hs) p areas recv c (getD hs c nan) x
       alike c x l =
           ap
           (λ (d : Float). cutOf (getD hs c nan) (p .uplift) (p .«water_level») (incisionCoef (getD areas c nan) (ofInt binary32 (pos (w * h))) (p .k) d) (drainedTo c (getD recv c 0) x (p .«water_level»)))
-          (distance-is w h (p .«water_level») hs c l (getD recv c 0) (good-is w h c (getD recv c 0) (drains .near c l)))
+          (receiver-distance drains (p .«water_level») hs c l)
