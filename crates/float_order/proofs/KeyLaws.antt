@@ -1,12 +1,12 @@
 -- The key follows the order of numbers. The bits of a size grow with it, and they are turned over exactly where the sign is set; that they grow
 -- strictly follows from the bits' telling floats apart.
-use mathlib.Core.Path.{_≡_, refl, sym, ap, _∙_, subst, subst₂}
+use mathlib.Core.Path.{_≡_, refl, sym, _∙_, subst, subst₂}
 use mathlib.Core.Logic.{_⊎_, inl, inr}
 use mathlib.Core.Bool.{Bool, true, false, cond}
 use Prim.Native.Nat.{ℕ, _+_, _-_, _*_, _/_, _^_, _≤_, _<_}
 use native.Mathlib.Nat.{eq-or-lt-of-le, lt-irrefl, lt-of-le-of-lt, lt-of-not-le, le-of-suc-le-suc, not-le-of-lt, le-div-iff-mul-le}
 use native.Mathlib.Omega.{arith}
-use borrow.Author.Tests.{leb-true, leb-false, le-leb, lt-leb}
+use borrow.Author.Tests.{leb-true, leb-false}
 use lib.Arith.{lt-of-le-ne}
 use lib.Dec.{T, leb}
 use lib.Pow.{pow-add, pow-pos, shr-mono}
@@ -15,7 +15,7 @@ use lib.Ieee.Bits.{toBits-lt}
 use lib.Ieee.Digits.{size-lt, size-le, size-reaches}
 use lib.Ieee.Fits.{kept-lt}
 use Rattle.floats.specs.Key.{folded, keyOf}
-use Rattle.floats.proofs.BitsLaws.{key-narrow}
+use Rattle.floats.proofs.BitsLaws.{folded-high, folded-low, key-narrow}
 use Rattle.float_order.specs.Order.{Number, signOf, unitsOf, signed, rank, KeyFollowsOrder}
 use Rattle.float_order.proofs.ValueLaws.{bits-unique}
 use Rattle.float_order.proofs.SizeLaws.{rank-is, units-le, bits-is}
@@ -53,8 +53,8 @@ digits-lt n h = omega (arith, digits-le n h)
 
 key-folds : (s : Bool) (b k q : ℕ) → k * 2 ^ 23 + q ≤ 255 * 2 ^ 23 → b ≡ cond s (2 ^ 31) 0 + k * 2 ^ 23 + q
     → folded b ≡ cond s (2 ^ 31 - 1 - (k * 2 ^ 23 + q)) (2 ^ 31 + (k * 2 ^ 23 + q))
-key-folds true b k q h e = ap (λ (t : Bool). cond t (2 ^ 32 - 1 - b) (2 ^ 31 + b)) (le-leb (2 ^ 31) b (omega arith)) ∙ omega arith
-key-folds false b k q h e = ap (λ (t : Bool). cond t (2 ^ 32 - 1 - b) (2 ^ 31 + b)) (lt-leb (2 ^ 31) b (omega arith)) ∙ omega arith
+key-folds true b k q h e = folded-high b (omega arith) ∙ omega arith
+key-folds false b k q h e = folded-low b (omega arith) ∙ omega arith
 
 key-is : (x : Float) → Number x → keyOf x ≡ cond (signOf x) (2 ^ 31 - 1 - digits (unitsOf x)) (2 ^ 31 + digits (unitsOf x))
 unfolding digits

@@ -38,11 +38,18 @@ no-nan nan h = absurd (true≢false h)
 no-nan (inf s) h = tt
 no-nan (fin s m e) h = tt
 
+-- a pattern with its sign set, and one with its sign clear
+pub folded-high : (b : ℕ) → 2 ^ 31 ≤ b → folded b ≡ 2 ^ 32 - 1 - b
+folded-high b h = ap (λ (t : Bool). cond t (2 ^ 32 - 1 - b) (2 ^ 31 + b)) (le-leb (2 ^ 31) b h)
+
+pub folded-low : (b : ℕ) → b < 2 ^ 31 → folded b ≡ 2 ^ 31 + b
+folded-low b h = ap (λ (t : Bool). cond t (2 ^ 32 - 1 - b) (2 ^ 31 + b)) (lt-leb (2 ^ 31) b h)
+
 pub key-high : (x : Float) (b : ℕ) → b ≡ toBits binary32 x → 2 ^ 31 ≤ b → 2 ^ 32 - 1 - b ≡ keyOf x
-key-high x b e h = sym (ap (λ (t : Bool). cond t (2 ^ 32 - 1 - b) (2 ^ 31 + b)) (le-leb (2 ^ 31) b h)) ∙ ap folded e
+key-high x b e h = sym (folded-high b h) ∙ ap folded e
 
 pub key-low : (x : Float) (b : ℕ) → b ≡ toBits binary32 x → b < 2 ^ 31 → 2 ^ 31 + b ≡ keyOf x
-key-low x b e h = sym (ap (λ (t : Bool). cond t (2 ^ 32 - 1 - b) (2 ^ 31 + b)) (lt-leb (2 ^ 31) b h)) ∙ ap folded e
+key-low x b e h = sym (folded-low b h) ∙ ap folded e
 
 -- a key is a u32, whatever the float
 pub key-narrow : (x : Float) → keyOf x < 2 ^ 32

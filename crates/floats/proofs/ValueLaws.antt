@@ -70,14 +70,17 @@ held f s (suc m) e t =
 pub pow-back : (a l : ℕ) → 2 ^ a ≤ 2 ^ l → a ≤ l
 pow-back a l h = le-of-suc-le-suc (lt-of-not-le (λ (g : suc l ≤ a). lt-irrefl (2 ^ l) (lt-of-lt-of-le (pow-lt g) h)))
 
+-- the powers of two in a product
+pub gather : (s a b : ℕ) → s * 2 ^ a * 2 ^ b ≡ s * 2 ^ (a + b)
+gather s a b = mul-assoc s (2 ^ a) (2 ^ b) ∙ ap (λ (z : ℕ). s * z) (sym (pow-add 2 a b))
+
 in-units : (l m : ℕ) (e : ℤ) → down e ≤ 2 ^ l → (j : ℕ) × (m * up e * 2 ^ l ≡ m * 2 ^ j * down e)
-in-units l m (pos k) h = (k + l, mul-assoc m (2 ^ k) (2 ^ l) ∙ ap (λ (z : ℕ). m * z) (sym (pow-add 2 k l)) ∙ sym (mul-one (m * 2 ^ (k + l))))
+in-units l m (pos k) h = (k + l, gather m k l ∙ sym (mul-one (m * 2 ^ (k + l))))
 in-units l m (negsuc k) h = (
   l - suc k,
   ap (λ (z : ℕ). z * 2 ^ l) (mul-one m)
       ∙ ap (λ (z : ℕ). m * 2 ^ z) (sym (sub-add-cancel (pow-back (suc k) l h)))
-      ∙ ap (λ (z : ℕ). m * z) (pow-add 2 (l - suc k) (suc k))
-      ∙ sym (mul-assoc m (2 ^ (l - suc k)) (2 ^ suc k)),
+      ∙ sym (gather m (l - suc k) (suc k)),
 )
 
 -- ---- what a format holds, times a power of two, is exact as long as it does not overflow
@@ -91,7 +94,7 @@ round-scaled f s m e t num den h D fine k =
     mul-right-comm (m * up e) (2 ^ t) (2 ^ l)
     ∙ ap (λ (z : ℕ). z * 2 ^ t) (u .1)
     ∙ mul-right-comm (m * 2 ^ j) (down e) (2 ^ t)
-    ∙ ap (λ (z : ℕ). z * down e) (mul-assoc m (2 ^ j) (2 ^ t) ∙ ap (λ (z : ℕ). m * z) (sym (pow-add 2 j t))) in
+    ∙ ap (λ (z : ℕ). z * down e) (gather m j t) in
     let under : m * 2 ^ (j + t) * down e < 2 ^ (l + suc (emax f)) * down e =
     subst (λ (z : ℕ). z < 2 ^ (l + suc (emax f)) * down e) scaled
     (subst (λ (z : ℕ). m * up e * 2 ^ t * 2 ^ l < z) (mul-right-comm (2 ^ suc (emax f)) (down e) (2 ^ l) ∙ ap (λ (z : ℕ). z * down e) (mul-comm (2 ^ suc (emax f)) (2 ^ l) ∙ sym (pow-add 2 l (suc (emax f)))))

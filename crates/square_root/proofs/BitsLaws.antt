@@ -2,7 +2,7 @@
 use mathlib.Core.Path.{_≡_, refl, sym, ap, _∙_, subst}
 use mathlib.Core.Bool.{Bool, false, not, cond}
 use Prim.Native.Nat.{ℕ, suc, _+_, _-_, _*_, _/_, _%_, _^_, _≤_, _<_}
-use native.Mathlib.Nat.{mul-assoc, mul-right-comm, mul-one, mul-le-mul-right, mod-eq-of-lt, mul-div-cancel, eq-of-mul-eq-mul-right, lt-of-lt-of-le, lt-of-not-le, not-le-of-lt, zero-add, suc-add}
+use native.Mathlib.Nat.{mul-right-comm, mul-one, mul-le-mul-right, mod-eq-of-lt, mul-div-cancel, eq-of-mul-eq-mul-right, lt-of-lt-of-le, lt-of-not-le, not-le-of-lt, zero-add, suc-add}
 use native.Mathlib.Omega.{arith}
 use borrow.Author.Tests.{lt-leb, ne-eqb}
 use lib.Dec.{T, eqb}
@@ -13,11 +13,9 @@ use lib.Ieee.Digits.{size-lt, size-le}
 use lib.Ieee.Fits.{down-pos}
 use lib.Ieee.Exact.{HasValue, odd-sign}
 use Rattle.floats.proofs.BitsLaws.{no-nan-pattern}
+use Rattle.floats.proofs.ValueLaws.{gather}
 
 -- ---- powers and fractions
-
-pub gather : (s a b : ℕ) → s * 2 ^ a * 2 ^ b ≡ s * 2 ^ (a + b)
-gather s a b = mul-assoc s (2 ^ a) (2 ^ b) ∙ ap (λ (z : ℕ). s * z) (sym (pow-add 2 a b))
 
 -- two products with the same power of two in them
 pub pow-same : (s a b c d : ℕ) → a + b ≡ c + d → s * 2 ^ a * 2 ^ b ≡ s * 2 ^ c * 2 ^ d

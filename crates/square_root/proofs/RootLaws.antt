@@ -12,11 +12,12 @@ use lib.Ieee.Digits.{size-le}
 use lib.Ieee.Fits.{round-fits, down-pos}
 use lib.Ieee.Bits.{ofBits-toBits}
 use lib.Ieee.Exact.{HasValue, round-exact}
+use Rattle.floats.proofs.ValueLaws.{gather}
 use Rattle.square_root.specs.Root.{rootOf, nearestRoot}
 use Rattle.square_root.specs.Rooted.{NearestRoot}
 use Rattle.square_root.specs.Inner.{scaledTo, bitsOf}
 use Rattle.square_root.proofs.WholeLaws.{Near, nearest-near, near-low, near-high}
-use Rattle.square_root.proofs.BitsLaws.{gather, pow-same, rescale, size-above, bits-at}
+use Rattle.square_root.proofs.BitsLaws.{pow-same, rescale, size-above, bits-at}
 
 -- ---- q * 2 ^ (k + 1) in units of 2 ^ -150, rounded: nothing is lost, and the bits are a sum
 
