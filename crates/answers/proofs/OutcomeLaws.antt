@@ -4,7 +4,8 @@ use native.Mathlib.Omega.{arith}
 use mathlib.Core.Path.{_≡_, refl, sym, ap, _∙_}
 use mathlib.Core.Bool.{Bool, true, false, cond, false≢true}
 use Rattle.lists.proofs.TestLaws.{clash, not-first, not-second}
-use Rattle.answers.specs.Outcome.{Outcome, gives, refused, refusedAt, refusalOf, given, numberOf, placeOf}
+use Rattle.answers.specs.Outcome.{Outcome, gives, refused, refusedAt, refusalOf, answerOf, given, numberOf, placeOf}
+use Rattle.answers.specs.declared.Answer.{Answer}
 use Rattle.answers.specs.declared.Refusal.{Refusal}
 use Rattle.answers.specs.declared.Refusal.the-variants.{Side, ReducedSide, Length, Setting, Height, Receiver, List, Stream, Cells, Stopped, RunOff}
 
@@ -23,8 +24,11 @@ refusal-by P alone at Cells = alone 9 (omega arith)
 refusal-by P alone at Stopped = alone 21 (omega arith)
 refusal-by P alone at RunOff = alone 22 (omega arith)
 
-pub refusal-given : (r : Refusal) → given (refusalOf {A = Unit {0}} r) ≡ false
+refusal-given : (r : Refusal) → given (refusalOf {A = Unit {0}} r) ≡ false
 refusal-given = refusal-by (λ o n p. given (o (Unit {0})) ≡ false) (λ n l. refl) (λ n p l. refl)
+
+pub refused-given : {a : Answer} {r : Refusal} → a ≡ Answer.Refused r → given (answerOf a) ≡ false
+refused-given {a} {r} e = ap (λ (b : Answer). given (answerOf b)) e ∙ refusal-given r
 
 -- what a call gives is no refusal
 never-given : {A : Type 0} {o : Outcome A} {x : A} → given o ≡ false → o ≡ gives x → ⊥

@@ -10,12 +10,12 @@ use lib.Dec.{eqb, ltb}
 use lib.Ieee.{Float}
 use borrow.Author.Tests.{lt-ltb, le-ltb, ltb-false, eqb-true, not-false}
 use Rattle.lists.proofs.TestLaws.{neither, through}
-use Rattle.answers.specs.Outcome.{Outcome, gives, refused, refusedAt, answerOf, given}
+use Rattle.answers.specs.Outcome.{Outcome, gives, refused, refusedAt, answerOf}
 use Rattle.answers.specs.declared.Answer.{Answer}
 use Rattle.answers.specs.declared.Refusal.{Refusal}
 use Rattle.grid.specs.Sides.{badSides, InRange}
 use Rattle.grid.specs.Heights.{firstNotFinite, allFinite}
-use Rattle.answers.proofs.OutcomeLaws.{refusal-given, not-refused, byOutcome, refused-whole, refused-kept, accepted-then}
+use Rattle.answers.proofs.OutcomeLaws.{refused-given, not-refused, byOutcome, refused-whole, refused-kept, accepted-then}
 use Rattle.grid.proofs.SidesLaws.{good-sides, cells-bound, cell-back}
 use Rattle.grid.proofs.HeightsLaws.{all-finite, not-all-finite}
 use Rattle.lent_receivers.specs.Receivers.{firstBadReceiver, receiverTest}
@@ -183,7 +183,7 @@ module _ (w h : ℕ) (hs : List Float) (p : FluvialParams) (recv list : List ℕ
   -- a refusal of the input leaves both slices as they were
   pub made-refused : (r : Answer) (q : Refusal) → answerOf r ≡ decided w h hs p recv list (length old) (length scratch) → r ≡ Answer.Refused q → InciseMade w h hs p recv list old scratch r old scratch
   made-refused r q d e =
-      let none : given (answerOf r) ≡ false = ap (λ (r : Answer). given (answerOf r)) e ∙ refusal-given q in
+      let none = refused-given e in
       record { answer = refused-whole own same (answerOf r) d none _; result = refused-kept own same (answerOf r) d none old _; areas = refused-kept own same (answerOf r) d none scratch _ }
 
   -- an accepted input is incised

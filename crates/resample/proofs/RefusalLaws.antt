@@ -8,11 +8,11 @@ use lib.Dec.{eqb, ltb}
 use lib.Ieee.{Float}
 use borrow.Author.Tests.{eqb-true, eqb-false, ltb-false, not-false}
 use Rattle.lists.proofs.TestLaws.{neither, through}
-use Rattle.answers.specs.Outcome.{Outcome, gives, refused, answerOf, given}
+use Rattle.answers.specs.Outcome.{Outcome, gives, refused, answerOf}
 use Rattle.answers.specs.declared.Answer.{Answer}
 use Rattle.answers.specs.declared.Refusal.{Refusal}
 use Rattle.grid.specs.Sides.{badSides}
-use Rattle.answers.proofs.OutcomeLaws.{refusal-given, not-refused, byOutcome, refused-whole, refused-kept}
+use Rattle.answers.proofs.OutcomeLaws.{refused-given, not-refused, byOutcome, refused-whole, refused-kept}
 use Rattle.grid.proofs.SidesLaws.{good-sides}
 use Rattle.resample.specs.WorkSize.{Within}
 use Rattle.resample.specs.Blocks.{badReduced, shapeRefusal}
@@ -46,7 +46,7 @@ module _ (w h len dw dh dlen : ℕ) where
   pub shape-refused : (a : Answer) (r : Refusal) → answerOf a ≡ shapeRefusal w h len dw dh dlen refused (gives tt) → a ≡ Answer.Refused r
       → ((x : Outcome (Unit {0})) → answerOf a ≡ shapeRefusal w h len dw dh dlen refused x) × ((d x : List Float) → d ≡ shapeRefusal w h len dw dh dlen (λ n. d) x)
   shape-refused a r e f =
-      let none : given (answerOf a) ≡ false = ap (λ (b : Answer). given (answerOf b)) f ∙ refusal-given r in
+      let none = refused-given f in
       (refused-whole tests alike (answerOf a) e none, refused-kept tests alike (answerOf a) e none)
 
 -- an accepted shape: no test holds, the reduced grid lies within the full one, and both slices are their grid's

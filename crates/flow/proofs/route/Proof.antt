@@ -1,7 +1,7 @@
 use Rattle.flow.specs.Route.{lentOf}
 use mathlib.Core.Path.{refl, sym, ap, _∙_}
 use Rattle.answers.specs.Outcome.{answerOf, given}
-use Rattle.answers.proofs.OutcomeLaws.{refusal-given}
+use Rattle.answers.proofs.OutcomeLaws.{refused-given}
 use Rattle.flow.proofs.RouteLaws.{answered, accepted-enough, accepted-grid, routed-refused, routed-done}
 use borrow.Author.Needs.{needs}
 use Rattle.flow.proofs.route.Statement.{statement}
@@ -17,7 +17,7 @@ enum-told-2 : tie.Need-enum-told-2
 enum-told-2 c = search needs
 
 returns : tie.Need-returns
-returns c = routed-refused _ _ _ _ _ _ _ _ _ _ _ (c .before .before .refusal .ensures) (ap (λ a. given (answerOf a)) (c .enum-told2 .given .1) ∙ refusal-given (c .enum-told2 .given .0 .0))
+returns c = routed-refused _ _ _ _ _ _ _ _ _ _ _ (c .before .before .refusal .ensures) (refused-given (c .enum-told2 .given .1))
 
 route-grid-requires : tie.Need-route-grid-requires
 route-grid-requires c κs =
