@@ -1,6 +1,5 @@
 -- The coefficients of all cells and the incision of one, with the two formulas of document 01, 'Incision'.
 use Prim.Native.Nat.{ℕ, _+_, _<_}
-use mathlib.Core.Path.{_≡_}
 use mathlib.Core.Bool.{Bool, _||_, cond}
 use mathlib.Core.List.{List}
 use lib.ListN.{length, getD}

@@ -7,8 +7,7 @@ use mathlib.Core.List.{List}
 use native.Mathlib.Nat.{eq-or-lt-of-le, add-zero, add-suc}
 use native.Mathlib.Omega.{arith}
 use lib.Dec.{eqb, ltb}
-use lib.ListN.{length, getD, take}
-use lib.Seq.{take-at}
+use lib.ListN.{length, getD}
 use borrow.Author.Tests.{eqb-true, ne-eqb, lt-ltb, le-ltb}
 use Rattle.drainage.specs.Ground.{Ground, Kind}
 use Rattle.drainage.specs.Flood.{Flood, pushAll, leave, waits, leastWaiting, step, floodAfter, flooded}
@@ -77,14 +76,6 @@ module _ {H : Type 0} (k : Kind H) (g : Ground) (hs : List H) where
             | inr m ↦ m
           ];
         }
-
-    -- the order after i steps is how the whole order begins
-    pub floodAfter-prefix : (i j : ℕ) → i ≤ g .cells → take i (floodAfter k g hs (i + j) .order) ≡ floodAfter k g hs i .order
-    floodAfter-prefix i j l =
-        ap (take i) (later .order) ∙ take-at (floodAfter k g hs i .order) (later .rest) i (floodAfter-stage i l .left)
-      where
-        later : Later (k .absent) (floodAfter k g hs i) (floodAfter k g hs (i + j))
-        later = floodAfter-later k g hs many i j
 
     -- in the end nobody waits, and further steps do nothing
     pub flooded-nobody : leastWaiting k g hs (flooded k g hs) ≡ g .cells

@@ -15,7 +15,7 @@ use Rattle.lists.proofs.LoopLaws.{at-end}
 use Rattle.generators.specs.Marks.{reportOf}
 use Rattle.runs.specs.Machine.{Course, State, start}
 use Rattle.runs.specs.Nested.{onePass, oneOpening, passesAfter, oneIteration, iterated, nested, Due, Underway, Bounded}
-use Rattle.runs.proofs.IterationLaws.{opening-none, due-iterated, underway-iterated, iteration-stays, nested-stays}
+use Rattle.runs.proofs.IterationLaws.{opening-none, due-iterated, underway-iterated, nested-stays}
 use Rattle.runs.proofs.BoundLaws.{asked-room, asked-due}
 use Rattle.erosion.specs.Reached.{Worked, seen, begun, afterPass, PassReady}
 use Rattle.erosion.specs.declared.Reached.{Reached}
@@ -66,12 +66,6 @@ module _ (c : Course) (hs : List Float) where
     unfolding oneIteration
     sliding-done q e f =
         e ∙ ap (λ (n : ℕ). seen (passesAfter c n (iterated c it hs))) f ∙ ap seen (sym (turns-more (λ i. oneIteration c) it (start c hs)))
-
-    -- 21 or 22 ended the run in one of them, or in the opening
-    pub sliding-ended : (q : ℕ) {map : List Float} {r : Reached} → worked map r ≡ seen (passesAfter c q (iterated c it hs)) → q ≤ c .passes → (r .number ≡ 0 → ⊥)
-        → worked map r ≡ seen (iterated c (it + 1) hs)
-    sliding-ended q e l z =
-        e ∙ ap seen (sym (iteration-stays c (iterated c it hs) q l (ended-number (passesAfter c q (iterated c it hs)) e z)) ∙ sym (turns-more (λ i. oneIteration c) it (start c hs)))
 
     module _ (q : ℕ) {map : List Float} {r : Reached} (some : q < c .passes) (s : Sliding c hs it q map r) where
       underway : Underway c it q (passesAfter c q (iterated c it hs))

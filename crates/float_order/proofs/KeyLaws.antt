@@ -10,7 +10,7 @@ use borrow.Author.Tests.{leb-true, leb-false}
 use lib.Arith.{lt-of-le-ne}
 use lib.Dec.{T, leb}
 use lib.Pow.{pow-add, pow-pos, shr-mono}
-use lib.Ieee.{Float, binary32, size, lt, fits, toBits}
+use lib.Ieee.{Float, binary32, size, fits, toBits}
 use lib.Ieee.Bits.{toBits-lt}
 use lib.Ieee.Digits.{size-lt, size-le, size-reaches}
 use lib.Ieee.Fits.{kept-lt}
@@ -19,7 +19,6 @@ use Rattle.floats.proofs.BitsLaws.{folded-high, folded-low, key-narrow}
 use Rattle.float_order.specs.Order.{Number, signOf, unitsOf, signed, rank, KeyFollowsOrder}
 use Rattle.float_order.proofs.ValueLaws.{bits-unique}
 use Rattle.float_order.proofs.SizeLaws.{rank-is, units-le, bits-is}
-use Rattle.float_order.proofs.RankLaws.{lt-true}
 
 -- ---- the bits of a size of n units grow with n
 
@@ -95,9 +94,6 @@ key-lt x y p q h =
     (ordered (2 ^ 277) (2 ^ 31) a b (digits a) (digits b) (signOf x) (signOf y) (units-le x p) (units-le y q) (digits-lt a (units-le x p)) (digits-lt b (units-le y q))
     (digits-mono a b) (digits-mono b a) (subst₂ (λ (u v : ℕ). u < v) (rank-is x p) (rank-is y q) h)) in
     lt-of-le-ne weak (λ e. lt-irrefl (rank y) (subst (λ (z : Float). rank z < rank y) (key-unique x y (p .fit) (q .fit) e) h))
-
-pub lt-key : (x y : Float) → Number x → Number y → lt x y ≡ true → keyOf x < keyOf y
-lt-key x y p q h = key-lt x y p q (lt-true x y p q h)
 
 pub key-le : (x y : Float) → Number x → Number y → keyOf x ≤ keyOf y → rank x ≤ rank y
 key-le x y p q h = le-of-suc-le-suc (lt-of-not-le (λ (g : rank y < rank x). not-le-of-lt (key-lt y x q p g) h))

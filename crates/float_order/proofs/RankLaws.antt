@@ -6,10 +6,10 @@ use mathlib.Core.Bool.{Bool, true, false, cond}
 use Prim.Native.Nat.{ℕ, _^_, _≤_, _<_, max}
 use native.Mathlib.Nat.{max-eq-left, max-eq-right, le-of-lt}
 use native.Mathlib.Omega.{arith}
-use borrow.Author.Tests.{ltb-true, ltb-false, leb-true, leb-false, eqb-true, lt-ltb, le-ltb, le-leb, lt-leb}
+use borrow.Author.Tests.{leb-true, leb-false, le-leb}
 use lib.Dec.{T}
 use lib.IntN.{pos}
-use lib.Ieee.{Float, nan, inf, fin, binary32, lt, le, eq, fits, isNan}
+use lib.Ieee.{Float, nan, inf, fin, binary32, le, fits, isNan}
 use lib.Ieee.Scale.{finite}
 use Rattle.floats.specs.Stand.{maxOf}
 use Rattle.float_order.specs.Order.{Number, signOf, unitsOf, signed, rank, Zero, RankFollowsOrder}
@@ -25,47 +25,14 @@ finite-number (fin s m e) p f = record { fit = p; real = tt }
 -- ---- a test on two numbers, as a fact of their ranks, and back
 
 module _ (x y : Float) (p : Number x) (q : Number y) where
-  pub lt-true : lt x y ≡ true → rank x < rank y
-  lt-true h = ltb-true (rank x) (rank y) (sym (lt-is x y p q) ∙ h)
-
-  pub lt-false : lt x y ≡ false → rank y ≤ rank x
-  lt-false h = ltb-false (rank x) (rank y) (sym (lt-is x y p q) ∙ h)
-
   pub le-true : le x y ≡ true → rank x ≤ rank y
   le-true h = leb-true (rank x) (rank y) (sym (le-is x y p q) ∙ h)
 
   pub le-false : le x y ≡ false → rank y < rank x
   le-false h = leb-false (rank x) (rank y) (sym (le-is x y p q) ∙ h)
 
-  pub eq-true : eq x y ≡ true → rank x ≡ rank y
-  eq-true h = eqb-true (rank x) (rank y) (sym (eq-is x y p q) ∙ h)
-
-  pub rank-lt : rank x < rank y → lt x y ≡ true
-  rank-lt h = lt-is x y p q ∙ lt-ltb (rank x) (rank y) h
-
-  pub rank-not-lt : rank y ≤ rank x → lt x y ≡ false
-  rank-not-lt h = lt-is x y p q ∙ le-ltb (rank x) (rank y) h
-
   pub rank-le : rank x ≤ rank y → le x y ≡ true
   rank-le h = le-is x y p q ∙ le-leb (rank x) (rank y) h
-
-  pub rank-not-le : rank y < rank x → le x y ≡ false
-  rank-not-le h = le-is x y p q ∙ lt-leb (rank x) (rank y) h
-
--- ---- a total order, in which only numbers of one rank are at most each other
-
-pub num-le-total : (x y : Float) → Number x → Number y → (le x y ≡ true) ⊎ (le y x ≡ true)
-num-le-total x y p q = go (le x y) refl
-  where
-    go : (b : Bool) → le x y ≡ b → (le x y ≡ true) ⊎ (le y x ≡ true)
-    go true h = inl h
-    go false h = inr (rank-le y x q p (le-of-lt (le-false x y p q h)))
-
-pub num-le-trans : (x y z : Float) → Number x → Number y → Number z → le x y ≡ true → le y z ≡ true → le x z ≡ true
-num-le-trans x y z p q r h k = rank-le x z p r (omega (arith, le-true x y p q h, le-true y z q r k))
-
-pub num-le-antisymm : (x y : Float) → Number x → Number y → le x y ≡ true → le y x ≡ true → rank x ≡ rank y
-num-le-antisymm x y p q h k = omega (arith, le-true x y p q h, le-true y x q p k)
 
 -- ---- the greater of two
 

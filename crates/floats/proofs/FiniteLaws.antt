@@ -1,13 +1,13 @@
 -- Finite as two comparisons with the infinities; and that every stand-in's result is a binary32 value.
-use Prim.Native.Nat.{ℕ, _+_, _-_, _*_, _/_}
+use Prim.Native.Nat.{ℕ, _-_, _*_}
 use mathlib.Core.Path.{_≡_, refl, sym}
 use mathlib.Core.Bool.{Bool, true, false}
 use lib.Dec.{T}
 use lib.Ieee.{Float, nan, inf, fin, binary32, up, down, lt, le, fits}
-use lib.Ieee.Fits.{cond-fits, nan-fits, inf-fits, round-fits, sub-fits}
+use lib.Ieee.Fits.{cond-fits, nan-fits, inf-fits, round-fits}
 use lib.Ieee.Exact.{HasValue}
 use lib.Ieee.Scale.{finite}
-use Rattle.floats.specs.Stand.{maxOf, wholeBy, truncOf, ceilOf, fractOf}
+use Rattle.floats.specs.Stand.{maxOf, wholeBy}
 
 -- above -∞: finite exactly if below +∞
 pub above-low : (x : Float) → lt (inf true) x ≡ true → lt x (inf false) ≡ finite x
@@ -34,16 +34,6 @@ unfolding wholeBy
 whole-fits q nan = nan-fits binary32
 whole-fits q (inf s) = inf-fits binary32 s
 whole-fits q (fin s m e) = round-fits binary32 s (q (m * up e) (down e)) 1
-
-pub ceilOf-fits : (x : Float) → T (fits binary32 (ceilOf x))
-unfolding ceilOf
-ceilOf-fits nan = nan-fits binary32
-ceilOf-fits (inf s) = inf-fits binary32 s
-ceilOf-fits (fin true m e) = round-fits binary32 true (m * up e / down e) 1
-ceilOf-fits (fin false m e) = round-fits binary32 false ((m * up e + (down e - 1)) / down e) 1
-
-pub fractOf-fits : (x : Float) → T (fits binary32 (fractOf x))
-fractOf-fits x = sub-fits binary32 x (truncOf x)
 
 pub value-finite : (x : Float) (s : Bool) (a c : ℕ) → HasValue x s a c → T (finite x)
 value-finite (fin t m e) s a c v = tt

@@ -211,15 +211,6 @@ module _ (m : ℕ) (e : ℤ) (n : ℕ) (h : n ≤ 2 ^ 24) where
   pub lt-ofInt : lt (fin false m e) (ofInt binary32 (pos n)) ≡ ltb (m * up e) (n * down e)
   lt-ofInt = lt-values (fin false m e) (ofInt binary32 (pos n)) false false (m * up e) (down e) n 1 (down-pos e) (pow-pos 0) (refl, refl) (ofInt-value n h) ∙ ap (λ (z : ℕ). ltb z (n * down e)) (mul-one (m * up e))
 
-  pub ofInt-lt : lt (ofInt binary32 (pos n)) (fin false m e) ≡ ltb (n * down e) (m * up e)
-  ofInt-lt = lt-values (ofInt binary32 (pos n)) (fin false m e) false false n 1 (m * up e) (down e) (pow-pos 0) (down-pos e) (ofInt-value n h) (refl, refl) ∙ ap (λ (z : ℕ). ltb (n * down e) z) (mul-one (m * up e))
-
-  pub le-ofInt : le (fin false m e) (ofInt binary32 (pos n)) ≡ leb (m * up e) (n * down e)
-  le-ofInt = le-positive (fin false m e) (ofInt binary32 (pos n)) (m * up e) (down e) n 1 (down-pos e) (pow-pos 0) (refl, refl) (ofInt-value n h) ∙ ap (λ (z : ℕ). leb z (n * down e)) (mul-one (m * up e))
-
-  pub ofInt-le : le (ofInt binary32 (pos n)) (fin false m e) ≡ leb (n * down e) (m * up e)
-  ofInt-le = le-positive (ofInt binary32 (pos n)) (fin false m e) n 1 (m * up e) (down e) (pow-pos 0) (down-pos e) (ofInt-value n h) (refl, refl) ∙ ap (λ (z : ℕ). leb (n * down e) z) (mul-one (m * up e))
-
 -- ---- the cut to a whole number, by any fraction that the float equals
 pub cut-value : (w : ℕ) (x : Float) (a c : ℕ) → 0 < c → HasValue x false a c → toUnsigned w x ≡ min (a / c) (2 ^ w - 1)
 unfolding toUnsigned

@@ -230,13 +230,6 @@ module _ (s : Bool) (m : ℕ) (e : ℤ) (t : T (fits binary32 (fin s m e))) wher
   unfolding wholeBy
   truncOf-value = whole-value (λ (d : ℕ). m * up e / d) (div-one (m * up e)) (λ h. le-of-lt (wider (m * up e / down e) (less-cut (m * up e) (down e) (down-pos e) h)))
 
-  pub roundOf-value : HasValue (roundOf (fin s m e)) s ((2 * (m * up e) + down e) / (2 * down e)) 1
-  unfolding wholeBy
-  roundOf-value = whole-value (λ (d : ℕ). (2 * (m * up e) + d) / (2 * d)) (half-up (m * up e)) (λ h. div-le-of-le-mul (2 * down e) (most (m * up e) (down e) h))
-    where
-      most : (a d : ℕ) → a < 2 ^ 23 * d → 2 * a + d ≤ 2 * d * 2 ^ 24
-      most a d h = omega arith
-
 pub ceilOf-value : (m : ℕ) (e : ℤ) → T (fits binary32 (fin false m e)) → HasValue (ceilOf (fin false m e)) false ((m * up e + (down e - 1)) / down e) 1
 unfolding ceilOf
 ceilOf-value m e t = whole-value false m e t (λ (d : ℕ). (m * up e + (d - 1)) / d) (up-none (m * up e)) (λ h. div-le-of-le-mul (down e) (most (m * up e) (down e) h))

@@ -2,10 +2,9 @@
 use Prim.Native.Nat.{ℕ, _+_, _-_, _^_, _≤_, _<_}
 use mathlib.Core.Path.{_≡_, refl, sym, ap, _∙_}
 use mathlib.Core.Bool.{Bool, true, false, not, cond}
-use mathlib.Core.Logic.{_⊎_, inl, inr}
 use native.Mathlib.Nat.{le-refl}
 use native.Mathlib.Omega.{arith}
-use borrow.Author.Tests.{eqb-true, ltb-false}
+use borrow.Author.Tests.{ltb-false}
 use lib.Dec.{eqb}
 use lib.Ieee.{Float, binary32, ofBits, neg}
 use Rattle.lists.proofs.TestLaws.{fourth}
@@ -43,14 +42,8 @@ module _ (m : Progress) (p : Float) (s : ℕ) where
       go false true = new
       go false false = kept
 
-  pub report-asked-least : m .asked ≤ reportOf m p s .asked
-  report-asked-least = report-cases (λ r. m .asked ≤ r .asked) (le-refl _) (omega arith)
-
   pub report-asked-most : reportOf m p s .asked ≤ m .asked + 1
   report-asked-most = report-cases (λ r. r .asked ≤ m .asked + 1) (omega arith) (le-refl _)
-
-  pub report-last : (reportOf m p s .last ≡ p) ⊎ (reportOf m p s .last ≡ m .last)
-  report-last = report-cases (λ r. (r .last ≡ p) ⊎ (r .last ≡ m .last)) (inr refl) (inl refl)
 
   -- a record that goes on had not stopped
   pub report-on : reportOf m p s .stopped ≡ false → m .stopped ≡ false
@@ -59,15 +52,6 @@ module _ (m : Progress) (p : Float) (s : ℕ) where
       go : (b : Bool) → m .stopped ≡ b → m .stopped ≡ false
       go true e = sym (ap (λ (r : Progress). r .stopped) (report-stopped e)) ∙ h
       go false e = e
-
-  -- a report that stops has asked the s-th question
-  pub report-stop : m .stopped ≡ false → reportOf m p s .stopped ≡ true → reportOf m p s .asked ≡ s
-  report-stop h =
-      report-cases (λ r. r .stopped ≡ true → r .asked ≡ s) (λ t. let z : _≡_ {A = ℕ} 0 1 = cc in let n : ⊥ = omega arith in absurd n) (eqb-true _ _)
-
-  pub report-stop-some : m .stopped ≡ false → reportOf m p s .stopped ≡ true → 1 ≤ reportOf m p s .asked
-  report-stop-some h =
-      report-cases (λ r. r .stopped ≡ true → 1 ≤ r .asked) (λ t. let z : _≡_ {A = ℕ} 0 1 = cc in omega arith) (λ _. omega arith)
 
 -- a report that is not refused has asked at most 2^31 questions, so one more can be counted
 pub asked-fits : (m : Progress) (p : Float) → badReport m p ≡ false → m .asked < 2 ^ 32 - 1

@@ -2,17 +2,14 @@
 use Prim.Native.Nat.{ℕ, zero, suc, _+_, min, _≤_, _<_}
 use native.Mathlib.Omega.{arith}
 use native.Mathlib.Numerals.{add-one}
-use native.Mathlib.Decide.{ℕ-discrete}
 use mathlib.Core.Path.{_≡_, refl, sym, _∙_, ap, ap₂}
 use mathlib.Core.Bool.{Bool, true, false, cond, _&&_, and-assoc, and-true}
 use mathlib.Core.List.{List, [], _∷_, _++_}
-use lib.ListN.{length, getD, take, set, length-set}
-use lib.Seq.{getD-set-same, getD-set-other}
+use lib.ListN.{length, getD, take}
 use lib.Dec.{eqb, eqb·suc-suc, eqb·zero-suc}
 use lib.Ieee.{Float, nan}
 use lib.Ieee.Scale.{finite}
-use borrow.Author.Tests.{eq-eqb, ne-eqb, eqb-true, eqb-false}
-use lib.Arith.{lt-of-le-ne}
+use borrow.Author.Tests.{eq-eqb, ne-eqb, eqb-true}
 use Rattle.lists.specs.Loops.{tabulate}
 use Rattle.lists.proofs.LoopLaws.{at-end, below-suc}
 use Rattle.lists.proofs.TableLaws.{tabulate-getD}
@@ -78,19 +75,6 @@ first-below (x ∷ xs) = go (finite x) refl (first-below xs)
     go true e p = below-cons e p
     go false e p = below-none (x ∷ xs) 0 (omega arith)
 
-bad-at : (hs : List Float) → firstNotFinite hs < length hs → finite (getD hs (firstNotFinite hs) nan) ≡ false
-unfolding firstNotFinite
-bad-at [] l = absurd (omega arith)
-bad-at (x ∷ xs) l = go (finite x) refl (bad-at xs) l
-  where
-    go : (b : Bool) → finite x ≡ b → (firstNotFinite xs < length xs → finite (getD xs (firstNotFinite xs) nan) ≡ false)
-        → cond b (suc (firstNotFinite xs)) 0 < suc (length xs) → finite (getD (x ∷ xs) (cond b (suc (firstNotFinite xs)) 0) nan) ≡ false
-    go true e r l = r (omega arith)
-    go false e r l = e
-
-pub first-bad : (hs : List Float) → firstNotFinite hs < length hs → FirstBad hs (firstNotFinite hs)
-first-bad hs l = record { place = l; bad = bad-at hs l; earlier = first-below hs }
-
 -- of a part at the front, and of two parts
 pub first-take : (n : ℕ) (hs : List Float) → firstNotFinite (take n hs) ≡ min n (firstNotFinite hs)
 unfolding firstNotFinite
@@ -132,10 +116,6 @@ all-below hs e = below-less (omega (arith, eqb-true (firstNotFinite hs) (length 
 pub all-at : (hs : List Float) → allFinite hs ≡ true → (i : ℕ) → i < length hs → finite (getD hs i nan) ≡ true
 all-at hs e = all-below hs e .each
 
-pub not-all : (hs : List Float) → allFinite hs ≡ false → FirstBad hs (firstNotFinite hs)
-unfolding allFinite
-not-all hs e = first-bad hs (lt-of-le-ne (first-le hs) (eqb-false (firstNotFinite hs) (length hs) e))
-
 -- what the search for a bad height gives says whether there is one
 pub all-finite : (hs : List Float) (c : ℕ) → c ≡ firstNotFinite hs → c ≡ length hs → allFinite hs ≡ true
 unfolding allFinite
@@ -161,14 +141,6 @@ all-append (x ∷ xs) ys =
     ∙ ap (λ (b : Bool). finite x && b) (all-append xs ys)
     ∙ sym (and-assoc (finite x) (allFinite xs) (allFinite ys))
     ∙ ap (λ (b : Bool). b && allFinite ys) (sym (all-cons x xs))
-
--- a finite height put in keeps them so
-pub all-set : (hs : List Float) (j : ℕ) (v : Float) → allFinite hs ≡ true → finite v ≡ true → allFinite (set hs j v) ≡ true
-all-set hs j v e f = below-all (record { each = λ i l. go i (rw length-set at l) (ℕ-discrete i j) })
-  where
-    go : (i : ℕ) → i < length hs → Dec (i ≡ j) → finite (getD (set hs j v) i nan) ≡ true
-    go i l (yes s) = rw s (ap finite (getD-set-same hs j v nan (rw s at l)) ∙ f)
-    go i l (no d) = ap finite (getD-set-other hs j i v nan d) ∙ all-at hs e i l
 
 -- a loop that looks at values f 0, f 1, … one after the other
 pub all-none : (f : ℕ → Float) → true ≡ allFinite (tabulate 0 f)

@@ -13,7 +13,7 @@ use Rattle.lists.proofs.TestLaws.{clash, not-second}
 use Rattle.grid.specs.Sides.{cellOf, columnOf, rowOf}
 use Rattle.grid.specs.Directions.{dirX, dirY, shiftedOf, neighbourOf, neighbourAt}
 use Rattle.grid.specs.Joined.{Mutual, Apart}
-use Rattle.grid.proofs.SidesLaws.{cell-lt, column-cell, row-cell, column-lt, row-lt, cell-back}
+use Rattle.grid.proofs.SidesLaws.{column-cell, row-cell, column-lt, row-lt, cell-back}
 
 abbrev pub stepX : ℕ → ℤ
 stepX d = getD dirX d (pos 0)
@@ -151,13 +151,6 @@ outside-or-beside w h x y d = go (decLt nx w) (decLt ny h)
 -- the neighbour of a cell from its column and row, as `neighbour` has it
 pub neighbour-cell : (w h x y d : ℕ) → x < w → neighbourOf w h x y d ≡ neighbourAt w h (cellOf w x y) d
 neighbour-cell w h x y d l = rw (column-cell w x y l, row-cell w x y l)
-
-pub neighbour-le : (w h c d : ℕ) → neighbourAt w h c d ≤ w * h
-neighbour-le w h c d = go (outside-or-beside w h (columnOf w c) (rowOf w c) d)
-  where
-    go : {nx ny : ℕ} → (neighbourAt w h c d ≡ w * h) ⊎ Beside w h (columnOf w c) (rowOf w c) d nx ny → neighbourAt w h c d ≤ w * h
-    go (inl e) = omega arith
-    go {nx} {ny} (inr b) = omega (arith, beside b, cell-lt w nx ny (b .columns) h (b .rows))
 
 -- a neighbour that is a cell, by its coordinates
 pub inside-beside : (w h a b d : ℕ) → b < w * h → neighbourAt w h a d ≡ b → Beside w h (columnOf w a) (rowOf w a) d (columnOf w b) (rowOf w b)

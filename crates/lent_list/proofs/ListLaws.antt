@@ -1,35 +1,21 @@
 -- Refusal 7 is two-way: of a list of n entries none is bad exactly if it is a work list.
 use Prim.Native.Nat.{ℕ, zero, suc, _+_, _≤_, _<_}
 use native.Mathlib.Omega.{arith}
-use native.Mathlib.Decide.{decLt, ℕ-discrete}
+use native.Mathlib.Decide.{ℕ-discrete}
 use mathlib.Core.Path.{_≡_, refl, ap, _∙_, subst}
 use mathlib.Core.Bool.{Bool, true, false, _||_, true≢false}
-use mathlib.Core.List.{List, [], _∷_, _++_}
+use mathlib.Core.List.{List, _∷_, _++_}
 use lib.ListN.{length, getD, take, drop, length-append}
-use lib.Seq.{split-at, take-suc, take-at, getD-at, take-length}
+use lib.Seq.{split-at, take-at, getD-at, take-length}
 use lib.Dec.{eqb, ltb}
 use borrow.Author.Tests.{eqb-true, ltb-true, lt-ltb, eq-eqb, ne-eqb}
-use Rattle.drainage.proofs.TallyLaws.{one-same, one-other}
+use Rattle.drainage.proofs.TallyLaws.{one-same, one-other, times-more}
 use Rattle.lists.proofs.TestLaws.{both}
 use Rattle.drainage.specs.Ways.{one, times, sumBelow, WorkList}
-use Rattle.drainage.proofs.CountLaws.{sum-on, sum-zero, times-append, times-here}
-use Rattle.drainage.proofs.WorkListLaws.{split, entry-lt}
+use Rattle.drainage.proofs.CountLaws.{sum-bound, times-here}
+use Rattle.drainage.proofs.WorkListLaws.{length-is, below-of, split, entry-lt}
 use Rattle.lent_list.specs.Entries.{goodEntry, GoodAt, ListTest}
 use Rattle.lists.proofs.FirstLaws.{first-all, all-first}
-
-pub times-one : (c a : ℕ) → times c (a ∷ []) ≡ one a c
-unfolding times
-times-one c a = omega arith
-
--- one entry more
-pub times-more : (c i : ℕ) (l : List ℕ) → i < length l → times c (take (suc i) l) ≡ times c (take i l) + one (getD l i 0) c
-times-more c i l h = ap (times c) (take-suc l i 0 h) ∙ times-append c (take i l) (getD l i 0 ∷ []) ∙ ap (λ (k : ℕ). times c (take i l) + k) (times-one c (getD l i 0))
-
-pub times-take : (c i : ℕ) (l : List ℕ) → times c (take i l) ≤ times c l
-unfolding times
-times-take c zero l = omega arith
-times-take c (suc i) [] = omega arith
-times-take c (suc i) (a ∷ l) = let e = times-take c i l in omega (arith, e)
 
 -- the test and what it means
 either : (a b : Bool) → (a || b) ≡ true → a ≡ false → b ≡ true
@@ -63,29 +49,12 @@ module _ (n : ℕ) (recv list : List ℕ) (i : ℕ) where
       go (yes e) = rw (eq-eqb r c e)
       go (no h) = rw (ne-eqb r c h) (lt-ltb 0 _ (g .after h))
 
--- entries below n are counted whole
-counted : (n : ℕ) (l : List ℕ) → ((c : ℕ) → n ≤ c → times c l ≡ 0) → sumBelow n (λ c. true) (λ c. times c l) ≡ length l
-unfolding times
-counted n [] h = sum-zero n (λ c. true)
-counted n (a ∷ l) h =
-    let rest = counted n l (λ c k. omega (arith, h c k)) in
-    omega (arith, sum-on n (λ c. true) a (λ c. times c l) (inside (decLt a n)) refl, rest)
-  where
-    inside : Dec (a < n) → a < n
-    inside (yes k) = k
-    inside (no k) = absurd (omega (arith, h a (omega arith), one-same a a refl))
-
-sum-le : (n : ℕ) (f : ℕ → ℕ) → ((c : ℕ) → c < n → f c ≤ 1) → sumBelow n (λ c. true) f ≤ n
-unfolding sumBelow
-sum-le zero f h = omega arith
-sum-le (suc n) f h = omega (arith, h n (omega arith), sum-le n f (λ c l. h c (omega arith)))
-
 -- at most 1 each and n in all: 1 each
 sum-full : (n : ℕ) (f : ℕ → ℕ) → ((c : ℕ) → c < n → f c ≤ 1) → sumBelow n (λ c. true) f ≡ n → (c : ℕ) → c < n → f c ≡ 1
 unfolding sumBelow
 sum-full zero f h e c l = absurd (omega arith)
 sum-full (suc n) f h e c l =
-    let b = sum-le n f (λ c l. h c (omega arith)) in
+    let b = sum-bound n f (λ c l. h c (omega arith)) in
     let t : f n ≤ 1 = h n (omega arith) in
     let whole : sumBelow n (λ c. true) f ≡ n = omega (arith, b) in
     let last : f n ≡ 1 = omega arith in
@@ -124,7 +93,7 @@ module _ (n : ℕ) (recv list : List ℕ) (long : length list ≡ n) where
         let only : (c : ℕ) → n ≤ c → times c list ≡ 0 = λ c h. subst (λ (l : List ℕ). times c l ≡ 0) whole (none-above c h n (omega arith)) in
         let most : (c : ℕ) → times c list ≤ 1 = λ c. subst (λ (l : List ℕ). times c l ≤ 1) whole (once-each c n (omega arith)) in
         record {
-          once = sum-full n (λ c. times c list) (λ c l. most c) (counted n list only ∙ long);
+          once = sum-full n (λ c. times c list) (λ c l. most c) (length-is n list (below-of list only) ∙ long);
           only = only;
           after = after;
         }

@@ -10,13 +10,13 @@ use lib.ListN.{length, getD, take}
 use lib.Dec.{ltb}
 use borrow.Author.Count.{below-more}
 use borrow.Author.Tests.{lt-ltb, ltb-true, ltb-false}
-use Rattle.drainage.proofs.TallyLaws.{one-same, one-other}
+use Rattle.drainage.proofs.TallyLaws.{one-same, one-other, times-more}
 use Rattle.drainage.specs.Ways.{one, times}
 use Rattle.lent_list.specs.Entries.{goodEntry, firstBadEntry, GoodAt}
 use Rattle.lent_list.specs.Seen.{stretch, span, CellsBefore, GoodWithin, Scanned, Stood, Walk, Lengths, Near}
 use Rattle.lists.specs.Firsts.{First}
 use Rattle.lists.proofs.FirstLaws.{first-is}
-use Rattle.lent_list.proofs.ListLaws.{good-at, at-good, times-more}
+use Rattle.lent_list.proofs.ListLaws.{good-at, at-good}
 
 -- a mark put in at place i is there, and every other mark is as it was
 pub record Put (m : ℕ → Bool) (i : ℕ) (next : ℕ → Bool) : Type 0 where

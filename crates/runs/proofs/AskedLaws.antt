@@ -1,11 +1,11 @@
--- Each step asks at most one question, so a run asks few enough to count in 32 bits.
+-- An opening asks at most one question and a row one, so a run asks few enough to count in 32 bits.
 use Prim.Native.Nat.{ℕ, suc, _+_, _*_, _^_, _≤_, _<_}
 use mathlib.Core.Path.{_≡_, refl}
-use mathlib.Core.Bool.{Bool, not, _&&_, _||_, cond}
+use mathlib.Core.Bool.{Bool, _&&_, cond}
 use mathlib.Core.List.{List}
 use native.Mathlib.Nat.{mul-le-mul, mul-le-mul-right, le-trans, lt-of-le-of-lt, suc-le-suc-iff}
 use native.Mathlib.Omega.{arith}
-use lib.Dec.{eqb, leb, ltb, lit<}
+use lib.Dec.{eqb, lit<}
 use lib.Ieee.{Float}
 use Rattle.lists.proofs.TestLaws.{either}
 use Rattle.lists.proofs.TurnLaws.{turns-hold}
@@ -13,10 +13,9 @@ use Rattle.grid.specs.Heights.{allFinite}
 use Rattle.generators.specs.Marks.{reportOf}
 use Rattle.generators.specs.declared.Progress.{Progress}
 use Rattle.generators.proofs.MarksLaws.{report-asked-most}
-use Rattle.talus.specs.Talus.{slideRow}
-use Rattle.thermal_erosion.specs.SlidePass.{Pass, fractionOf}
+use Rattle.thermal_erosion.specs.SlidePass.{Pass}
 use Rattle.thermal_erosion.proofs.PassLaws as Rows
-use Rattle.runs.specs.Machine.{Course, State, start, openStep, rowStep, step, after, steps}
+use Rattle.runs.specs.Machine.{Course, State, start, openStep, steps}
 use Rattle.runs.specs.Nested.{rowsFrom, passDone, onePass, oneOpening, passesAfter, oneIteration, iterated}
 
 module _ (c : Course) (s : State) where
@@ -33,34 +32,6 @@ module _ (c : Course) (s : State) where
 
   done-marks : (p : Pass) → passDone c s p .marks ≡ p .marks
   done-marks p = one-record (p .marks) (p .marks .stopped) _ _ refl (one-record (p .marks) (allFinite (p .out)) _ _ refl refl)
-
-  -- a row of the pass under way, with its question
-  abbrev rowMade : Pass
-  rowMade =
-      record {
-        out = slideRow (c .w) (c .h) (c .thresholds) (s .heights) (c .strength) (c .water) (s .row) (s .copy);
-        marks = reportOf (s .marks) (fractionOf (c .begins (s .iteration) (s .pass)) (c .begins (s .iteration) (suc (s .pass))) (c .h) (s .row)) (c .stop);
-      }
-
-  row-marks : rowStep c s .marks ≡ rowMade .marks
-  row-marks =
-      let m : Progress = rowMade .marks in
-      one-record m (m .stopped) _ _ refl (one-record m (ltb (suc (s .row)) (c .h)) _ _ refl (one-record m (allFinite (rowMade .out)) _ _ refl refl))
-
-  step-asked : step c s .marks .asked ≤ s .marks .asked + 1
-  unfolding step
-  step-asked =
-      few (not (eqb (s .number) 0) || leb (c .iterations) (s .iteration)) _ _ (omega arith)
-      (few (s .opened) _ _ (rw row-marks (report-asked-most (s .marks) _ (c .stop))) (rw open-marks (report-asked-most (s .marks) _ (c .stop))))
-    where
-      few : (b : Bool) (x y : State) → x .marks .asked ≤ s .marks .asked + 1 → y .marks .asked ≤ s .marks .asked + 1 → cond b x y .marks .asked ≤ s .marks .asked + 1
-      few = either (λ (x : State). x .marks .asked ≤ s .marks .asked + 1)
-
--- n steps ask at most n questions
-pub after-asked : (c : Course) (hs : List Float) (n : ℕ) → after c n hs .marks .asked ≤ n
-unfolding after
-after-asked c hs n =
-    turns-hold (λ i. step c) (λ i t. t .marks .asked ≤ i) (start c hs) n (omega arith) (λ i t l h. omega (arith, step-asked c t))
 
 -- r rows at most r
 pub rows-asked : (c : Course) (s : State) (r : ℕ) → rowsFrom c r s .marks .asked ≤ s .marks .asked + r
@@ -106,16 +77,6 @@ module _ (c : Course) (hs : List Float) where
   pub opened-asked : (it q : ℕ) → it < c .iterations → q ≤ c .passes → passesAfter c q (iterated c it hs) .marks .asked ≤ steps c
   opened-asked it q l k =
       omega (arith, underway-asked it q, mul-le-mul-right (c .h) k, mul-le-mul-right (suc (c .passes * c .h)) l)
-
-  pub run-rows-asked : (it q r : ℕ) → it < c .iterations → q < c .passes → r ≤ c .h → rowsFrom c r (passesAfter c q (iterated c it hs)) .marks .asked ≤ steps c
-  run-rows-asked it q r l k m =
-      omega (
-        arith,
-        rows-asked c (passesAfter c q (iterated c it hs)) r,
-        underway-asked it q,
-        mul-le-mul-right (c .h) k,
-        mul-le-mul-right (suc (c .passes * c .h)) l,
-      )
 
 -- the steps of document 01's runs
 product-within : (i p h a b d : ℕ) → i ≤ a → p ≤ b → h ≤ d → i * suc (p * h) ≤ a * suc (b * d)

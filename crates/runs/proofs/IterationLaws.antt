@@ -78,12 +78,6 @@ module _ (c : Course) (s : State) where
   pub opening-before : oneOpening c s .number ≡ 0 → s .number ≡ 0
   opening-before = before s (oneOpening c s) (opening-ended c s)
 
-  pub passes-before : (n : ℕ) → passesAfter c n s .number ≡ 0 → s .number ≡ 0
-  passes-before n = before s (passesAfter c n s) (λ e. passes-ended c s e n)
-
-  pub iteration-before : oneIteration c s .number ≡ 0 → s .number ≡ 0
-  iteration-before = before s (oneIteration c s) (iteration-ended c s)
-
   pub pass-is : s .number ≡ 0 → onePass c s ≡ passDone c s (rowsFrom c (c .h) s)
   unfolding onePass
   pass-is on = rw (eq-eqb (s .number) 0 on)
@@ -235,13 +229,7 @@ module _ (c : Course) (some : 0 < c .passes) where
     pub underway-iterated : (it q : ℕ) → q < c .passes → passesAfter c q (iterated c it hs) .number ≡ 0 → Underway c it q (passesAfter c q (iterated c it hs))
     underway-iterated it q = underway-passes it (iterated c it hs) (due-iterated it) q
 
--- an iteration that ends early, and a run that does
-pub iteration-stays : (c : Course) (s : State) (q : ℕ) → q ≤ c .passes → eqb (passesAfter c q s .number) 0 ≡ false → oneIteration c s ≡ passesAfter c q s
-unfolding oneIteration
-iteration-stays c s q l ended =
-    let e : c .passes ≡ q + (c .passes - q) = omega arith in
-    ap (λ (n : ℕ). passesAfter c n s) e ∙ turns-stay (λ i. onePass c) (oneOpening c s) q (c .passes - q) (λ i. pass-ended c (passesAfter c q s) ended)
-
+-- a run that ends early
 pub nested-stays : (c : Course) (hs : List Float) (n : ℕ) → n ≤ c .iterations → eqb (iterated c n hs .number) 0 ≡ false → nested c hs ≡ iterated c n hs
 nested-stays c hs n l ended =
     let e : c .iterations ≡ n + (c .iterations - n) = omega arith in

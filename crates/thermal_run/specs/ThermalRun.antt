@@ -1,5 +1,5 @@
 -- What gen_thermal_erosion promises of its answer, the map and the scratch slices, and what its parts ask.
-use Prim.Native.Nat.{ℕ, _+_, _*_, _≤_, min}
+use Prim.Native.Nat.{ℕ, _*_, _≤_, min}
 use mathlib.Core.Path.{_≡_}
 use mathlib.Core.Bool.{false}
 use mathlib.Core.List.{List}

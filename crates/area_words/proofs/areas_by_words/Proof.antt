@@ -1,9 +1,7 @@
 use Prim.Native.Nat.{_-_}
 use native.Mathlib.Omega.{arith}
-use mathlib.Core.Path.{sym, ap, _∙_}
-use lib.ListN.{length, getD}
+use mathlib.Core.Path.{sym, _∙_}
 use Rattle.drainage.proofs.WorkListLaws.{list-length}
-use Rattle.area_words.specs.Words.{Words}
 use Rattle.area_words.proofs.WordLaws.{Summing, summing-none, summing-words, summing-passing, entry, summing-more, summing-done}
 use Rattle.area_words.proofs.areas_by_words.Statement.{statement}
 use Rattle.area_words.proofs.areas_by_words.Tie as tie

@@ -2,7 +2,7 @@ use Prim.Native.Nat.{ℕ, _-_}
 use mathlib.Core.Path.{_≡_, refl, sym, _∙_}
 use lib.ListN.{length, getD, length-replicate}
 use native.Mathlib.Omega.{arith}
-use Rattle.lists.proofs.TableLaws.{filled-read, filled-length}
+use Rattle.lists.proofs.TableLaws.{filled-read}
 use Rattle.lent_list.specs.Seen.{receiversAt}
 use Rattle.lent_list.proofs.BlockLaws.{Block, Taking, taking-none, taking-bad, taking-more, taking-done, block-cells}
 use Rattle.lent_list.proofs.first_in_block.Statement.{statement}

@@ -1,4 +1,4 @@
-use Prim.Native.Nat.{ℕ, _+_, _-_, min, _≤_}
+use Prim.Native.Nat.{ℕ, _-_}
 use mathlib.Core.Path.{_≡_, sym, _∙_}
 use lib.ListN.{length, length-replicate}
 use native.Mathlib.Omega.{arith}
