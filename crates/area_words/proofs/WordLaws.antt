@@ -17,11 +17,11 @@ use Rattle.lists.proofs.TableLaws.{tabulate-same, tabulate-getD, length-tabulat
 use Rattle.floats.proofs.BitsLaws.{plain-bits, bits-back}
 use Rattle.floats.proofs.WholeLaws.{float-in}
 use Rattle.float_order.specs.Whole.{whole}
-use Rattle.drainage.specs.Ways.{times, countBelow, WorkList, areasAlong}
+use Rattle.drainage.specs.Ways.{times, WorkList, areasAlong}
 use Rattle.drainage.proofs.CountLaws.{count-le, count-one}
 use Rattle.drainage.proofs.TrailLaws.{trail}
 use Rattle.drainage.proofs.WorkListLaws.{entry-lt, downstream}
-use Rattle.drainage.proofs.AreaLaws.{been-receiver, been-other, been-own, work-areas, length-areas}
+use Rattle.drainage.proofs.AreaLaws.{been, been-receiver, been-other, been-own, work-areas, length-areas}
 use Rattle.steps.specs.Step.{Steps}
 use Rattle.area_words.specs.Words.{stepOf, steppedTo, wordOf, areaIn, receiverIn, passedOn, Word, Words, Network, Passing}
 use Rattle.area_words.proofs.StepLaws.{Step, step-back}
@@ -50,18 +50,14 @@ module _ {w cells : ℕ} {recv : List ℕ} (net : Network w recv cells) where
   few : length recv ≤ 2 ^ 24
   few = omega (arith, net .steps .few)
 
--- what has been at cell c once the suffix s of the list is passed on, in cells
-abbrev passed : List ℕ → List ℕ → ℕ → ℕ
-passed recv s c = countBelow (length recv) (λ j. trail (λ c. getD recv c 0) s j c)
-
-bounded : {w cells : ℕ} {recv : List ℕ} (net : Network w recv cells) (s : List ℕ) {c : ℕ} → c < length recv → wordOf (passed recv s c) (stepOf w c (getD recv c 0)) < 2 ^ 28 + 16
+bounded : {w cells : ℕ} {recv : List ℕ} (net : Network w recv cells) (s : List ℕ) {c : ℕ} → c < length recv → wordOf (been (length recv) recv s c) (stepOf w c (getD recv c 0)) < 2 ^ 28 + 16
 bounded {recv = recv} net s {c} l = omega (arith, count-le (length recv) (λ j. trail (λ c. getD recv c 0) s j c), few net, step-small net l)
 
 -- the words once the entries from position k on are passed on
 pub record Summing (w : ℕ) (recv list : List ℕ) (k : ℕ) (words : List Float) : Type 0 where
   pub place : k ≤ length list
   pub long : length words ≡ length recv
-  held : (c : ℕ) → c < length recv → getD words c nan ≡ ofBits binary32 (wordOf (passed recv (drop k list) c) (stepOf w c (getD recv c 0)))
+  held : (c : ℕ) → c < length recv → getD words c nan ≡ ofBits binary32 (wordOf (been (length recv) recv (drop k list) c) (stepOf w c (getD recv c 0)))
 
 module _ {w cells : ℕ} {recv list : List ℕ} (net : Network w recv cells) where
   pub summing-none : {words : List Float} → words ≡ tabulate (length recv) (λ c. ofBits binary32 (wordOf 1 (stepOf w c (getD recv c 0)))) → Summing w recv list (length list) words
@@ -69,16 +65,16 @@ module _ {w cells : ℕ} {recv list : List ℕ} (net : Network w recv cells) whe
   summing-none {words} e = record {
     place = omega arith;
     long = ap length e ∙ length-tabulate _ (length recv);
-    held = λ c l. ap (λ (t : List Float). getD t c nan) e ∙ getD-tabulate _ (length recv) c nan l ∙ ap (λ (a : ℕ). ofBits binary32 (wordOf a (stepOf w c (getD recv c 0)))) (sym (count-one (length recv) c l) ∙ ap (λ (s : List ℕ). passed recv s c) (sym (drop-length list)));
+    held = λ c l. ap (λ (t : List Float). getD t c nan) e ∙ getD-tabulate _ (length recv) c nan l ∙ ap (λ (a : ℕ). ofBits binary32 (wordOf a (stepOf w c (getD recv c 0)))) (sym (count-one (length recv) c l) ∙ ap (λ (s : List ℕ). been (length recv) recv s c) (sym (drop-length list)));
   }
 
   module _ {k : ℕ} {words : List Float} (s : Summing w recv list k words) where
     pub summing-words : Words words
     summing-words c l =
         let m : c < length recv = omega (arith, s .long) in
-        record { number = wordOf (passed recv (drop k list) c) (stepOf w c (getD recv c 0)); same = s .held c m; small = bounded net (drop k list) m }
+        record { number = wordOf (been (length recv) recv (drop k list) c) (stepOf w c (getD recv c 0)); same = s .held c m; small = bounded net (drop k list) m }
 
-    told : (c : ℕ) → c < length recv → toBits binary32 (getD words c nan) ≡ wordOf (passed recv (drop k list) c) (stepOf w c (getD recv c 0))
+    told : (c : ℕ) → c < length recv → toBits binary32 (getD words c nan) ≡ wordOf (been (length recv) recv (drop k list) c) (stepOf w c (getD recv c 0))
     told c l = ap (toBits binary32) (s .held c l) ∙ bits-back (omega (arith, bounded net (drop k list) l))
 
     stepped : (c : ℕ) → c < length recv → toBits binary32 (getD words c nan) % 16 ≡ stepOf w c (getD recv c 0)
@@ -107,8 +103,8 @@ module _ {w cells : ℕ} {recv list : List ℕ} (net : Network w recv cells) whe
       where
         area : (c : ℕ) → c < length recv → areaIn (getD words c nan) ≡ getD (areasAlong (length recv) recv list) c nan
         area c l =
-            let count : toBits binary32 (getD words c nan) / 16 ≡ passed recv (drop k list) c = omega (arith, told c l, step-small net l) in
-            ap whole (at-end (λ (j : ℕ). passed recv (drop j list) c) count z (omega arith))
+            let count : toBits binary32 (getD words c nan) / 16 ≡ been (length recv) recv (drop k list) c = omega (arith, told c l, step-small net l) in
+            ap whole (at-end (λ (j : ℕ). been (length recv) recv (drop j list) c) count z (omega arith))
             ∙ sym (work-areas (few net) work c l)
 
     -- one entry more
@@ -139,7 +135,7 @@ module _ {w cells : ℕ} {recv list : List ℕ} (net : Network w recv cells) whe
 
       -- the word of cell y after it
       abbrev word-after : ℕ → Float
-      word-after y = ofBits binary32 (wordOf (passed recv (c ∷ drop k list) y) (stepOf w y (getD recv y 0)))
+      word-after y = ofBits binary32 (wordOf (been (length recv) recv (c ∷ drop k list) y) (stepOf w y (getD recv y 0)))
 
       after : (R : ℕ) → R ≡ r → (b : Bool) → eqb R c ≡ b → (y : ℕ) → y < length recv
           → getD (cond b words (set words R (ofBits binary32 (toBits binary32 (getD words R nan) + (toBits binary32 (getD words c nan) - toBits binary32 (getD words c nan) % 16))))) y nan ≡ word-after y
@@ -150,9 +146,9 @@ module _ {w cells : ℕ} {recv list : List ℕ} (net : Network w recv cells) whe
           other : r ≡ c → ⊥
           other q = eqb-false R c t (e ∙ q)
 
-          sum : toBits binary32 (getD words R nan) + (toBits binary32 (getD words c nan) - toBits binary32 (getD words c nan) % 16) ≡ wordOf (passed recv (c ∷ drop k list) r) (stepOf w r (getD recv r 0))
+          sum : toBits binary32 (getD words R nan) + (toBits binary32 (getD words c nan) - toBits binary32 (getD words c nan) % 16) ≡ wordOf (been (length recv) recv (c ∷ drop k list) r) (stepOf w r (getD recv r 0))
           sum =
-              let at : toBits binary32 (getD words R nan) ≡ wordOf (passed recv (drop k list) r) (stepOf w r (getD recv r 0)) = ap (λ (i : ℕ). toBits binary32 (getD words i nan)) e ∙ told r (net .steps .inside c entry) in
+              let at : toBits binary32 (getD words R nan) ≡ wordOf (been (length recv) recv (drop k list) r) (stepOf w r (getD recv r 0)) = ap (λ (i : ℕ). toBits binary32 (getD words i nan)) e ∙ told r (net .steps .inside c entry) in
               omega (arith, at, told c entry, stepped c entry, been-receiver (length recv) (few net) recv c (drop k list) once behind other)
 
           go : Dec (y ≡ R) → getD (set words R (ofBits binary32 (toBits binary32 (getD words R nan) + (toBits binary32 (getD words c nan) - toBits binary32 (getD words c nan) % 16)))) y nan ≡ word-after y
@@ -172,7 +168,7 @@ module _ {w cells : ℕ} {recv list : List ℕ} (net : Network w recv cells) whe
         long = long ∙ s .long;
         held = λ y l.
             ap (λ (t : List Float). getD t y nan) e ∙ after (receiverIn w c words) (leads c entry) (eqb (receiverIn w c words) c) refl y l
-            ∙ ap (λ (t : List ℕ). ofBits binary32 (wordOf (passed recv t y) (stepOf w y (getD recv y 0)))) (sym front);
+            ∙ ap (λ (t : List ℕ). ofBits binary32 (wordOf (been (length recv) recv t y) (stepOf w y (getD recv y 0)))) (sym front);
       }
 
 -- what the words ask

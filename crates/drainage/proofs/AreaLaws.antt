@@ -22,13 +22,13 @@ use Rattle.drainage.proofs.WayLaws.{home-down, down-lt, trail-passes}
 or-none : (a b : Bool) → a || (b && false) ≡ a
 or-none a b = ap (λ (c : Bool). a || c) (and-false b) ∙ or-false a
 
+-- how many units of n cells have been at x once the suffix s has passed its units on
+abbrev pub been : ℕ → List ℕ → List ℕ → ℕ → ℕ
+been n recv s x = countBelow n (λ j. trail (λ c. getD recv c 0) s j x)
+
 module _ (n : ℕ) (small : n ≤ 2 ^ 24) (recv : List ℕ) where
   abbrev r : ℕ → ℕ
   r c = getD recv c 0
-
-  -- how many units have been at x once the suffix s has passed its units on
-  abbrev pub been : List ℕ → ℕ → ℕ
-  been s x = countBelow n (λ j. trail (λ c. getD recv c 0) s j x)
 
   pub length-areas : (s : List ℕ) → length (areasAlong n recv s) ≡ n
   unfolding areasAlong
@@ -40,7 +40,7 @@ module _ (n : ℕ) (small : n ≤ 2 ^ 24) (recv : List ℕ) where
       go ih false = length-set (areasAlong n recv s) (getD recv c 0) _ ∙ ih
 
   -- a cell that passes its unit on adds what has been at it to its receiver
-  pub been-receiver : (c : ℕ) (s : List ℕ) → times c s ≡ 0 → times (getD recv c 0) s ≡ 0 → (getD recv c 0 ≡ c → ⊥) → been (c ∷ s) (getD recv c 0) ≡ been s (getD recv c 0) + been s c
+  pub been-receiver : (c : ℕ) (s : List ℕ) → times c s ≡ 0 → times (getD recv c 0) s ≡ 0 → (getD recv c 0 ≡ c → ⊥) → been n recv (c ∷ s) (getD recv c 0) ≡ been n recv s (getD recv c 0) + been n recv s c
   unfolding trail
   been-receiver c s once behind other =
       count-same n (λ j. trail r s j (r c) || (eqb (home r s j) c && eqb (r c) (r c))) (λ j. trail r s j (r c) || trail r s j c) (λ j h. ap (λ (b : Bool). trail r s j (r c) || b) (same j))
@@ -57,12 +57,12 @@ module _ (n : ℕ) (small : n ≤ 2 ^ 24) (recv : List ℕ) where
           go false e = refl
 
   -- elsewhere nothing changes
-  pub been-other : (c x : ℕ) (s : List ℕ) → (getD recv c 0 ≡ x → ⊥) → been (c ∷ s) x ≡ been s x
+  pub been-other : (c x : ℕ) (s : List ℕ) → (getD recv c 0 ≡ x → ⊥) → been n recv (c ∷ s) x ≡ been n recv s x
   unfolding trail
   been-other c x s other = count-same n (λ j. trail r s j x || (eqb (home r s j) c && eqb (r c) x)) (λ j. trail r s j x) (λ j h. ap (λ (b : Bool). trail r s j x || (eqb (home r s j) c && b)) (ne-eqb (r c) x other) ∙ or-none (trail r s j x) (eqb (home r s j) c))
 
   -- nor does it at a cell that is its own receiver
-  pub been-own : (c x : ℕ) (s : List ℕ) → times c s ≡ 0 → getD recv c 0 ≡ c → been (c ∷ s) x ≡ been s x
+  pub been-own : (c x : ℕ) (s : List ℕ) → times c s ≡ 0 → getD recv c 0 ≡ c → been n recv (c ∷ s) x ≡ been n recv s x
   unfolding trail
   been-own c x s once own = count-same n (λ j. trail r s j x || (eqb (home r s j) c && eqb (r c) x)) (λ j. trail r s j x) (λ j h. go j (eqb (r c) x) refl)
     where
@@ -75,7 +75,7 @@ module _ (n : ℕ) (small : n ≤ 2 ^ 24) (recv : List ℕ) where
 
   -- the areas of the definition are these counts
   areas-are : (s : List ℕ) → Downstream (λ c. getD recv c 0) s → ((before : List ℕ) (c : ℕ) (rest : List ℕ) → s ≡ before ++ (c ∷ rest) → (c < n) × (getD recv c 0 < n))
-      → (x : ℕ) → x < n → getD (areasAlong n recv s) x nan ≡ whole (been s x)
+      → (x : ℕ) → x < n → getD (areasAlong n recv s) x nan ≡ whole (been n recv s x)
   unfolding areasAlong trail
   areas-are [] d below x h =
       getD-replicate n x (ofBits binary32 0x3f80_0000) nan h ∙ sym whole-one ∙ ap whole (sym (count-one n x h))
@@ -87,27 +87,27 @@ module _ (n : ℕ) (small : n ≤ 2 ^ 24) (recv : List ℕ) where
       behind : times (getD recv c 0) s ≡ 0
       behind = d .behind [] c s refl
 
-      go : ((y : ℕ) → y < n → getD (areasAlong n recv s) y nan ≡ whole (been s y)) → (b : Bool) → eqb (getD recv c 0) c ≡ b
-          → getD (cond (eqb (getD recv c 0) c) (areasAlong n recv s) (set (areasAlong n recv s) (getD recv c 0) (add binary32 (getD (areasAlong n recv s) (getD recv c 0) nan) (getD (areasAlong n recv s) c nan)))) x nan ≡ whole (been (c ∷ s) x)
+      go : ((y : ℕ) → y < n → getD (areasAlong n recv s) y nan ≡ whole (been n recv s y)) → (b : Bool) → eqb (getD recv c 0) c ≡ b
+          → getD (cond (eqb (getD recv c 0) c) (areasAlong n recv s) (set (areasAlong n recv s) (getD recv c 0) (add binary32 (getD (areasAlong n recv s) (getD recv c 0) nan) (getD (areasAlong n recv s) c nan)))) x nan ≡ whole (been n recv (c ∷ s) x)
       go ih true e = ap (λ (b : Bool). getD (cond b (areasAlong n recv s) (set (areasAlong n recv s) (getD recv c 0) (add binary32 (getD (areasAlong n recv s) (getD recv c 0) nan) (getD (areasAlong n recv s) c nan)))) x nan) e ∙ ih x h ∙ ap whole (sym (been-own c x s once (eqb-true (getD recv c 0) c e)))
       go ih false e = ap (λ (b : Bool). getD (cond b (areasAlong n recv s) (set (areasAlong n recv s) (getD recv c 0) (add binary32 (getD (areasAlong n recv s) (getD recv c 0) nan) (getD (areasAlong n recv s) c nan)))) x nan) e ∙ at (eqb (getD recv c 0) x) refl
         where
           other : getD recv c 0 ≡ c → ⊥
           other = eqb-false (getD recv c 0) c e
 
-          sum-is : add binary32 (getD (areasAlong n recv s) (getD recv c 0) nan) (getD (areasAlong n recv s) c nan) ≡ whole (been (c ∷ s) (getD recv c 0))
+          sum-is : add binary32 (getD (areasAlong n recv s) (getD recv c 0) nan) (getD (areasAlong n recv s) c nan) ≡ whole (been n recv (c ∷ s) (getD recv c 0))
           sum-is =
               ap₂ (add binary32) (ih (getD recv c 0) (below [] c s refl .1)) (ih c (below [] c s refl .0))
-              ∙ whole-sum (been s (getD recv c 0)) (been s c) (omega (arith, sym (been-receiver c s once behind other), count-le n (λ j. trail (λ c. getD recv c 0) (c ∷ s) j (getD recv c 0)), small))
+              ∙ whole-sum (been n recv s (getD recv c 0)) (been n recv s c) (omega (arith, sym (been-receiver c s once behind other), count-le n (λ j. trail (λ c. getD recv c 0) (c ∷ s) j (getD recv c 0)), small))
               ∙ ap whole (sym (been-receiver c s once behind other))
 
-          at : (b : Bool) → eqb (getD recv c 0) x ≡ b → getD (set (areasAlong n recv s) (getD recv c 0) (add binary32 (getD (areasAlong n recv s) (getD recv c 0) nan) (getD (areasAlong n recv s) c nan))) x nan ≡ whole (been (c ∷ s) x)
+          at : (b : Bool) → eqb (getD recv c 0) x ≡ b → getD (set (areasAlong n recv s) (getD recv c 0) (add binary32 (getD (areasAlong n recv s) (getD recv c 0) nan) (getD (areasAlong n recv s) c nan))) x nan ≡ whole (been n recv (c ∷ s) x)
           at true t =
               let same : getD recv c 0 ≡ x = eqb-true (getD recv c 0) x t in
               ap (λ (y : ℕ). getD (set (areasAlong n recv s) (getD recv c 0) (add binary32 (getD (areasAlong n recv s) (getD recv c 0) nan) (getD (areasAlong n recv s) c nan))) y nan) (sym same)
               ∙ getD-set-same (areasAlong n recv s) (getD recv c 0) (add binary32 (getD (areasAlong n recv s) (getD recv c 0) nan) (getD (areasAlong n recv s) c nan)) nan (subst (λ (k : ℕ). getD recv c 0 < k) (sym (length-areas s)) (below [] c s refl .1))
               ∙ sum-is
-              ∙ ap (λ (y : ℕ). whole (been (c ∷ s) y)) same
+              ∙ ap (λ (y : ℕ). whole (been n recv (c ∷ s) y)) same
           at false t =
               let off : getD recv c 0 ≡ x → ⊥ = eqb-false (getD recv c 0) x t in
               getD-set-other (areasAlong n recv s) (getD recv c 0) x (add binary32 (getD (areasAlong n recv s) (getD recv c 0) nan) (getD (areasAlong n recv s) c nan)) nan (λ q. off (sym q))
@@ -115,7 +115,7 @@ module _ (n : ℕ) (small : n ≤ 2 ^ 24) (recv : List ℕ) where
               ∙ ap whole (sym (been-other c x s off))
 
 -- along a work list
-pub work-areas : {n : ℕ} (small : n ≤ 2 ^ 24) {recv list : List ℕ} → WorkList n recv list → (c : ℕ) → c < n → getD (areasAlong n recv list) c nan ≡ whole (been n small recv list c)
+pub work-areas : {n : ℕ} (small : n ≤ 2 ^ 24) {recv list : List ℕ} → WorkList n recv list → (c : ℕ) → c < n → getD (areasAlong n recv list) c nan ≡ whole (been n recv list c)
 work-areas {n} small {recv} {list} w = areas-are n small recv list (downstream w) (λ b c t e. let l = entry-lt w b c t e in (l, receiver-lt w c l))
 
 -- ---- the theorem

@@ -1,9 +1,8 @@
 -- The heights of a stream: each stands inside it; the first that is not finite; and the map that they fill.
-use Prim.Native.Nat.{ℕ, suc, _+_, _*_, _^_, _≤_, _<_}
+use Prim.Native.Nat.{ℕ, _+_, _*_, _^_, _≤_, _<_}
 use mathlib.Core.Path.{_≡_, sym, ap, ap₂, _∙_}
 use mathlib.Core.Bool.{Bool}
 use mathlib.Core.List.{List, _++_}
-use native.Mathlib.Nat.{mul-le-mul}
 use native.Mathlib.Omega.{arith}
 use lib.ListN.{length, getD, set}
 use lib.Ieee.{Float, nan}
@@ -15,7 +14,8 @@ use Rattle.resample.proofs.RowFillLaws.{filling-drop}
 use Rattle.grid.specs.Sides.{cellOf}
 use Rattle.grid.proofs.SidesLaws.{column-cell, row-cell, cell-lt, cells-bound}
 use Rattle.grid.proofs.WalkLaws.{Walked, walked-none, walked-more, walked-done}
-use Rattle.stream.specs.Stream.{rowLength, heightAt, cellAt, heightsAt, Framed}
+use Rattle.stream.proofs.RecordLaws.{rows-end}
+use Rattle.stream.specs.Stream.{heightAt, cellAt, heightsAt, Framed}
 
 -- a list as a loop that fills it has left it
 settled : {f : ℕ → Float} {i : ℕ} {old new : List Float} → Filling f i old new → Filling f i new new
@@ -31,9 +31,7 @@ module _ {s : List ℕ} {rows w h : ℕ} (f : Framed s rows w h) where
     cell-few = omega (arith, cells-few, cell-lt w x y hx h hy)
 
     pub height-inside : rows + y * (2 + 4 * w) + (2 + 4 * x) + 4 ≤ length s
-    height-inside =
-        let n : suc y * rowLength w ≤ h * rowLength w = mul-le-mul hy (omega arith) in
-        omega (arith, f .whole, n)
+    height-inside = omega (arith, f .whole, rows-end w h y hy)
 
 module _ (s : List ℕ) (rows w h : ℕ) where
   pub heights-length : length (heightsAt s rows w h) ≡ w * h

@@ -49,6 +49,10 @@ pub settings-few : (s : List ℕ) (n : ℕ) → n ≡ settingsLength (markAt s 6
 settings-few s n e = omega (arith, e, settings-most (markAt s 6))
 
 -- the rows: those looked at so far have their mark
+-- the bytes of the rows up to row y are some of those of all rows
+pub rows-end : (w h y : ℕ) → y < h → suc y * rowLength w ≤ h * rowLength w
+rows-end w h y l = mul-le-mul l (omega arith)
+
 module _ (s : List ℕ) (rows w : ℕ) where
   pub record Marked (h at y : ℕ) : Type 0 where
     pub within : y ≤ h
@@ -90,8 +94,7 @@ module _ (s : List ℕ) (rows w : ℕ) where
   -- every row begins inside the stream
   pub row-inside : {h at y : ℕ} → Framed s rows w h → Marked h at y → y < h → at + rowLength w ≤ length s
   row-inside {h} {at} {y} f m l =
-      let n : suc y * rowLength w ≤ h * rowLength w = mul-le-mul l (omega arith) in
-      omega (arith, f .whole, m .place, n)
+      omega (arith, f .whole, m .place, rows-end w h y l)
 
 -- the rows of a grid in range are few enough to count
 pub rows-fit : (w h : ℕ) → InRange w h → h * rowLength w ≤ 4096 * 16386
