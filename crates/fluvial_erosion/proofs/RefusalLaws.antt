@@ -20,7 +20,7 @@ use Rattle.grid.proofs.SidesLaws.{good-sides, cells-bound, cell-back}
 use Rattle.grid.proofs.HeightsLaws.{all-finite, not-all-finite}
 use Rattle.lent_receivers.specs.Receivers.{firstBadReceiver, receiverTest}
 use Rattle.lent_list.specs.Entries.{firstBadEntry, goodEntry}
-use Rattle.lent_list.specs.Seen.{Lengths, Near}
+use Rattle.lent_list.specs.Walks.{Lengths, Near}
 use Rattle.lists.proofs.FirstLaws.{first-of, all-first}
 use Rattle.lent_list.proofs.ListLaws.{good-at, good-work}
 use Rattle.lent_receivers.proofs.ReceiverLaws.{good-cell, good-is}

@@ -1,111 +1,18 @@
--- A block of the list: the positions of a stretch among its positions, and the walk along them.
+-- The walk along a block of the list: along the positions whose cells lie in the stretch, or along all where all do.
 use Prim.Native.Nat.{ℕ, zero, suc, _+_, _-_, _*_, _≤_, _<_}
 use native.Mathlib.Numerals.{add-one}
 use native.Mathlib.Omega.{arith}
-use native.Mathlib.Decide.{decLt}
 use mathlib.Core.Path.{_≡_, refl, sym, ap, _∙_, subst}
-use mathlib.Core.Bool.{Bool, true, false, not, cond, _&&_, _||_, true≢false}
+use mathlib.Core.Bool.{Bool, true, false, not, _&&_, _||_, true≢false}
 use mathlib.Core.List.{List}
-use lib.ListN.{length, getD, set}
-use lib.Seq.{getD-set-same, getD-set-other}
-use Rattle.lent_list.specs.Seen.{span, isMarked, marking, inStretch, missingIn, CellsBefore, CellsAt, following, Apart, Listed, receiversAt, Walk, Passed, Scanned}
-use Rattle.lent_list.proofs.StretchLaws.{Put, walk-twice, walk-early, walk-more, walk-past, walk-done}
-use Rattle.lent_list.proofs.SeenLaws.{put-word, inside, outside}
-
--- what stands behind the first k positions does not count
-following-kept : (from : ℕ) (places : List ℕ) (k v i : ℕ) → i ≤ k → following from (set places k v) i ≡ following from places i
-unfolding following
-following-kept from places k v zero l = refl
-following-kept from places k v (suc i) l = ap suc (getD-set-other places k i v 0 (λ e. omega arith))
-
-pub following-last : (from : ℕ) (places : List ℕ) (k : ℕ) → following from places (suc k) ≡ getD places k 0 + 1
-unfolding following
-following-last from places k = omega arith
-
-module _ {list : List ℕ} {lo from to : ℕ} {places : List ℕ} {k : ℕ} (p : Listed list lo from to places k) where
-  apart-more : inStretch span lo (getD list to 0) ≡ false → Apart list lo (following from places k) (to + 1)
-  apart-more e = record { order = omega (arith, p .rest .order); each = λ q a b. go q a b (decLt q to) }
-    where
-      go : (q : ℕ) → following from places k ≤ q → q < to + 1 → Dec (q < to) → inStretch span lo (getD list q 0) ≡ false
-      go q a b (yes l) = p .rest .each q a l
-      go q a b (no l) =
-          let same : q ≡ to = omega arith in
-          rw same e
-
-  module _ (v : ℕ) where
-    kept : (i : ℕ) → i < k → getD (set places k v) i 0 ≡ getD places i 0
-    kept i l = getD-set-other places k i v 0 (λ e. omega arith)
-
-    still : (i : ℕ) → i < k → Apart list lo (following from (set places k v) i) (getD (set places k v) i 0)
-    still i l = rw (kept i l, following-kept from places k v i (omega arith)) (p .between i l)
-
-    -- a position outside the stretch is passed
-    listed-past : inStretch span lo (getD list to 0) ≡ false → Listed list lo from (to + 1) (set places k v) k
-    listed-past e =
-        record {
-          few = omega (arith, p .few);
-          below = λ i l. omega (arith, kept i l, p .below i l);
-          inside = λ i l. rw (kept i l) (p .inside i l);
-          between = still;
-          rest = rw (following-kept from places k v k (omega arith)) (apart-more e);
-        }
-
-  -- one inside it is listed
-  listed-more : k < length places → inStretch span lo (getD list to 0) ≡ true → Listed list lo from (to + 1) (set places k to) (k + 1)
-  listed-more room e = rw (add-one k)
-      (record {
-        few = omega (arith, p .few);
-        below = λ i l. below i l (decLt i k);
-        inside = λ i l. within i l (decLt i k);
-        between = λ i l. between i l (decLt i k);
-        rest = rest;
-      })
-    where
-      here : getD (set places k to) k 0 ≡ to
-      here = getD-set-same places k to 0 room
-
-      below : (i : ℕ) → i < suc k → Dec (i < k) → getD (set places k to) i 0 < to + 1
-      below i l (yes m) = omega (arith, kept to i m, p .below i m)
-      below i l (no m) =
-          let same : i ≡ k = omega arith in
-          rw (same, here) (omega arith)
-
-      within : (i : ℕ) → i < suc k → Dec (i < k) → inStretch span lo (getD list (getD (set places k to) i 0) 0) ≡ true
-      within i l (yes m) = rw (kept to i m) (p .inside i m)
-      within i l (no m) =
-          let same : i ≡ k = omega arith in
-          rw (same, here) e
-
-      between : (i : ℕ) → i < suc k → Dec (i < k) → Apart list lo (following from (set places k to) i) (getD (set places k to) i 0)
-      between i l (yes m) = still to i m
-      between i l (no m) =
-          let same : i ≡ k = omega arith in
-          rw (same, here, following-kept from places k to k (omega arith)) (p .rest)
-
-      rest : Apart list lo (following from (set places k to) (suc k)) (to + 1)
-      rest =
-          let last = following-last from (set places k to) k in
-          record { order = omega (arith, here, last); each = λ q a b. absurd (omega (arith, here, last)) }
-
-  pub listed-next : k < length places → {c : ℕ} → c ≡ cond (inStretch span lo (getD list to 0)) 1 0 → Listed list lo from (to + 1) (set places k to) (k + c)
-  listed-next room {c} e = go (inStretch span lo (getD list to 0)) refl e
-    where
-      go : (b : Bool) → inStretch span lo (getD list to 0) ≡ b → c ≡ cond b 1 0 → Listed list lo from (to + 1) (set places k to) (k + c)
-      go true h q = rw q (listed-more room h)
-      go false h q =
-          let none : k + c ≡ k = omega arith in
-          rw none (listed-past to h)
-
-pub listed-none : {list : List ℕ} {lo from : ℕ} {places : List ℕ} → Listed list lo from from places 0
-unfolding following
-listed-none =
-    record {
-      few = omega arith;
-      below = λ i l. absurd (omega arith);
-      inside = λ i l. absurd (omega arith);
-      between = λ i l. absurd (omega arith);
-      rest = record { order = omega arith; each = λ q a b. absurd (omega arith) };
-    }
+use lib.ListN.{length, getD}
+use borrow.Author.Tests.{lt-ltb}
+use Rattle.list_marks.specs.Seen.{span, isMarked, marking, inStretch, missingIn}
+use Rattle.list_marks.proofs.SeenLaws.{Put, put-word, inside, outside, stretch-from}
+use Rattle.list_blocks.specs.Blocks.{CellsBefore, following, Apart, Listed, receiversAt, receiversFrom}
+use Rattle.list_blocks.proofs.ListedLaws.{following-last}
+use Rattle.lent_list.specs.Walks.{Walk, Passed, Scanned, Lengths}
+use Rattle.lent_list.proofs.StretchLaws.{walk-twice, walk-early, walk-more, walk-past, walk-done, from-start}
 
 -- the walk passes entries outside the stretch
 module _ {n : ℕ} {recv list : List ℕ} {lo to : ℕ} {m : ℕ → Bool} (cells : CellsBefore n list to) (long : to ≤ length list) where
@@ -184,9 +91,6 @@ pub record Block (n : ℕ) (recv list : List ℕ) (lo from to : ℕ) (places bel
   pub some : k ≤ length places
   pub each : length below ≡ length places
 
-pub block-cells : {n : ℕ} {list : List ℕ} {lo from to : ℕ} {places : List ℕ} {k : ℕ} → CellsBefore n list to → to ≤ length list → Listed list lo from to places k → CellsAt n list places k
-block-cells cells long listed = record { place = λ i l. omega (arith, listed .below i l); cell = λ i l. cells .cell _ (listed .below i l) }
-
 module _ {n : ℕ} {recv list : List ℕ} {lo from to : ℕ} {places below : List ℕ} {k i : ℕ} {seen : List ℕ} (b : Block n recv list lo from to places below k)
     (t : Taking n recv list lo from to places k i seen) where
   abbrev position : ℕ
@@ -224,9 +128,70 @@ module _ {n : ℕ} {recv list : List ℕ} {lo from to : ℕ} {places below : Lis
       let w = walk-apart (b .cells) (b .long) (rw all at (t .walk)) (b .listed .rest) (omega arith) in
       record { found = walk-done w (omega arith); marks = λ q. w .marks }
 
+within-first : (c : ℕ) → c < span → inStretch span 0 c ≡ true
+within-first c l = stretch-from span 0 c (omega arith) ∙ lt-ltb (c - 0) span (omega arith)
+
+-- what the loop along a whole block finds, one where every cell lies in the stretch from 0: the receivers
+pub record Whole (n : ℕ) (recv list : List ℕ) (from to : ℕ) (below : List ℕ) : Type 0 where
+  pub few : n ≤ span
+  pub network : Lengths n recv list
+  pub cells : CellsBefore n list to
+  pub long : to ≤ length list
+  pub receivers : (i : ℕ) → i < to - from → getD below i 0 ≡ receiversFrom recv list from i
+
+-- that loop: the entries before position p are taken
+pub record Going (n : ℕ) (recv list : List ℕ) (from to p : ℕ) (seen : List ℕ) : Type 0 where
+  pub start : from ≤ p
+  pub room : span ≤ length seen * 64
+  pub walk : Walk span n recv list 0 to p (isMarked seen)
+
+module _ {n : ℕ} {recv list : List ℕ} {from to : ℕ} {below : List ℕ} {p : ℕ} {seen : List ℕ} (b : Whole n recv list from to below) (g : Going n recv list from to p seen) where
+  abbrev entry : ℕ
+  entry = getD list p 0
+
+  module _ (l : p < to) where
+    -- the entry and its receiver have marks
+    pub going-cell : entry < span
+    going-cell = omega (arith, b .cells .cell p l, b .few)
+
+    at-place : getD below (p - from) 0 ≡ getD recv entry 0
+    at-place =
+        let back : from + (p - from) ≡ p = omega (arith, g .start) in
+        b .receivers (p - from) (omega (arith, g .start)) ∙ ap (λ (k : ℕ). getD recv (getD list k 0) 0) back
+
+    pub going-receiver : getD below (p - from) 0 < span
+    going-receiver = omega (arith, at-place, b .network .inside entry (b .cells .cell p l), b .few)
+
+    module _ {bad : Bool} {next : List ℕ} (put : next ≡ marking seen entry) (verdict : bad ≡ (isMarked seen entry || not (isMarked next (getD below (p - from) 0)))) where
+      put-first : next ≡ marking seen (entry - 0)
+      put-first = rw (from-start entry) put
+
+      by-stretch : bad ≡ (isMarked seen (entry - 0) || missingIn next 0 (getD recv entry 0))
+      by-stretch = rw (from-start entry, within-first (getD recv entry 0) (omega (arith, at-place, going-receiver)), from-start (getD recv entry 0), sym at-place) verdict
+
+      pub going-bad : bad ≡ true → Passed n recv list 0 to next p
+      going-bad e =
+          record {
+            found = taken-bad seen (g .walk) (g .room) (within-first entry going-cell) put-first by-stretch e;
+            marks = λ q. absurd (omega arith);
+          }
+
+      pub going-more : length next ≡ length seen → bad ≡ false → Going n recv list from to (p + 1) next
+      going-more same e =
+          record {
+            start = omega (arith, g .start);
+            room = omega (arith, g .room, same);
+            walk = taken-good seen (g .walk) (g .room) (within-first entry going-cell) put-first by-stretch e l (b .long) (b .cells .cell p l);
+          }
+
+  pub going-done : to ≤ p → Passed n recv list 0 to seen to
+  going-done h =
+      let all : p ≡ to = omega (arith, g .walk .place) in
+      record { found = walk-done (g .walk) h; marks = λ q. rw all at (g .walk .marks) }
+
 -- the walk for a stretch, block by block
-pub cells-before : {n m : ℕ} {list : List ℕ} {limit to : ℕ} → n ≤ m → to ≤ limit → CellsBefore n list limit → CellsBefore m list to
-cells-before l end cells = record { cell = λ i k. omega (arith, cells .cell i (omega arith)) }
+pub block-network : {n : ℕ} {recv list : List ℕ} → Lengths n recv list → Lengths (length recv) recv list
+block-network g = rw (g .receivers) g
 
 module _ {n : ℕ} {recv list : List ℕ} {lo limit to : ℕ} (all : length recv ≡ n) (end : to ≤ limit) where
   pub block-walk : {p : ℕ} {m : ℕ → Bool} → Walk span n recv list lo limit p m → p ≤ to → Walk span (length recv) recv list lo to p m

@@ -13,15 +13,13 @@ use borrow.Author.Tests.{lt-ltb, ltb-true, ltb-false}
 use Rattle.drainage.proofs.TallyLaws.{one-same, one-other, times-more}
 use Rattle.drainage.specs.Ways.{one, times}
 use Rattle.lent_list.specs.Entries.{goodEntry, firstBadEntry, GoodAt}
-use Rattle.lent_list.specs.Seen.{stretch, span, CellsBefore, GoodWithin, Scanned, Stood, Walk, Lengths, Near}
+use Rattle.list_marks.specs.Seen.{stretch, span}
+use Rattle.lent_list.specs.Walks.{GoodWithin, Scanned, Stood, Walk, Lengths, Near}
+use Rattle.list_marks.proofs.SeenLaws.{Put}
+use Rattle.list_blocks.specs.Blocks.{CellsBefore}
 use Rattle.lists.specs.Firsts.{First}
 use Rattle.lists.proofs.FirstLaws.{first-is}
 use Rattle.lent_list.proofs.ListLaws.{good-at, at-good}
-
--- a mark put in at place i is there, and every other mark is as it was
-pub record Put (m : ℕ → Bool) (i : ℕ) (next : ℕ → Bool) : Type 0 where
-  pub same : next i ≡ true
-  pub other : (k : ℕ) → (k ≡ i → ⊥) → next k ≡ m k
 
 -- an entry with a fault is not good
 not-good : (n : ℕ) (recv list : List ℕ) (p : ℕ) → (GoodAt n recv list p → ⊥) → goodEntry n recv list p ≡ false
@@ -111,11 +109,11 @@ module _ {long n : ℕ} {recv list : List ℕ} {lo limit p : ℕ} {m : ℕ → B
       here : GoodWithin n recv list lo (lo + long) p
       here = record { cell = inside; fresh = λ x y. absurd (out x y); after = λ d x y u v. absurd (out x y) }
 
+pub from-start : (c : ℕ) → c - 0 ≡ c
+from-start c = omega arith
+
 -- a walk in which every cell has a mark
 module _ {n : ℕ} {recv list : List ℕ} {p : ℕ} {m : ℕ → Bool} (w : Walk n n recv list 0 n p m) (inside : getD list p 0 < n) where
-  from-start : (c : ℕ) → c - 0 ≡ c
-  from-start c = omega arith
-
   put-from : {next : ℕ → Bool} → Put m (getD list p 0) next → Put m (getD list p 0 - 0) next
   put-from {next} = subst (λ (i : ℕ). Put m i next) (sym (from-start (getD list p 0)))
 

@@ -1,3 +1,3 @@
 -- Refusal 7 of document 01: what a lent list must be.
 pub mod Entries
-pub mod Seen
+pub mod Walks

@@ -1,104 +1,19 @@
 // Refusal 7: the check of a lent list. Nothing lent is written before it is decided.
+use list_blocks::block_end;
+use list_blocks::positions_in;
+use list_blocks::receivers_at;
+use list_blocks::receivers_from;
+use list_marks::bad_in_stretch;
+use list_marks::bad_in_whole;
 ghost use mathlib.Core.Path.{_≡_};
-ghost use mathlib.Core.Bool.{true, cond, _||_};
-ghost use mathlib.Core.List.{_++_};
-ghost use Prim.Native.Nat.{_+_, _-_, _*_, _^_, min, _≤_, _<_};
-ghost use lib.ListN.{length, getD, drop};
+ghost use Prim.Native.Nat.{_+_, _*_, _^_, _≤_};
+ghost use lib.ListN.{length, getD};
 ghost use lib.Dec.{ltb};
-ghost use Rattle.lists.specs.Loops.{tabulate};
 ghost use Rattle.lists.specs.Firsts.{First};
+ghost use Rattle.list_marks.specs.Seen.{span, isMarked, Blank};
+ghost use Rattle.list_blocks.specs.Blocks.{CellsBefore};
 ghost use Rattle.lent_list.specs.Entries.{firstBadEntry};
-ghost use Rattle.lent_list.specs.Seen.{span, isMarked, marking, inStretch, missingIn, CellsBefore, CellsAt, Listed, receiversAt, Blank, Walk, Passed, Scanned, Lengths, Near};
-
-// Whether place i of a stretch is marked.
-fn marked(seen: &[u64], i: usize) -> bool
-    requires { ⌜ i < length (now seen) * 64 ⌝ }
-    ensures { λ r. ⌜ r ≡ isMarked (now (seen .entry)) i ⌝ }
-{
-    (seen[i / 64] >> (i % 64)) % 2 == 1
-}
-
-// Marks place i of a stretch.
-fn mark(seen: &mut [u64], i: usize)
-    requires { ⌜ i < length (now seen) * 64 ⌝ }
-    ensures { λ _. ⌜ now (seen .exit) ≡ marking (now (seen .entry)) i ⌝ }
-{
-    let word = i / 64;
-    seen[word] = seen[word] | (1 << (i % 64));
-}
-
-// Whether cell c lies in the stretch from lo.
-fn in_stretch(lo: usize, c: usize) -> bool
-    ensures { λ r. ⌜ r ≡ inStretch span lo c ⌝ }
-{
-    if c < lo {
-        return false;
-    }
-    c - lo < 8396800
-}
-
-// Whether cell r lies in the stretch from lo and has not stood yet.
-fn missing(seen: &[u64], lo: usize, r: usize) -> bool
-    requires { ⌜ span ≤ length (now seen) * 64 ⌝ }
-    ensures { λ b. ⌜ b ≡ missingIn (now (seen .entry)) lo r ⌝ }
-{
-    if in_stretch(lo, r) {
-        return !marked(seen, r - lo);
-    }
-    false
-}
-
-// Marks cell c of the stretch from lo, and says whether its entry is bad by the marks: it stood already, or its receiver r lies there too and has not
-// stood. It is marked before its receiver is looked up: one that is its own receiver then finds itself.
-fn bad_in_stretch(seen: &mut [u64], lo: usize, c: usize, r: usize) -> bool
-    requires { ⌜ span ≤ length (now seen) * 64 ⌝ }
-    requires { ⌜ inStretch span lo c ≡ true ⌝ }
-    ensures { λ b. ⌜ (b ≡ (isMarked (now (seen .entry)) (c - lo) || missingIn (now (seen .exit)) lo r)) × (now (seen .exit) ≡ marking (now (seen .entry)) (c - lo)) ⌝ }
-{
-    let i = c - lo;
-    let stood = marked(seen, i);
-    mark(seen, i);
-    stood | missing(seen, lo, r)
-}
-
-// 1 where cell c lies in the stretch from lo, 0 where not: a number to add, with no branch to be foreseen.
-fn counted(lo: u32, c: u32) -> usize
-    requires { ⌜ lo ≤ 2 ^ 24 ⌝ }
-    ensures { λ r. ⌜ r ≡ cond (inStretch span lo c) 1 0 ⌝ }
-{
-    if std::num::wrapping_sub_u32(c, lo) < 8396800 {
-        return 1;
-    }
-    0
-}
-
-// Writes the positions from `from` to before `to` whose cells lie in the stretch from lo to the front of `places`, and says how many they are.
-fn positions_in(list: &[u32], lo: usize, from: usize, to: usize, places: &mut [u32]) -> usize
-    requires { ⌜ (from ≤ to) × (to ≤ from + length (now places)) × (to ≤ length (now list)) × (to ≤ 2 ^ 24) × (lo ≤ 2 ^ 24) ⌝ }
-    ensures { λ k. ⌜ Listed (now (list .entry)) lo from to (now (places .exit)) k ⌝ }
-{
-    let mut k: usize = 0;
-    let mut p = from;
-    while p < to {
-        places[k] = p as u32;
-        k += counted(lo as u32, list[p]);
-        p += 1;
-    }
-    k
-}
-
-// Writes the receivers of the cells at the first k positions: all are asked of the memory before the first mark waits for one.
-fn receivers_at(recv: &[u32], list: &[u32], places: &[u32], k: usize, below: &mut [u32])
-    requires { ⌜ (k ≤ length (now places)) × (k ≤ length (now below)) ⌝ }
-    requires { ⌜ CellsAt (length (now recv)) (now list) (now places) k ⌝ }
-    ensures { λ _. ⌜ now (below .exit) ≡ tabulate k (receiversAt (now (recv .entry)) (now (list .entry)) (now (places .entry))) ++ drop k (now (below .entry)) ⌝ }
-{
-    let mut i: usize = 0;
-    while i < k {
-        below[i] = recv[list[places[i] as usize] as usize];
-        i += 1;
-    }
-}
+ghost use Rattle.lent_list.specs.Walks.{Walk, Passed, Scanned, Lengths, Near};
 
 // Goes from position `from` to `to`, at most 1,024 further on: the first position whose entry is bad by the marks of the stretch from lo, `to` where none is.
 fn first_in_block(
@@ -130,15 +45,49 @@ fn first_in_block(
     to
 }
 
-// The position 1,024 after p, or the limit if that comes first.
-fn block_end(p: usize, limit: usize) -> usize
-    requires { ⌜ (p < limit) × (limit ≤ 2 ^ 24) ⌝ }
-    ensures { λ r. ⌜ r ≡ min (p + 1024) limit ⌝ }
+// The same in the stretch from 0 where that holds every cell: all positions are taken, so none are picked out first.
+fn first_in_whole(seen: &mut [u64], recv: &[u32], list: &[u32], from: usize, to: usize) -> usize
+    requires { ⌜ (span ≤ length (now seen) * 64) × (length (now recv) ≤ span) ⌝ }
+    requires { ⌜ (to ≤ from + 1024) × (to ≤ length (now list)) ⌝ }
+    requires { ⌜ Lengths (length (now recv)) (now recv) (now list) ⌝ }
+    requires { ⌜ CellsBefore (length (now recv)) (now list) to ⌝ }
+    requires { ⌜ Walk span (length (now recv)) (now recv) (now list) 0 to from (isMarked (now seen)) ⌝ }
+    ensures { λ r. ⌜ Passed (length (now (recv .entry))) (now (recv .entry)) (now (list .entry)) 0 to (now (seen .exit)) r ⌝ }
 {
-    if limit - p < 1024 {
-        return limit;
+    let mut below: [u32; 1024] = [0; 1024];
+    receivers_from(recv, list, from, to - from, &mut below);
+    let mut p = from;
+    while p < to {
+        if bad_in_whole(seen, list[p] as usize, below[p - from] as usize) {
+            return p;
+        }
+        p += 1;
     }
-    p + 1024
+    to
+}
+
+// The same for any stretch and any number of cells, by the shorter way where it serves.
+fn first_in_some(
+    seen: &mut [u64],
+    lo: usize,
+    recv: &[u32],
+    list: &[u32],
+    from: usize,
+    to: usize,
+) -> usize
+    requires { ⌜ (span ≤ length (now seen) * 64) × (lo ≤ 2 ^ 24) ⌝ }
+    requires { ⌜ (to ≤ from + 1024) × (to ≤ length (now list)) × (to ≤ 2 ^ 24) ⌝ }
+    requires { ⌜ Lengths (length (now recv)) (now recv) (now list) ⌝ }
+    requires { ⌜ CellsBefore (length (now recv)) (now list) to ⌝ }
+    requires { ⌜ Walk span (length (now recv)) (now recv) (now list) lo to from (isMarked (now seen)) ⌝ }
+    ensures { λ r. ⌜ Passed (length (now (recv .entry))) (now (recv .entry)) (now (list .entry)) lo to (now (seen .exit)) r ⌝ }
+{
+    if lo == 0 {
+        if recv.len() <= 8388608 {
+            return first_in_whole(seen, recv, list, from, to);
+        }
+    }
+    first_in_block(seen, lo, recv, list, from, to)
 }
 
 // The first position below the limit whose entry is bad by the marks of the stretch from lo; the limit where none is.
@@ -152,7 +101,7 @@ fn first_in_stretch(n: usize, recv: &[u32], list: &[u32], lo: usize, limit: usiz
     let mut p: usize = 0;
     while p < limit {
         let to = block_end(p, limit);
-        let first = first_in_block(&mut seen, lo, recv, list, p, to);
+        let first = first_in_some(&mut seen, lo, recv, list, p, to);
         if first < to {
             return first;
         }

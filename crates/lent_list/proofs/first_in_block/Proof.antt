@@ -3,8 +3,9 @@ use mathlib.Core.Path.{_≡_, refl, sym, _∙_}
 use lib.ListN.{length, getD, length-replicate}
 use native.Mathlib.Omega.{arith}
 use Rattle.lists.proofs.TableLaws.{filled-read}
-use Rattle.lent_list.specs.Seen.{receiversAt}
-use Rattle.lent_list.proofs.BlockLaws.{Block, Taking, taking-none, taking-bad, taking-more, taking-done, block-cells}
+use Rattle.list_blocks.specs.Blocks.{receiversAt}
+use Rattle.list_blocks.proofs.ListedLaws.{block-cells}
+use Rattle.lent_list.proofs.BlockLaws.{Block, Taking, taking-none, taking-bad, taking-more, taking-done}
 use Rattle.lent_list.proofs.first_in_block.Statement.{statement}
 use Rattle.lent_list.proofs.first_in_block.Tie as tie
 

@@ -3,9 +3,9 @@ use mathlib.Core.Path.{refl}
 use lib.ListN.{getD}
 use native.Mathlib.Omega.{arith}
 use Rattle.lists.proofs.FillLaws.{Filling, filling-none, filling-length, filling-more, stored}
-use Rattle.lent_list.specs.Seen.{receiversAt}
-use Rattle.lent_list.proofs.receivers_at.Statement.{statement}
-use Rattle.lent_list.proofs.receivers_at.Tie as tie
+use Rattle.list_blocks.specs.Blocks.{receiversAt}
+use Rattle.list_blocks.proofs.receivers_at.Statement.{statement}
+use Rattle.list_blocks.proofs.receivers_at.Tie as tie
 
 abbrev Inv-loop : tie.InvT-loop
 Inv-loop recv list places k below₀ i₀ below i = (i ≤ k) × Filling (receiversAt recv list places) i below₀ below

@@ -4,7 +4,7 @@ use native.Mathlib.Nat.{div-eq-of-lt, one-mul, zero-div}
 use native.Mathlib.Omega.{arith}
 use native.Mathlib.Decide.{decLt, ℕ-discrete}
 use mathlib.Core.Path.{_≡_, refl, sym, ap, _∙_, subst}
-use mathlib.Core.Bool.{true, false, not, true≢false}
+use mathlib.Core.Bool.{Bool, true, false, not, true≢false}
 use mathlib.Core.List.{List}
 use lib.ListN.{length, getD, set, replicate, length-replicate, getD-replicate}
 use lib.Seq.{getD-set-same, getD-set-other}
@@ -13,8 +13,12 @@ use lib.Bits.{bitOr, or-shr, or-mod, or-zero-r}
 use lib.Dec.{eqb, ltb, lit<}
 use borrow.Author.Tests.{lt-ltb, le-ltb, ltb-true, ltb-false, not-true}
 use Rattle.lists.proofs.TestLaws.{both}
-use Rattle.lent_list.specs.Seen.{span, isMarked, marking, isSet, inStretch, Clear, Blank}
-use Rattle.lent_list.proofs.StretchLaws.{Put}
+use Rattle.list_marks.specs.Seen.{isMarked, marking, isSet, inStretch, Clear, Blank}
+
+-- a mark put in at place i is there, and every other mark is as it was
+pub record Put (m : ℕ → Bool) (i : ℕ) (next : ℕ → Bool) : Type 0 where
+  pub same : next i ≡ true
+  pub other : (k : ℕ) → (k ≡ i → ⊥) → next k ≡ m k
 
 -- the bits of a power of two
 power-same : (k : ℕ) → 2 ^ k / 2 ^ k % 2 ≡ 1
@@ -120,17 +124,3 @@ module _ (long lo c : ℕ) where
 
   pub outside : inStretch long lo c ≡ false → lo ≤ c → c < lo + long → ⊥
   outside e h l = true≢false (sym (stretch-from h ∙ lt-ltb (c - lo) long (omega arith)) ∙ e)
-
--- how far c lies behind lo, worked out modulo 2 ^ 32, says whether it lies in the stretch
-module _ {lo c past : ℕ} (low : lo ≤ 2 ^ 24) (fit : past < 2 ^ 32) (e : (past + lo) % 2 ^ 32 ≡ c) where
-  pub counted-inside : past < span → inStretch span lo c ≡ true
-  counted-inside l =
-      let back : past + lo ≡ c = omega arith in
-      stretch-from span lo c (omega arith) ∙ lt-ltb (c - lo) span (omega arith)
-
-  pub counted-outside : span ≤ past → inStretch span lo c ≡ false
-  counted-outside l = go (decLt c lo)
-    where
-      go : Dec (c < lo) → inStretch span lo c ≡ false
-      go (yes h) = stretch-before span lo c h
-      go (no h) = stretch-from span lo c (omega arith) ∙ le-ltb (c - lo) span (omega arith)

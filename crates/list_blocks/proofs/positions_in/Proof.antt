@@ -2,10 +2,10 @@ use Prim.Native.Nat.{ℕ, _-_, _≤_}
 use mathlib.Core.Path.{_≡_, refl, _∙_}
 use lib.ListN.{length, length-set}
 use native.Mathlib.Omega.{arith}
-use Rattle.lent_list.specs.Seen.{Listed}
-use Rattle.lent_list.proofs.BlockLaws.{listed-none, listed-next}
-use Rattle.lent_list.proofs.positions_in.Statement.{statement}
-use Rattle.lent_list.proofs.positions_in.Tie as tie
+use Rattle.list_blocks.specs.Blocks.{Listed}
+use Rattle.list_blocks.proofs.ListedLaws.{listed-none, listed-next}
+use Rattle.list_blocks.proofs.positions_in.Statement.{statement}
+use Rattle.list_blocks.proofs.positions_in.Tie as tie
 
 abbrev Inv-loop : tie.InvT-loop
 Inv-loop list lo from to places₀ k₀ p₀ places k p = (p ≤ to) × (Listed list lo from p places k × (length places ≡ length places₀))

@@ -1,7 +1,7 @@
 use mathlib.Core.Path.{sym}
-use Rattle.lent_list.proofs.SeenLaws.{stretch-before, stretch-from}
-use Rattle.lent_list.proofs.in_stretch.Statement.{statement}
-use Rattle.lent_list.proofs.in_stretch.Tie as tie
+use Rattle.list_marks.proofs.SeenLaws.{stretch-before, stretch-from}
+use Rattle.list_marks.proofs.in_stretch.Statement.{statement}
+use Rattle.list_marks.proofs.in_stretch.Tie as tie
 
 returns : tie.Need-returns
 returns c = sym (stretch-before _ _ _ (c .if1 .taken))

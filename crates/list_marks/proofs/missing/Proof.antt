@@ -1,11 +1,11 @@
 use mathlib.Core.Path.{sym, ap, _∙_}
 use mathlib.Core.Bool.{not}
 use native.Mathlib.Omega.{arith}
-use Rattle.lent_list.specs.Seen.{span}
-use Rattle.lent_list.proofs.SeenLaws.{inside}
+use Rattle.list_marks.specs.Seen.{span}
+use Rattle.list_marks.proofs.SeenLaws.{inside}
 use borrow.Author.Needs.{needs}
-use Rattle.lent_list.proofs.missing.Statement.{statement}
-use Rattle.lent_list.proofs.missing.Tie as tie
+use Rattle.list_marks.proofs.missing.Statement.{statement}
+use Rattle.list_marks.proofs.missing.Tie as tie
 
 in-stretch-requires : tie.Need-in-stretch-requires
 in-stretch-requires c κs = search needs

@@ -1,10 +1,10 @@
 use Prim.Native.Nat.{_%_}
 use native.Mathlib.Omega.{arith}
 use borrow.Author.Needs.{needs}
-use Rattle.lent_list.specs.Seen.{marking}
-use Rattle.lent_list.proofs.SeenLaws.{shifted-one}
-use Rattle.lent_list.proofs.mark.Statement.{statement}
-use Rattle.lent_list.proofs.mark.Tie as tie
+use Rattle.list_marks.specs.Seen.{marking}
+use Rattle.list_marks.proofs.SeenLaws.{shifted-one}
+use Rattle.list_marks.proofs.mark.Statement.{statement}
+use Rattle.list_marks.proofs.mark.Tie as tie
 
 mul-seen : tie.Need-mul-seen
 mul-seen c = search needs

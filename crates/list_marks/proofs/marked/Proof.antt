@@ -1,8 +1,8 @@
 use mathlib.Core.Path.{refl}
 use borrow.Author.Needs.{needs}
-use Rattle.lent_list.specs.Seen.{isMarked}
-use Rattle.lent_list.proofs.marked.Statement.{statement}
-use Rattle.lent_list.proofs.marked.Tie as tie
+use Rattle.list_marks.specs.Seen.{isMarked}
+use Rattle.list_marks.proofs.marked.Statement.{statement}
+use Rattle.list_marks.proofs.marked.Tie as tie
 
 mul-result : tie.Need-mul-result
 mul-result c = search needs

@@ -1,7 +1,7 @@
 use borrow.Author.Needs.{needs}
-use Rattle.lent_list.proofs.SeenLaws.{counted-inside, counted-outside}
-use Rattle.lent_list.proofs.counted.Statement.{statement}
-use Rattle.lent_list.proofs.counted.Tie as tie
+use Rattle.list_blocks.proofs.ListedLaws.{counted-inside, counted-outside}
+use Rattle.list_blocks.proofs.counted.Statement.{statement}
+use Rattle.list_blocks.proofs.counted.Tie as tie
 
 wrapping-sub-u32-requires : tie.Need-wrapping-sub-u32-requires
 wrapping-sub-u32-requires c κs = search needs

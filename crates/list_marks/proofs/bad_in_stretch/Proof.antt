@@ -2,10 +2,10 @@ use mathlib.Core.Path.{ap₂}
 use mathlib.Core.Bool.{_||_}
 use native.Mathlib.Omega.{arith}
 use borrow.Author.Needs.{needs}
-use Rattle.lent_list.specs.Seen.{span}
-use Rattle.lent_list.proofs.SeenLaws.{inside}
-use Rattle.lent_list.proofs.bad_in_stretch.Statement.{statement}
-use Rattle.lent_list.proofs.bad_in_stretch.Tie as tie
+use Rattle.list_marks.specs.Seen.{span}
+use Rattle.list_marks.proofs.SeenLaws.{inside}
+use Rattle.list_marks.proofs.bad_in_stretch.Statement.{statement}
+use Rattle.list_marks.proofs.bad_in_stretch.Tie as tie
 
 sub-i : tie.Need-sub-i
 sub-i c = let p = inside span (c .before .args .lo) (c .before .args .c) (c .before .pre .1) in p .0

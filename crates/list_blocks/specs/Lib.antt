@@ -1,0 +1,2 @@
+-- Blocks of a list.
+pub mod Blocks

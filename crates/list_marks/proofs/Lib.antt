@@ -1,0 +1,2 @@
+-- Laws of marks and stretches.
+pub mod SeenLaws

@@ -1,0 +1,2 @@
+-- The marks of cells.
+pub mod Seen
