@@ -1,3 +1,2 @@
 -- Laws of the definitions in specs/.
-pub mod StepLaws
 pub mod WordLaws

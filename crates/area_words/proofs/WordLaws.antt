@@ -5,11 +5,12 @@ use native.Mathlib.Decide.{ℕ-discrete}
 use mathlib.Core.Path.{_≡_, refl, sym, ap, _∙_, subst}
 use mathlib.Core.Bool.{Bool, true, false, not, cond}
 use mathlib.Core.List.{List, _∷_, _++_}
-use lib.ListN.{length, getD, set, take, drop}
-use lib.Seq.{getD-set-same, getD-set-other, split-at, drop-cons, drop-length}
-use lib.Dec.{T, eqb}
+use lib.ListN.{length, getD, set, take, drop, length-set}
+use lib.Seq.{getD-set-same, getD-set-other, split-at, drop-cons, drop-length, ext-getD}
+use lib.Dec.{T, eqb, le→leb}
 use lib.IntN.{pos}
-use lib.Ieee.{Float, nan, binary32, ofBits, toBits, isNan, inFloat}
+use lib.Ieee.{Float, nan, binary32, ofBits, toBits, isNan, inFloat, inUnsigned, toUnsigned}
+use lib.Ieee.Back.{unsigned-back}
 use borrow.Author.Tests.{eqb-true, eqb-false}
 use Rattle.lists.specs.Loops.{tabulate}
 use Rattle.lists.proofs.LoopLaws.{at-end}
@@ -17,14 +18,15 @@ use Rattle.lists.proofs.TableLaws.{tabulate-same, tabulate-getD, length-tabulat
 use Rattle.floats.proofs.BitsLaws.{plain-bits, bits-back}
 use Rattle.floats.proofs.WholeLaws.{float-in}
 use Rattle.float_order.specs.Whole.{whole}
-use Rattle.drainage.specs.Ways.{times, WorkList, areasAlong}
+use Rattle.drainage.specs.Ways.{passes, areaOf, times, WorkList, areasAlong}
 use Rattle.drainage.proofs.CountLaws.{count-le, count-one}
 use Rattle.drainage.proofs.TrailLaws.{trail}
 use Rattle.drainage.proofs.WorkListLaws.{entry-lt, downstream}
-use Rattle.drainage.proofs.AreaLaws.{been, been-receiver, been-other, been-own, work-areas, length-areas}
-use Rattle.steps.specs.Step.{Steps}
-use Rattle.area_words.specs.Words.{stepOf, steppedTo, wordOf, areaIn, receiverIn, passedOn, Word, Words, Network, Passing}
-use Rattle.area_words.proofs.StepLaws.{Step, step-back}
+use Rattle.drainage.proofs.AreaLaws.{been, been-receiver, been-other, been-own, work-areas, length-areas, areas}
+use Rattle.ways.specs.Apart.{Along}
+use Rattle.steps.specs.Step.{stepOf, steppedTo, Steps}
+use Rattle.steps.proofs.StepLaws.{Step, step-back}
+use Rattle.area_words.specs.Words.{wordOf, areaIn, areasIn, receiverIn, passedOn, Word, Words, Network, Passing, WordFor, Worded, AreaWords, WholeArea, WholeAreas, Ahead}
 
 module _ {x : Float} (w : Word x) where
   pub word-plain : T (not (isNan x))
@@ -50,8 +52,37 @@ module _ {w cells : ℕ} {recv : List ℕ} (net : Network w recv cells) where
   few : length recv ≤ 2 ^ 24
   few = omega (arith, net .steps .few)
 
-bounded : {w cells : ℕ} {recv : List ℕ} (net : Network w recv cells) (s : List ℕ) {c : ℕ} → c < length recv → wordOf (been (length recv) recv s c) (stepOf w c (getD recv c 0)) < 2 ^ 28 + 16
-bounded {recv = recv} net s {c} l = omega (arith, count-le (length recv) (λ j. trail (λ c. getD recv c 0) s j c), few net, step-small net l)
+-- ---- words for receivers
+module _ {w cells : ℕ} {recv : List ℕ} (net : Network w recv cells) {words : List Float} (d : Worded w recv words) where
+  bounded : {c : ℕ} (l : c < length recv) → wordOf (d .each c l .area) (stepOf w c (getD recv c 0)) < 2 ^ 28 + 16
+  bounded {c} l = omega (arith, d .each c l .few, step-small net l)
+
+  pub worded-words : Words words
+  worded-words c l =
+      let m : c < length recv = omega (arith, d .long) in
+      record { number = wordOf (d .each c m .area) (stepOf w c (getD recv c 0)); same = d .each c m .same; small = bounded m }
+
+  told : (c : ℕ) (l : c < length recv) → toBits binary32 (getD words c nan) ≡ wordOf (d .each c l .area) (stepOf w c (getD recv c 0))
+  told c l = ap (toBits binary32) (d .each c l .same) ∙ bits-back (omega (arith, bounded l))
+
+  pub stepped : (c : ℕ) → c < length recv → toBits binary32 (getD words c nan) % 16 ≡ stepOf w c (getD recv c 0)
+  stepped c l = omega (arith, told c l, step-small net l)
+
+  pub counted : (c : ℕ) (l : c < length recv) → toBits binary32 (getD words c nan) / 16 ≡ d .each c l .area
+  counted c l = omega (arith, told c l, step-small net l)
+
+  pub leads : (c : ℕ) → c < length recv → receiverIn w c words ≡ getD recv c 0
+  leads c l = ap (steppedTo w c) (stepped c l) ∙ step net l .back
+
+  pub worded-passing : (c : ℕ) → c < length recv → Passing w words c
+  worded-passing c l = record {
+    wide = net .steps .wide;
+    few = omega (arith, d .long, net .steps .few);
+    cell = omega (arith, d .long);
+    all = worded-words;
+    past = subst (λ (t : ℕ). w + 1 ≤ c + t % 4 + t / 4 * w) (sym (stepped c l)) (step net l .past);
+    inside = omega (arith, leads c l, d .long, net .steps .inside c l);
+  }
 
 -- the words once the entries from position k on are passed on
 pub record Summing (w : ℕ) (recv list : List ℕ) (k : ℕ) (words : List Float) : Type 0 where
@@ -69,42 +100,27 @@ module _ {w cells : ℕ} {recv list : List ℕ} (net : Network w recv cells) whe
   }
 
   module _ {k : ℕ} {words : List Float} (s : Summing w recv list k words) where
-    pub summing-words : Words words
-    summing-words c l =
-        let m : c < length recv = omega (arith, s .long) in
-        record { number = wordOf (been (length recv) recv (drop k list) c) (stepOf w c (getD recv c 0)); same = s .held c m; small = bounded net (drop k list) m }
+    few-been : (c : ℕ) → been (length recv) recv (drop k list) c ≤ 2 ^ 24
+    few-been c = omega (arith, count-le (length recv) (λ j. trail (λ c. getD recv c 0) (drop k list) j c), few net)
 
-    told : (c : ℕ) → c < length recv → toBits binary32 (getD words c nan) ≡ wordOf (been (length recv) recv (drop k list) c) (stepOf w c (getD recv c 0))
-    told c l = ap (toBits binary32) (s .held c l) ∙ bits-back (omega (arith, bounded net (drop k list) l))
-
-    stepped : (c : ℕ) → c < length recv → toBits binary32 (getD words c nan) % 16 ≡ stepOf w c (getD recv c 0)
-    stepped c l = omega (arith, told c l, step-small net l)
-
-    leads : (c : ℕ) → c < length recv → receiverIn w c words ≡ getD recv c 0
-    leads c l = ap (steppedTo w c) (stepped c l) ∙ step net l .back
-
-    pub summing-passing : (c : ℕ) → c < length recv → Passing w words c
-    summing-passing c l = record {
-      wide = net .steps .wide;
-      few = omega (arith, s .long, net .steps .few);
-      cell = omega (arith, s .long);
-      all = summing-words;
-      past = subst (λ (t : ℕ). w + 1 ≤ c + t % 4 + t / 4 * w) (sym (stepped c l)) (step net l .past);
-      inside = omega (arith, leads c l, s .long, net .steps .inside c l);
-    }
+    pub summing-worded : Worded w recv words
+    summing-worded = record { long = s .long; each = λ c l. record { area = been (length recv) recv (drop k list) c; few = few-been c; same = s .held c l } }
 
     -- all of the list is passed on: the words hold the areas along it
-    pub summing-done : WorkList (length recv) recv list → k ≤ 0 → tabulate (length words) (λ c. areaIn (getD words c nan)) ≡ areasAlong (length recv) recv list
-    summing-done work z =
-        ap (λ (n : ℕ). tabulate n (λ c. areaIn (getD words c nan))) (s .long)
-        ∙ tabulate-same (λ c. areaIn (getD words c nan)) (λ c. getD (areasAlong (length recv) recv list) c nan) (length recv) area
-        ∙ ap (λ (n : ℕ). tabulate n (λ c. getD (areasAlong (length recv) recv list) c nan)) (sym (length-areas (length recv) (few net) recv list))
-        ∙ tabulate-getD (areasAlong (length recv) recv list) nan
+    pub summing-done : WorkList (length recv) recv list → k ≤ 0 → AreaWords w recv (areasAlong (length recv) recv list) words
+    unfolding areasIn summing-worded
+    summing-done work z = record {
+      worded = summing-worded;
+      areas =
+          ap (λ (n : ℕ). tabulate n (λ c. areaIn (getD words c nan))) (s .long)
+          ∙ tabulate-same (λ c. areaIn (getD words c nan)) (λ c. getD (areasAlong (length recv) recv list) c nan) (length recv) area
+          ∙ ap (λ (n : ℕ). tabulate n (λ c. getD (areasAlong (length recv) recv list) c nan)) (sym (length-areas (length recv) (few net) recv list))
+          ∙ tabulate-getD (areasAlong (length recv) recv list) nan;
+    }
       where
         area : (c : ℕ) → c < length recv → areaIn (getD words c nan) ≡ getD (areasAlong (length recv) recv list) c nan
         area c l =
-            let count : toBits binary32 (getD words c nan) / 16 ≡ been (length recv) recv (drop k list) c = omega (arith, told c l, step-small net l) in
-            ap whole (at-end (λ (j : ℕ). been (length recv) recv (drop j list) c) count z (omega arith))
+            ap whole (at-end (λ (j : ℕ). been (length recv) recv (drop j list) c) (counted net summing-worded c l) z (omega arith))
             ∙ sym (work-areas (few net) work c l)
 
     -- one entry more
@@ -139,6 +155,7 @@ module _ {w cells : ℕ} {recv list : List ℕ} (net : Network w recv cells) whe
 
       after : (R : ℕ) → R ≡ r → (b : Bool) → eqb R c ≡ b → (y : ℕ) → y < length recv
           → getD (cond b words (set words R (ofBits binary32 (toBits binary32 (getD words R nan) + (toBits binary32 (getD words c nan) - toBits binary32 (getD words c nan) % 16))))) y nan ≡ word-after y
+      unfolding summing-worded
       after R e true t y l =
           s .held y l ∙ ap (λ (a : ℕ). ofBits binary32 (wordOf a (stepOf w y (getD recv y 0)))) (sym (been-own (length recv) (few net) recv c y (drop k list) once (sym e ∙ eqb-true R c t)))
       after R e false t y l = go (ℕ-discrete y R)
@@ -148,8 +165,8 @@ module _ {w cells : ℕ} {recv list : List ℕ} (net : Network w recv cells) whe
 
           sum : toBits binary32 (getD words R nan) + (toBits binary32 (getD words c nan) - toBits binary32 (getD words c nan) % 16) ≡ wordOf (been (length recv) recv (c ∷ drop k list) r) (stepOf w r (getD recv r 0))
           sum =
-              let at : toBits binary32 (getD words R nan) ≡ wordOf (been (length recv) recv (drop k list) r) (stepOf w r (getD recv r 0)) = ap (λ (i : ℕ). toBits binary32 (getD words i nan)) e ∙ told r (net .steps .inside c entry) in
-              omega (arith, at, told c entry, stepped c entry, been-receiver (length recv) (few net) recv c (drop k list) once behind other)
+              let at : toBits binary32 (getD words R nan) ≡ wordOf (been (length recv) recv (drop k list) r) (stepOf w r (getD recv r 0)) = ap (λ (i : ℕ). toBits binary32 (getD words i nan)) e ∙ told net summing-worded r (net .steps .inside c entry) in
+              omega (arith, at, told net summing-worded c entry, stepped net summing-worded c entry, been-receiver (length recv) (few net) recv c (drop k list) once behind other)
 
           go : Dec (y ≡ R) → getD (set words R (ofBits binary32 (toBits binary32 (getD words R nan) + (toBits binary32 (getD words c nan) - toBits binary32 (getD words c nan) % 16)))) y nan ≡ word-after y
           go (yes q) =
@@ -162,17 +179,115 @@ module _ {w cells : ℕ} {recv list : List ℕ} (net : Network w recv cells) whe
               ∙ s .held y l
               ∙ ap (λ (a : ℕ). ofBits binary32 (wordOf a (stepOf w y (getD recv y 0)))) (sym (been-other (length recv) (few net) recv c y (drop k list) (λ z. q (sym z ∙ sym e))))
 
-      pub summing-more : {new : List Float} → new ≡ passedOn w (getD list (k - 1) 0) words → length new ≡ length words → Summing w recv list (k - 1) new
-      summing-more {new} e long = record {
+      pub summing-more : {below : ℕ} {new : List Float} → below ≡ getD recv (getD list (k - 1) 0) 0 → new ≡ passedOn (getD list (k - 1) 0) below words → length new ≡ length words
+          → Summing w recv list (k - 1) new
+      summing-more {below} {new} q e long = record {
         place = omega (arith, s .place);
         long = long ∙ s .long;
         held = λ y l.
-            ap (λ (t : List Float). getD t y nan) e ∙ after (receiverIn w c words) (leads c entry) (eqb (receiverIn w c words) c) refl y l
+            ap (λ (t : List Float). getD t y nan) e ∙ after below q (eqb below c) refl y l
             ∙ ap (λ (t : List ℕ). ofBits binary32 (wordOf (been (length recv) recv t y) (stepOf w y (getD recv y 0)))) (sym front);
       }
+
+-- ---- words of areas that are given
+module _ {area : Float} (a : WholeArea area) where
+  area-back : T (inUnsigned binary32 32 (whole (a .number))) × (toUnsigned 32 (whole (a .number)) ≡ a .number)
+  unfolding inFloat
+  area-back = unsigned-back binary32 32 (a .number) (le→leb _ _ (a .small)) (omega (arith, a .small))
+
+  pub area-cast : T (inUnsigned binary32 32 area)
+  area-cast = subst (λ (x : Float). T (inUnsigned binary32 32 x)) (sym (a .same)) (area-back .0)
+
+  area-number : toUnsigned 32 area ≡ a .number
+  area-number = ap (toUnsigned 32) (a .same) ∙ area-back .1
+
+  pub area-few : toUnsigned 32 area ≤ 2 ^ 24
+  area-few = omega (arith, area-number, a .small)
+
+  area-again : whole (toUnsigned 32 area) ≡ area
+  area-again = ap whole area-number ∙ sym (a .same)
+
+-- the word of cell c with the area that stands in its place
+abbrev pub wordWith : ℕ → List ℕ → List Float → ℕ → Float
+wordWith w recv areas c = ofBits binary32 (wordOf (toUnsigned 32 (getD areas c nan)) (stepOf w c (getD recv c 0)))
+
+module _ {w cells : ℕ} {recv : List ℕ} (areas : List Float) {words : List Float} (net : Network w recv cells) (wholes : WholeAreas areas) (long : length areas ≡ length recv)
+    (e : words ≡ tabulate (length recv) (wordWith w recv areas)) where
+  with-word : (c : ℕ) → c < length recv → WordFor w c (getD recv c 0) (getD words c nan)
+  with-word c l = record {
+    area = toUnsigned 32 (getD areas c nan);
+    few = area-few (wholes c (omega arith));
+    same = ap (λ (t : List Float). getD t c nan) e ∙ getD-tabulate (wordWith w recv areas) (length recv) c nan l;
+  }
+
+  with-words : Worded w recv words
+  with-words = record { long = ap length e ∙ length-tabulate (wordWith w recv areas) (length recv); each = with-word }
+
+  pub with-areas : AreaWords w recv areas words
+  unfolding areasIn with-words with-word
+  with-areas = record { worded = with-words; areas = ext-getD nan _ _ (length-tabulate _ (length words) ∙ with-words .long ∙ sym long) at }
+    where
+      at : (c : ℕ) → c < length (tabulate (length words) (λ c. areaIn (getD words c nan))) → getD (tabulate (length words) (λ c. areaIn (getD words c nan))) c nan ≡ getD areas c nan
+      at c h =
+          let k : c < length words = omega (arith, length-tabulate (λ c. areaIn (getD words c nan)) (length words)) in
+          let l : c < length recv = omega (arith, with-words .long) in
+          getD-tabulate (λ c. areaIn (getD words c nan)) (length words) c nan k
+          ∙ ap whole (counted net with-words c l)
+          ∙ area-again (wholes c (omega arith))
+
+-- the areas along a work list are whole numbers
+pub whole-areas : {n : ℕ} {recv list : List ℕ} {area : List Float} → n ≤ 2 ^ 24 → WorkList n recv list → area ≡ areasAlong n recv list → WholeAreas area
+unfolding areaOf
+whole-areas {n} {recv} {list} {area} few work along c l =
+    let long : length area ≡ n = ap length along ∙ length-areas n few recv list in
+    record {
+      number = areaOf n recv c;
+      same = ap (λ (t : List Float). getD t c nan) along ∙ areas n few recv list work .area c (omega arith);
+      small = omega (arith, count-le n (λ j. passes recv n j c));
+    }
 
 -- what the words ask
 pub network-of : {w n : ℕ} {recv list : List ℕ} → 3 ≤ w → Steps w n recv → WorkList n recv list → Network w recv n × WorkList (length recv) recv list
 network-of {w} {n} {recv} {list} columns steps work =
     let long : n ≡ length recv = sym (steps .receivers) in
     (record { columns = columns; steps = subst (λ (k : ℕ). Steps w k recv) long steps; long = long }, subst (λ (k : ℕ). WorkList k recv list) long work)
+
+pub network-still : {w a b : ℕ} {recv : List ℕ} → Network w recv a → b ≡ a → Network w recv b
+network-still net e = record { columns = net .columns; steps = net .steps; long = e ∙ net .long }
+
+-- ---- receivers read ahead
+-- an entry of the list among the words
+pub record Entry (w : ℕ) (recv : List ℕ) (words : List Float) (c : ℕ) : Type 0 where
+  pub passing : Passing w words c
+  pub leads-to : receiverIn w c words ≡ getD recv c 0
+
+pub entry-at : {w : ℕ} {recv list : List ℕ} {words : List Float} → Network w recv (length words) → Worded w recv words → Along (length words) recv list → (j : ℕ) → j < length list → Entry w recv words (getD list j 0)
+entry-at {recv = recv} {list = list} net d along j l =
+    let m : getD list j 0 < length recv = omega (arith, along .entries j l, d .long) in
+    record { passing = worded-passing net d (getD list j 0) m; leads-to = leads net d (getD list j 0) m }
+
+module _ {recv list : List ℕ} where
+  pub ahead-none : {k : ℕ} {below : List ℕ} → Ahead recv list k k below
+  ahead-none = record { order = omega arith; few = omega arith; each = λ j a b. absurd (omega arith) }
+
+  -- the last of them
+  pub ahead-at : {lo k : ℕ} {below : List ℕ} → Ahead recv list lo k below → lo < k → getD below (k - 1 - lo) 0 ≡ getD recv (getD list (k - 1) 0) 0
+  ahead-at a l = a .each _ (omega arith) (omega arith)
+
+  -- of one position less
+  pub ahead-less : {lo k : ℕ} {below : List ℕ} → Ahead recv list lo k below → lo < k → Ahead recv list lo (k - 1) below
+  ahead-less a l = record { order = omega arith; few = omega (arith, a .few); each = λ j m n. a .each j m (omega arith) }
+
+  pub ahead-to : {lo j k : ℕ} {below : List ℕ} → Ahead recv list lo j below → j ≡ k → Ahead recv list lo k below
+  ahead-to {lo} {below = below} a e = subst (λ (i : ℕ). Ahead recv list lo i below) e a
+
+  -- while they are read
+  pub ahead-more : {lo j : ℕ} {below : List ℕ} {r : ℕ} → Ahead recv list lo j below → r ≡ getD recv (getD list j 0) 0 → j < lo + length below → Ahead recv list lo (j + 1) (set below (j - lo) r)
+  ahead-more {lo} {j} {below} {r} a e l = record { order = omega (arith, a .order); few = omega (arith, length-set below (j - lo) r); each = each }
+    where
+      each : (i : ℕ) → lo ≤ i → i < j + 1 → getD (set below (j - lo) r) (i - lo) 0 ≡ getD recv (getD list i 0) 0
+      each i m n = go (ℕ-discrete i j)
+        where
+          go : Dec (i ≡ j) → getD (set below (j - lo) r) (i - lo) 0 ≡ getD recv (getD list i 0) 0
+          go (yes q) = rw q (getD-set-same below (j - lo) r 0 (omega (arith, a .order)) ∙ e)
+          go (no q) = getD-set-other below (j - lo) (i - lo) r 0 (λ z. q (omega (arith, a .order))) ∙ a .each i m (omega arith)

@@ -4,20 +4,11 @@ use mathlib.Core.Path.{_≡_}
 use mathlib.Core.Bool.{cond}
 use mathlib.Core.List.{List}
 use lib.ListN.{length, getD, set}
-use lib.Dec.{eqb, ltb}
+use lib.Dec.{eqb}
 use lib.Ieee.{Float, nan, binary32, ofBits, toBits}
+use Rattle.lists.specs.Loops.{tabulate}
 use Rattle.float_order.specs.Whole.{whole}
-use Rattle.steps.specs.Step.{Steps}
-
--- the step from cell i to cell r on w columns: from the north-west neighbour, r is s % 4 columns to the east and s / 4 rows to the south
-unfoldable pub stepOf : ℕ → ℕ → ℕ → ℕ
-stepOf w i r =
-    let past = r + w + 1 - i in
-    cond (ltb past w) past (cond (ltb past (w + w)) (past + 4 - w) (past + 8 - w - w))
-
--- the cell that a step from cell c leads to
-abbrev pub steppedTo : ℕ → ℕ → ℕ → ℕ
-steppedTo w c s = c + s % 4 + s / 4 * w - w - 1
+use Rattle.steps.specs.Step.{stepOf, steppedTo, Steps}
 
 abbrev pub wordOf : ℕ → ℕ → ℕ
 wordOf area step = area * 16 + step
@@ -26,15 +17,19 @@ wordOf area step = area * 16 + step
 abbrev pub areaIn : Float → Float
 areaIn x = whole (toBits binary32 x / 16)
 
+-- the areas in all words
+unfoldable pub areasIn : List Float → List Float
+unfolding tabulate
+areasIn words = tabulate (length words) (λ c. areaIn (getD words c nan))
+
 -- the cell that the word of cell c leads to
 abbrev pub receiverIn : ℕ → ℕ → List Float → ℕ
 receiverIn w c words = steppedTo w c (toBits binary32 (getD words c nan) % 16)
 
--- the area in the word of cell c added to that in its receiver's, if that is another cell
+-- the area in the word of cell c added to that in the word of r, if that is another cell
 abbrev pub passedOn : ℕ → ℕ → List Float → List Float
-passedOn w c words =
+passedOn c r words =
     let word = toBits binary32 (getD words c nan) in
-    let r = receiverIn w c words in
     cond (eqb r c) words (set words r (ofBits binary32 (toBits binary32 (getD words r nan) + (word - word % 16))))
 
 -- a word with an area of at most 2 ^ 24
@@ -60,3 +55,35 @@ pub record Passing (w : ℕ) (words : List Float) (c : ℕ) : Type 0 where
   pub all : Words words
   pub past : w + 1 ≤ c + toBits binary32 (getD words c nan) % 16 % 4 + toBits binary32 (getD words c nan) % 16 / 4 * w
   pub inside : receiverIn w c words < length words
+
+-- the word of cell c, whose receiver is r
+pub record WordFor (w c r : ℕ) (x : Float) : Type 0 where
+  pub area : ℕ
+  pub few : area ≤ 2 ^ 24
+  pub same : x ≡ ofBits binary32 (wordOf area (stepOf w c r))
+
+-- the words of all cells, each with the step to its receiver
+pub record Worded (w : ℕ) (recv : List ℕ) (words : List Float) : Type 0 where
+  pub long : length words ≡ length recv
+  pub each : (c : ℕ) → c < length recv → WordFor w c (getD recv c 0) (getD words c nan)
+
+-- such words, with given areas
+pub record AreaWords (w : ℕ) (recv : List ℕ) (given words : List Float) : Type 0 where
+  pub worded : Worded w recv words
+  pub areas : areasIn words ≡ given
+
+-- an area is a whole number that binary32 has as it is
+pub record WholeArea (area : Float) : Type 0 where
+  pub number : ℕ
+  pub same : area ≡ whole number
+  pub small : number ≤ 2 ^ 24
+
+-- and so is each of all cells
+abbrev pub WholeAreas : List Float → Type 0
+WholeAreas areas = (c : ℕ) → c < length areas → WholeArea (getD areas c nan)
+
+-- `below` has the receivers of the cells at positions lo to k - 1 of a list
+pub record Ahead (recv list : List ℕ) (lo k : ℕ) (below : List ℕ) : Type 0 where
+  pub order : lo ≤ k
+  pub few : k ≤ lo + length below
+  pub each : (j : ℕ) → lo ≤ j → j < k → getD below (j - lo) 0 ≡ getD recv (getD list j 0) 0

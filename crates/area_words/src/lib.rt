@@ -1,30 +1,18 @@
-// Drainage areas of a large grid, added along a list that goes to one slice and not to two: while they are added, the word of a cell holds its
-// area and the step to its receiver. A list by height comes to its cells at random, and waits for memory at each slice.
+// Words that hold the area of a cell and the step to its receiver, in the slice of the areas. A list by height comes to its cells at random and waits
+// for memory at each slice: areas are added, and heights incised, along a list that goes to one slice of words where it would go to two.
+use steps::step_of;
+use steps::step_offsets;
+use steps::stepped_to;
 use ways::accumulate;
 ghost use mathlib.Core.Path.{_≡_};
-ghost use Prim.Native.Nat.{_*_, _≤_, _<_};
+ghost use Prim.Native.Nat.{_+_, _≤_, _<_};
 ghost use lib.ListN.{length, getD};
-ghost use lib.Ieee.{nan, binary32, ofBits};
+ghost use lib.Ieee.{binary32, ofBits};
 ghost use Rattle.lists.specs.Loops.{tabulate};
 ghost use Rattle.drainage.specs.Ways.{WorkList, areasAlong};
-ghost use Rattle.steps.specs.Step.{Near, Steps};
-ghost use Rattle.area_words.specs.Words.{stepOf, wordOf, areaIn, passedOn, Network, Passing, Words};
-
-// The step from cell i to its receiver r, below 16: r's column counted from the one west of i, plus 4 times its row counted from the one north of i.
-fn step_of(i: u32, r: u32, width: u32) -> u32
-    requires { ⌜ Near width i r ⌝ }
-    requires { ⌜ (3 ≤ width) × (i < 4096 * 4096) × (r < 4096 * 4096) ⌝ }
-    ensures { λ s. ⌜ s ≡ stepOf width i r ⌝ }
-{
-    let past = r + width + 1 - i;
-    if past < width {
-        return past;
-    }
-    if past < width + width {
-        return past + 4 - width;
-    }
-    past + 8 - width - width
-}
+ghost use Rattle.ways.specs.Apart.{Along};
+ghost use Rattle.steps.specs.Step.{stepOf, stepOffsets, Steps};
+ghost use Rattle.area_words.specs.Words.{wordOf, areasIn, passedOn, Network, Words, Worded, AreaWords, Ahead, WholeAreas};
 
 // The word of each cell with an area of 1.
 fn first_words(width: usize, recv: &[u32], words: &mut [f32])
@@ -40,24 +28,38 @@ fn first_words(width: usize, recv: &[u32], words: &mut [f32])
     }
 }
 
-// Adds the area in the word of cell c to that in its receiver's, if that is another cell.
-fn pass_on(width: usize, words: &mut [f32], c: usize)
-    requires { ⌜ Passing width (now words) c ⌝ }
-    ensures { λ _. ⌜ now (words .exit) ≡ passedOn width c (now (words .entry)) ⌝ }
+// Adds the area in the word of cell c to that in the word of its receiver r, if that is another cell.
+fn pass_on(words: &mut [f32], c: usize, r: usize)
+    requires { ⌜ Words (now words) ⌝ }
+    requires { ⌜ (c < length (now words)) × (r < length (now words)) ⌝ }
+    ensures { λ _. ⌜ now (words .exit) ≡ passedOn c r (now (words .entry)) ⌝ }
 {
-    let word = f32::to_bits(words[c]);
-    let step = (word % 16) as usize;
-    let r = c + step % 4 + step / 4 * width - width - 1;
     if r == c {
         return;
     }
+    let word = f32::to_bits(words[c]);
     words[r] = f32::from_bits(f32::to_bits(words[r]) + (word - word % 16));
 }
 
+// The words of all cells with areas that are given, each in the place of its area.
+pub fn to_words(width: usize, recv: &[u32], words: &mut [f32])
+    requires { ⌜ Network width (now recv) (length (now words)) ⌝ }
+    requires { ⌜ WholeAreas (now words) ⌝ }
+    ensures { λ _. ⌜ AreaWords width (now (recv .entry)) (now (words .entry)) (now (words .exit)) ⌝ }
+{
+    let w = width as u32;
+    let n = recv.len();
+    let mut i: usize = 0;
+    while i < n {
+        words[i] = f32::from_bits((words[i] as u32) * 16 + step_of(i as u32, recv[i], w));
+        i += 1;
+    }
+}
+
 // The area of each word in its place.
-fn read_areas(words: &mut [f32])
+pub fn read_areas(words: &mut [f32])
     requires { ⌜ Words (now words) ⌝ }
-    ensures { λ _. ⌜ now (words .exit) ≡ tabulate (length (now (words .entry))) (λ c. areaIn (getD (now (words .entry)) c nan)) ⌝ }
+    ensures { λ _. ⌜ now (words .exit) ≡ areasIn (now (words .entry)) ⌝ }
 {
     let n = words.len();
     let mut i: usize = 0;
@@ -67,32 +69,91 @@ fn read_areas(words: &mut [f32])
     }
 }
 
-// Drainage areas by words: all of them written, each area passed on backward along the list, and read.
-fn areas_by_words(width: usize, recv: &[u32], order: &[u32], area: &mut [f32])
-    requires { ⌜ Network width (now recv) (length (now area)) ⌝ }
-    requires { ⌜ WorkList (length (now recv)) (now recv) (now order) ⌝ }
-    ensures { λ _. ⌜ now (area .exit) ≡ areasAlong (length (now (area .entry))) (now (recv .entry)) (now (order .entry)) ⌝ }
+// Reads the receivers of the cells at positions lo to k - 1 of the list from their words.
+fn read_ahead(
+    width: usize,
+    recv: &[u32],
+    order: &[u32],
+    words: &[f32],
+    lo: usize,
+    k: usize,
+    below: &mut [u32],
+    offsets: &[usize; 16],
+)
+    requires { ⌜ Network width (now recv) (length (now words)) ⌝ }
+    requires { ⌜ Worded width (now recv) (now words) ⌝ }
+    requires { ⌜ Along (length (now words)) (now recv) (now order) ⌝ }
+    requires { ⌜ (lo ≤ k) × (k ≤ length (now order)) × (k ≤ lo + length (now below)) × (now offsets ≡ stepOffsets width) ⌝ }
+    ensures { λ _. ⌜ Ahead (now (recv .entry)) (now (order .entry)) lo k (now (below .exit)) ⌝ }
 {
-    first_words(width, recv, area);
-    let mut k = order.len();
-    while k > 0 {
-        k -= 1;
-        pass_on(width, area, order[k] as usize);
+    let mut j = lo;
+    while j < k {
+        let c = order[j] as usize;
+        let word = f32::to_bits(words[c]);
+        below[j - lo] = stepped_to(offsets, c, (word % 16) as usize, width) as u32;
+        j += 1;
     }
-    read_areas(area);
 }
 
-// Drainage areas along a work list of receivers on a grid; on a small one the two slices stay in the cache.
+// Where the receivers before position k are used up, reads those of 256 positions more, and says from where on they are read. A word that is about to be
+// written to is not waited for then: the steps in words stay as they are.
+fn refill(
+    width: usize,
+    recv: &[u32],
+    order: &[u32],
+    words: &[f32],
+    lo: usize,
+    k: usize,
+    below: &mut [u32],
+    offsets: &[usize; 16],
+) -> usize
+    requires { ⌜ Network width (now recv) (length (now words)) ⌝ }
+    requires { ⌜ Worded width (now recv) (now words) ⌝ }
+    requires { ⌜ Along (length (now words)) (now recv) (now order) ⌝ }
+    requires { ⌜ (0 < k) × (k ≤ length (now order)) × (256 ≤ length (now below)) × (now offsets ≡ stepOffsets width) ⌝ }
+    requires { ⌜ Ahead (now recv) (now order) lo k (now below) ⌝ }
+    ensures { λ r. ⌜ (r < k) × Ahead (now (recv .entry)) (now (order .entry)) r k (now (below .exit)) ⌝ }
+{
+    if lo < k {
+        return lo;
+    }
+    if k < 256 {
+        read_ahead(width, recv, order, words, 0, k, below, offsets);
+        return 0;
+    }
+    read_ahead(width, recv, order, words, k - 256, k, below, offsets);
+    k - 256
+}
+
+// Drainage areas along a work list in words, on three columns or more: all of them written with an area of 1, and each area passed on backward along
+// the list.
+pub fn words_along(width: usize, recv: &[u32], order: &[u32], words: &mut [f32])
+    requires { ⌜ Network width (now recv) (length (now words)) ⌝ }
+    requires { ⌜ WorkList (length (now recv)) (now recv) (now order) ⌝ }
+    ensures { λ _. ⌜ AreaWords width (now (recv .entry)) (areasAlong (length (now (words .entry))) (now (recv .entry)) (now (order .entry))) (now (words .exit)) ⌝ }
+{
+    let offsets = step_offsets(width);
+    first_words(width, recv, words);
+    let mut below: [u32; 256] = [0; 256];
+    let mut k = order.len();
+    let mut lo = k;
+    while k > 0 {
+        lo = refill(width, recv, order, words, lo, k, &mut below, &offsets);
+        k -= 1;
+        pass_on(words, order[k] as usize, below[k - lo] as usize);
+    }
+}
+
+// Drainage areas along a work list of receivers on a grid; one or two columns have no steps.
 pub fn areas_along(width: usize, recv: &[u32], order: &[u32], area: &mut [f32])
     requires { ⌜ Steps width (length (now area)) (now recv) ⌝ }
     requires { ⌜ WorkList (length (now area)) (now recv) (now order) ⌝ }
     ensures { λ _. ⌜ now (area .exit) ≡ areasAlong (length (now (area .entry))) (now (recv .entry)) (now (order .entry)) ⌝ }
 {
-    if 131072 < area.len() {
-        if 3 <= width {
-            areas_by_words(width, recv, order, area);
-            return;
-        }
+    if 3 <= width {
+        words_along(width, recv, order, area);
+        read_areas(area);
+        return;
     }
     accumulate(recv, order, area);
 }

@@ -1,2 +1,2 @@
--- Laws of distances and of one cell.
-pub mod DistanceLaws
+-- Laws of the incision of a cell.
+pub mod CutLaws

@@ -1,27 +1,21 @@
--- The coefficients of all cells and the incision of one, with the two formulas of document 01, 'Incision'.
-use Prim.Native.Nat.{ℕ, _+_, _<_}
-use mathlib.Core.Bool.{Bool, _||_, cond}
+-- The incision of one cell, with the two formulas of document 01, 'Incision'.
+use Prim.Native.Nat.{ℕ, _%_, _≤_, _<_}
+use mathlib.Core.Path.{_≡_}
+use mathlib.Core.Bool.{cond}
 use mathlib.Core.List.{List}
 use lib.ListN.{length, getD}
 use lib.Dec.{eqb}
-use lib.Ieee.{Float, nan, binary32, ofBits, add, mul, div, le}
-use Rattle.lists.specs.Loops.{tabulate}
+use lib.Ieee.{Float, nan, binary32, ofBits, toBits, add, mul, div, le}
 use Rattle.floats.specs.Stand.{maxOf}
 use Rattle.ways.specs.Apart.{apart}
-use Rattle.rates.specs.Rate.{rateOf}
+use Rattle.steps.specs.Step.{stepDistances, stepOffsets}
+use Rattle.area_words.specs.Words.{areaIn, receiverIn}
+use Rattle.rates.specs.Rate.{rateOf, ratesOf}
+use Rattle.cuts.specs.declared.Incision.{Incision}
 
 -- k × root(max(area, 1e-4 × n) / n) / d
 abbrev pub incisionCoef : Float → Float → Float → Float → Float
 incisionCoef area n k d = div binary32 (rateOf area n k) d
-
--- the numbers of cells i and r differ by a row of w cells and one, or by a row less one
-abbrev pub aslantOf : ℕ → ℕ → ℕ → Bool
-aslantOf w i r = ((eqb r (i + w + 1) || eqb (r + w + 1) i) || eqb (r + 1) (i + w)) || eqb (i + 1) (r + w)
-
--- each cell's rate divided by the distance to its receiver
-unfoldable pub overDistances : ℕ → List ℕ → List Float → List Float
-unfolding tabulate
-overDistances w recv rates = tabulate (length rates) (λ c. div binary32 (getD rates c nan) (apart w c (getD recv c 0)))
 
 -- (height + uplift + c × H) / (1 + c)
 abbrev pub solved : Float → Float → Float → Float → Float
@@ -36,13 +30,29 @@ drainedTo c r below water = cond (eqb r c) water (maxOf below water)
 abbrev pub cutOf : Float → Float → Float → Float → Float → Float
 cutOf height uplift water c down = cond (le height water) height (solved height uplift c down)
 
--- the new height of cell c of the map hs, by its coefficient and the new height of its receiver
-abbrev pub cutAt : Float → Float → List Float → List ℕ → ℕ → Float → Float → Float
-cutAt uplift water hs recv c coef below = cutOf (getD hs c nan) uplift water coef (drainedTo c (getD recv c 0) below water)
+-- the new height of cell c, from its own height, and the new height of its receiver
+abbrev pub cutDown : Incision → List Float → List ℕ → ℕ → Float → Float → Float
+cutDown by areas recv c own below =
+    cutOf own (by .uplift) (by .water) (incisionCoef (getD areas c nan) (by .cells) (by .k) (apart (by .width) c (getD recv c 0)))
+    (drainedTo c (getD recv c 0) below (by .water))
+
+-- the same by the word of the cell, which has its area and the step to its receiver
+abbrev pub cutByWord : Incision → List Float → ℕ → Float → Float → Float
+cutByWord by words c own below =
+    cutOf own (by .uplift) (by .water)
+    (incisionCoef (areaIn (getD words c nan)) (by .cells) (by .k) (getD stepDistances (toBits binary32 (getD words c nan) % 16) nan))
+    (drainedTo c (receiverIn (by .width) c words) below (by .water))
+
+-- the distances and the offsets of steps, and the rates of the whole areas below m
+pub record Tables (by : Incision) (m : ℕ) (ds : List Float) (os : List ℕ) (rates : List Float) : Type 0 where
+  pub few : m ≤ 1024
+  pub distances : ds ≡ stepDistances
+  pub offsets : os ≡ stepOffsets (by .width)
+  pub small : rates ≡ ratesOf m (by .cells) (by .k)
 
 -- c is a cell of the slices, and so is its receiver
-pub record CellOf (hs : List Float) (recv : List ℕ) (out : List Float) (c : ℕ) : Type 0 where
-  pub height : c < length hs
+pub record CellOf (areas : List Float) (recv : List ℕ) (out : List Float) (c : ℕ) : Type 0 where
+  pub area : c < length areas
   pub receiver : c < length recv
   pub result : c < length out
   pub below : getD recv c 0 < length out

@@ -4,13 +4,15 @@ use mathlib.Core.Path.{_≡_}
 use mathlib.Core.Bool.{true}
 use mathlib.Core.List.{List}
 use lib.ListN.{getD}
-use lib.Ieee.{Float}
+use lib.IntN.{pos}
+use lib.Ieee.{Float, binary32, ofInt}
 use Rattle.grid.specs.Sides.{InRange}
 use Rattle.drainage.specs.Ground.{gridGround}
 use Rattle.drainage.specs.Ways.{WorkList, areasAlong}
 use Rattle.ways.specs.Apart.{Along}
+use Rattle.cuts.specs.declared.Incision.{Incision}
 use Rattle.lent_receivers.specs.Receivers.{goodReceiver}
-use Rattle.fluvial_erosion.specs.Incision.{incisedBy}
+use Rattle.fluvial_erosion.specs.Incision.{inciseAlong, incisedBy}
 use Rattle.fluvial_erosion.specs.declared.FluvialParams.{FluvialParams}
 
 -- receivers and a work list of them on a w × h grid: every receiver is its own cell or a neighbour
@@ -25,6 +27,15 @@ pub record Lengths (n hmap out area : ℕ) : Type 0 where
   pub heights : hmap ≡ n
   pub result : out ≡ n
   pub areas : area ≡ n
+
+-- the settings of an incision on a w × h grid
+abbrev pub onGrid : ℕ → ℕ → FluvialParams → Incision
+onGrid w h p = record { width = w; cells = ofInt binary32 (pos (w * h)); k = p .k; uplift = p .uplift; water = p .«water_level» }
+
+-- what an incision by given areas leaves: the heights incised along the list, and the areas as they were
+pub record Incised (w h : ℕ) (hs : List Float) (p : FluvialParams) (areas : List Float) (recv list : List ℕ) (out area : List Float) : Type 0 where
+  pub heights : out ≡ inciseAlong (gridGround w h (p .«water_level») hs) p areas recv list hs
+  pub still : area ≡ areas
 
 -- what `incise_into` leaves: the heights incised along the list, and the areas along it
 pub record Carved (w h : ℕ) (hs : List Float) (p : FluvialParams) (recv list : List ℕ) (out area : List Float) : Type 0 where

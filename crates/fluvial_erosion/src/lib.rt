@@ -4,27 +4,39 @@ use answers::Answer;
 use answers::Refusal;
 use answers::outside;
 use area_words::areas_along;
-use cuts::divide_by_distances;
+use area_words::read_areas;
+use area_words::to_words;
+use area_words::words_along;
+use cuts::Incision;
 use cuts::incise_cell;
+use cuts::settle_cell;
 use floats::is_finite;
 use grid::Sides;
 use grid::all_finite;
 use grid::bad_sides;
+use grid::copy_heights;
 use grid::first_not_finite;
 use lent_list::first_bad_entry;
 use lent_receivers::first_bad_receiver;
-use rates::rates_of;
-use ways_down::Incision;
+use rates::table;
+use rates::table_size;
+use steps::step_distances;
+use steps::step_offsets;
 use ways_down::incise_ways;
 ghost use mathlib.Core.Path.{_≡_};
-ghost use Prim.Native.Nat.{_*_};
+ghost use Prim.Native.Nat.{_*_, _≤_, _<_};
 ghost use lib.ListN.{length};
+ghost use lib.Ieee.{nan};
+ghost use Rattle.grid.specs.Sides.{InRange};
 ghost use Rattle.drainage.specs.Ground.{gridGround};
-ghost use Rattle.rates.specs.Rate.{WholeAreas};
+ghost use Rattle.ways.specs.Apart.{Along};
+ghost use Rattle.area_words.specs.Words.{areasIn, Network, Worded, WholeAreas};
+ghost use Rattle.cuts.specs.Cut.{cutDown};
+ghost use Rattle.ways_down.specs.Settled.{madeAlong};
 ghost use Rattle.fluvial_erosion.specs.Incision.{inciseAlong};
 ghost use Rattle.answers.specs.Outcome.{gives, refused, refusedAt, answerOf};
 ghost use Rattle.fluvial_erosion.specs.Incise.{badLengths, badIncision, inciseRefusal, InciseMade};
-ghost use Rattle.fluvial_erosion.specs.Along.{Drains, Lengths, Carved};
+ghost use Rattle.fluvial_erosion.specs.Along.{onGrid, Drains, Lengths, Incised, Carved};
 
 // The settings of an incision on its grid.
 pub struct FluvialParams {
@@ -33,43 +45,58 @@ pub struct FluvialParams {
     pub water_level: f32,
 }
 
-// The heights of `hmap` in `out`, incised along the list by areas that are given, each a number of cells. `out` holds the
-// coefficient of each cell until its new height takes that place.
-fn incise_listed(
-    size: Sides,
-    hmap: &[f32],
-    params: FluvialParams,
-    area: &[f32],
-    recv: &[u32],
-    order: &[u32],
-    out: &mut [f32],
-)
-    requires { ⌜ Drains (size .w) (size .h) (now recv) (now order) ⌝ }
-    requires { ⌜ Lengths (size .w * size .h) (length (now hmap)) (length (now out)) (length (now area)) ⌝ }
-    requires { ⌜ WholeAreas (now area) ⌝ }
-    ensures { λ _. ⌜ now (out .exit) ≡ inciseAlong (gridGround (size .w) (size .h) (params .«water_level») (now (hmap .entry))) params (now (area .entry)) (now (recv .entry)) (now (order .entry)) (now (hmap .entry)) ⌝ }
+// The settings of an incision, with its grid.
+fn incision_of(size: Sides, params: FluvialParams) -> Incision
+    requires { ⌜ InRange (size .w) (size .h) ⌝ }
+    ensures { λ r. ⌜ r ≡ onGrid (size .w) (size .h) params ⌝ }
 {
-    let n_cells = (size.w * size.h) as f32;
-    rates_of(area, n_cells, params.k, out);
-    divide_by_distances(size.w, recv, out);
+    Incision {
+        width: size.w,
+        cells: (size.w * size.h) as f32,
+        k: params.k,
+        uplift: params.uplift,
+        water: params.water_level,
+    }
+}
+
+// Incises the heights in `out` along the list, as document 01 says it: for grids of one or two columns, whose steps have no numbers.
+fn incise_plain(by: Incision, area: &[f32], recv: &[u32], order: &[u32], out: &mut [f32])
+    requires { ⌜ Along (length (now out)) (now recv) (now order) ⌝ }
+    requires { ⌜ (0 < by .width) × (length (now area) ≡ length (now out)) ⌝ }
+    ensures { λ _. ⌜ now (out .exit) ≡ madeAlong nan (now (recv .entry)) (cutDown by (now (area .entry)) (now (recv .entry))) (now (order .entry)) (now (out .entry)) ⌝ }
+{
     let len = order.len();
     let mut i: usize = 0;
     while i < len {
-        incise_cell(
-            params.uplift,
-            params.water_level,
-            hmap,
-            recv,
-            out,
-            order[i] as usize,
-        );
+        incise_cell(by, area, recv, out, order[i] as usize);
         i += 1;
     }
 }
 
-// The heights of `hmap` in `out`, incised along the list by areas that are given. They do not depend on the list: on a grid of many cells, where an
-// order by height is at random in memory, each cell is incised with its way down.
-pub fn incise_along(
+// Incises the heights in `out` along the list by the words of the cells: a list by height comes to them at random, and goes to two slices here and not
+// to four.
+fn incise_listed(by: Incision, recv: &[u32], words: &[f32], order: &[u32], out: &mut [f32])
+    requires { ⌜ Along (length (now out)) (now recv) (now order) ⌝ }
+    requires { ⌜ Network (by .width) (now recv) (length (now out)) ⌝ }
+    requires { ⌜ Worded (by .width) (now recv) (now words) ⌝ }
+    ensures { λ _. ⌜ now (out .exit) ≡ madeAlong nan (now (recv .entry)) (cutDown by (areasIn (now (words .entry))) (now (recv .entry))) (now (order .entry)) (now (out .entry)) ⌝ }
+{
+    let ds = step_distances();
+    let offsets = step_offsets(by.width);
+    let m = table_size(words.len());
+    let rates = table(m, by.cells, by.k);
+    let len = order.len();
+    let mut i: usize = 0;
+    while i < len {
+        let c = order[i] as usize;
+        let height = out[c];
+        settle_cell(by, &ds, &offsets, &rates, m, words, out, c, height);
+        i += 1;
+    }
+}
+
+// The heights of `hmap` in `out`, incised along the list by areas that are given, on a grid of one or two columns or on any.
+fn incise_narrow(
     size: Sides,
     hmap: &[f32],
     params: FluvialParams,
@@ -80,22 +107,61 @@ pub fn incise_along(
 )
     requires { ⌜ Drains (size .w) (size .h) (now recv) (now order) ⌝ }
     requires { ⌜ Lengths (size .w * size .h) (length (now hmap)) (length (now out)) (length (now area)) ⌝ }
-    requires { ⌜ WholeAreas (now area) ⌝ }
     ensures { λ _. ⌜ now (out .exit) ≡ inciseAlong (gridGround (size .w) (size .h) (params .«water_level») (now (hmap .entry))) params (now (area .entry)) (now (recv .entry)) (now (order .entry)) (now (hmap .entry)) ⌝ }
 {
-    let n = size.w * size.h;
-    if 1048576 < n {
-        let by = Incision {
-            width: size.w,
-            cells: n as f32,
-            k: params.k,
-            uplift: params.uplift,
-            water: params.water_level,
-        };
-        incise_ways(by, hmap, area, recv, out);
+    let by = incision_of(size, params);
+    copy_heights(hmap, out);
+    incise_plain(by, area, recv, order, out);
+}
+
+// The heights of `hmap` in `out`, incised by the areas in words, which become areas again. They do not depend on the list: on a grid of many cells, where an
+// order by height is at random in memory, each cell is incised with its way down.
+fn incise_words(
+    size: Sides,
+    hmap: &[f32],
+    params: FluvialParams,
+    recv: &[u32],
+    order: &[u32],
+    out: &mut [f32],
+    words: &mut [f32],
+)
+    requires { ⌜ Drains (size .w) (size .h) (now recv) (now order) ⌝ }
+    requires { ⌜ Lengths (size .w * size .h) (length (now hmap)) (length (now out)) (length (now words)) ⌝ }
+    requires { ⌜ (3 ≤ size .w) × Worded (size .w) (now recv) (now words) ⌝ }
+    ensures { λ _. ⌜ Incised (size .w) (size .h) (now (hmap .entry)) params (areasIn (now (words .entry))) (now (recv .entry)) (now (order .entry)) (now (out .exit)) (now (words .exit)) ⌝ }
+{
+    let by = incision_of(size, params);
+    if 1048576 < words.len() {
+        incise_ways(by, hmap, recv, words, out);
+        read_areas(words);
         return;
     }
-    incise_listed(size, hmap, params, area, recv, order, out);
+    copy_heights(hmap, out);
+    incise_listed(by, recv, words, order, out);
+    read_areas(words);
+}
+
+// The heights of `hmap` in `out`, incised along the list by areas that are given, each a number of cells; `area` is scratch meanwhile.
+pub fn incise_along(
+    size: Sides,
+    hmap: &[f32],
+    params: FluvialParams,
+    recv: &[u32],
+    order: &[u32],
+    out: &mut [f32],
+    area: &mut [f32],
+)
+    requires { ⌜ Drains (size .w) (size .h) (now recv) (now order) ⌝ }
+    requires { ⌜ Lengths (size .w * size .h) (length (now hmap)) (length (now out)) (length (now area)) ⌝ }
+    requires { ⌜ WholeAreas (now area) ⌝ }
+    ensures { λ _. ⌜ Incised (size .w) (size .h) (now (hmap .entry)) params (now (area .entry)) (now (recv .entry)) (now (order .entry)) (now (out .exit)) (now (area .exit)) ⌝ }
+{
+    if size.w < 3 {
+        incise_narrow(size, hmap, params, area, recv, order, out);
+        return;
+    }
+    to_words(size.w, recv, area);
+    incise_words(size, hmap, params, recv, order, out, area);
 }
 
 // The heights of `hmap` in `out`, incised along the list, with the areas along it in `area`.
@@ -112,8 +178,13 @@ pub fn incise_into(
     requires { ⌜ Lengths (size .w * size .h) (length (now hmap)) (length (now out)) (length (now area)) ⌝ }
     ensures { λ _. ⌜ Carved (size .w) (size .h) (now (hmap .entry)) params (now (recv .entry)) (now (order .entry)) (now (out .exit)) (now (area .exit)) ⌝ }
 {
-    areas_along(size.w, recv, order, area);
-    incise_along(size, hmap, params, area, recv, order, out);
+    if size.w < 3 {
+        areas_along(size.w, recv, order, area);
+        incise_narrow(size, hmap, params, area, recv, order, out);
+        return;
+    }
+    words_along(size.w, recv, order, area);
+    incise_words(size, hmap, params, recv, order, out, area);
 }
 
 // Refusal 3: a slice of another length than n, or a scratch slice of fewer.

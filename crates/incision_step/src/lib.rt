@@ -43,7 +43,7 @@ fn carve(
         queue,
         status,
     );
-    incise_along(size, hmap, params, area, recv, order, copy);
+    incise_along(size, hmap, params, recv, order, copy, area);
 }
 
 // Opens an iteration at the fraction p of the run. The copy becomes the map only where every height of it is finite; a stop comes before the routing. The

@@ -3,9 +3,9 @@
 use floats::max;
 use square_root::root_of;
 ghost use mathlib.Core.Path.{_≡_};
-ghost use Prim.Native.Nat.{_/_, min, _≤_};
-ghost use lib.ListN.{length};
-ghost use Rattle.rates.specs.Rate.{rateOf, ratesOf, ratesOver, WholeArea, WholeAreas};
+ghost use Prim.Native.Nat.{_/_, _^_, min, _≤_};
+ghost use Rattle.float_order.specs.Whole.{whole};
+ghost use Rattle.rates.specs.Rate.{rateOf, ratesOf};
 
 // The rate of a cell draining `area` cells out of `n_cells`; areas below 1e-4 of the map share that floor's rate.
 pub fn rate(area: f32, n_cells: f32, k: f32) -> f32
@@ -36,32 +36,15 @@ pub fn table(m: usize, n_cells: f32, k: f32) -> [f32; 1024]
     rates
 }
 
-// The rate of a whole area, read from the table where the area is below m.
-pub fn rate_at(rates: &[f32; 1024], m: usize, area: f32, n_cells: f32, k: f32) -> f32
+// The rate of the whole area i, read from the table where i is below m.
+pub fn rate_at(rates: &[f32; 1024], m: usize, i: usize, n_cells: f32, k: f32) -> f32
     requires { ⌜ m ≤ 1024 ⌝ }
     requires { ⌜ now rates ≡ ratesOf m «n_cells» k ⌝ }
-    requires { ⌜ WholeArea area ⌝ }
-    ensures { λ r. ⌜ r ≡ rateOf area «n_cells» k ⌝ }
+    requires { ⌜ i ≤ 2 ^ 24 ⌝ }
+    ensures { λ r. ⌜ r ≡ rateOf (whole i) «n_cells» k ⌝ }
 {
-    let i = (area as u32) as usize;
     if i < m {
         return rates[i];
     }
-    rate(area, n_cells, k)
-}
-
-// The rates of all cells by their areas, which are whole numbers.
-pub fn rates_of(area: &[f32], n_cells: f32, k: f32, out: &mut [f32])
-    requires { ⌜ length (now out) ≡ length (now area) ⌝ }
-    requires { ⌜ WholeAreas (now area) ⌝ }
-    ensures { λ _. ⌜ now (out .exit) ≡ ratesOver (now (area .entry)) «n_cells» k ⌝ }
-{
-    let n = area.len();
-    let m = table_size(n);
-    let rates = table(m, n_cells, k);
-    let mut i: usize = 0;
-    while i < n {
-        out[i] = rate_at(&rates, m, area[i], n_cells, k);
-        i += 1;
-    }
+    rate(i as f32, n_cells, k)
 }

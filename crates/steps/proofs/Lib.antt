@@ -1,2 +1,3 @@
--- Laws of a step's place.
+-- Laws of a step's place and number.
 pub mod PlaceLaws
+pub mod StepLaws

@@ -1,11 +1,12 @@
--- Where the distance of a step stands in a table of five.
-use Prim.Native.Nat.{ℕ, _+_, _-_, _*_, _≤_, _<_}
+-- The number of a step, and where its distance stands in a table.
+use Prim.Native.Nat.{ℕ, _+_, _-_, _*_, _/_, _%_, _≤_, _<_}
 use mathlib.Core.Path.{_≡_}
 use mathlib.Core.Bool.{cond}
 use mathlib.Core.List.{List, [], _∷_}
 use lib.ListN.{length, getD}
 use lib.Dec.{ltb}
 use lib.Ieee.{Float, binary32, ofBits}
+use Rattle.lists.specs.Loops.{tabulate}
 use Rattle.grid.specs.Sides.{columnOf, rowOf}
 
 -- the distances by their place: 1 where the numbers of two cells differ by 0 or 1, then `SQRT_2`, 1 and `SQRT_2` where by w - 1, w and w + 1
@@ -22,6 +23,28 @@ gap a b = (a - b) + (b - a)
 -- the place of the distance between cells i and r of a grid of three columns or more
 unfoldable pub placeOf : ℕ → ℕ → ℕ → ℕ
 placeOf w i r = cond (ltb (gap i r) 2) (gap i r) (gap i r + 3 - w)
+
+-- the step from cell i to cell r on w columns: from the north-west neighbour, r is s % 4 columns to the east and s / 4 rows to the south
+unfoldable pub stepOf : ℕ → ℕ → ℕ → ℕ
+stepOf w i r =
+    let past = r + w + 1 - i in
+    cond (ltb past w) past (cond (ltb past (w + w)) (past + 4 - w) (past + 8 - w - w))
+
+-- the cell that a step from cell c leads to
+abbrev pub steppedTo : ℕ → ℕ → ℕ → ℕ
+steppedTo w c s = c + s % 4 + s / 4 * w - w - 1
+
+-- how far each step leads from the north-west neighbour
+unfoldable pub stepOffsets : ℕ → List ℕ
+unfolding tabulate
+stepOffsets w = tabulate 16 (λ s. s % 4 + s / 4 * w)
+
+-- the distances by the step: `SQRT_2` to the four corners; what is no step has 1
+abbrev pub stepDistances : List Float
+stepDistances =
+    let one = ofBits binary32 0x3f80_0000 in
+    let diagonal = ofBits binary32 0x3fb5_04f3 in
+    diagonal ∷ one ∷ diagonal ∷ one ∷ one ∷ one ∷ one ∷ one ∷ diagonal ∷ one ∷ diagonal ∷ one ∷ one ∷ one ∷ one ∷ one ∷ []
 
 -- cell r is cell i or one of its 8 neighbours, on a grid of w columns
 pub record Near (w i r : ℕ) : Type 0 where

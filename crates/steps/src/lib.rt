@@ -1,8 +1,8 @@
-// The step from a cell to its receiver by the difference of their numbers, where the grid has three columns or more: the distance stands in a table of
-// five, and finding its place takes no division.
+// The step from a cell to its receiver, where the grid has three columns or more: its number, and its distance, which stands in a table by the
+// difference of the cells or by the step. Finding either takes no division.
 ghost use mathlib.Core.Path.{_≡_};
-ghost use Prim.Native.Nat.{_+_, _-_, _≤_};
-ghost use Rattle.steps.specs.Step.{distanceTable, gap, placeOf, Near};
+ghost use Prim.Native.Nat.{_+_, _-_, _*_, _/_, _%_, _≤_, _<_};
+ghost use Rattle.steps.specs.Step.{distanceTable, stepDistances, stepOffsets, gap, placeOf, stepOf, steppedTo, Near};
 
 const SQRT_2: f32 = 1.41421356;
 
@@ -31,4 +31,68 @@ pub fn step_place(i: usize, r: usize, width: usize) -> usize
         return apart;
     }
     apart + 3 - width
+}
+
+// The step from cell i to its receiver r, below 16: r's column counted from the one west of i, plus 4 times its row counted from the one north of i.
+pub fn step_of(i: u32, r: u32, width: u32) -> u32
+    requires { ⌜ Near width i r ⌝ }
+    requires { ⌜ (3 ≤ width) × (i < 4096 * 4096) × (r < 4096 * 4096) ⌝ }
+    ensures { λ s. ⌜ s ≡ stepOf width i r ⌝ }
+{
+    let past = r + width + 1 - i;
+    if past < width {
+        return past;
+    }
+    if past < width + width {
+        return past + 4 - width;
+    }
+    past + 8 - width - width
+}
+
+// How far each step leads from the north-west neighbour: a table, since it is asked for at each cell.
+pub fn step_offsets(width: usize) -> [usize; 16]
+    requires { ⌜ width ≤ 4096 ⌝ }
+    ensures { λ r. ⌜ r ≡ stepOffsets width ⌝ }
+{
+    let mut offsets: [usize; 16] = [0; 16];
+    let mut s: usize = 0;
+    while s < 16 {
+        offsets[s] = s % 4 + s / 4 * width;
+        s += 1;
+    }
+    offsets
+}
+
+// The cell that a step from cell c leads to.
+pub fn stepped_to(offsets: &[usize; 16], c: usize, step: usize, width: usize) -> usize
+    requires { ⌜ now offsets ≡ stepOffsets width ⌝ }
+    requires { ⌜ (width ≤ 4096) × (c < 4096 * 4096) × (step < 16) ⌝ }
+    requires { ⌜ width + 1 ≤ c + step % 4 + step / 4 * width ⌝ }
+    ensures { λ r. ⌜ r ≡ steppedTo width c step ⌝ }
+{
+    c + offsets[step] - width - 1
+}
+
+// The distances by the step.
+pub fn step_distances() -> [f32; 16]
+    ensures { λ r. ⌜ r ≡ stepDistances ⌝ }
+{
+    [
+        SQRT_2,
+        1.0,
+        SQRT_2,
+        1.0,
+        1.0,
+        1.0,
+        1.0,
+        1.0,
+        SQRT_2,
+        1.0,
+        SQRT_2,
+        1.0,
+        1.0,
+        1.0,
+        1.0,
+        1.0,
+    ]
 }

@@ -1,21 +1,19 @@
 -- The settled heights: each fits to its receiver's, and along any work list the incision leaves them.
 use Prim.Native.Nat.{ℕ, _<_}
 use native.Mathlib.Omega.{arith}
-use mathlib.Core.Path.{_≡_, sym, ap, ap₂, _∙_}
+use mathlib.Core.Path.{_≡_, sym, _∙_}
 use mathlib.Core.List.{List}
-use lib.ListN.{length, getD, set}
+use lib.ListN.{length, getD}
 use lib.Seq.{ext-getD}
-use lib.Ieee.{Float, nan, binary32, div}
+use lib.Ieee.{Float, nan}
 use borrow.Author.Tests.{eq-eqb}
 use Rattle.lists.proofs.TableLaws.{length-tabulate, getD-tabulate}
 use Rattle.drainage.specs.Ways.{WorkList}
 use Rattle.drainage.proofs.WorkListLaws.{list-length}
-use Rattle.ways.specs.Apart.{apart}
-use Rattle.rates.specs.Rate.{rateOf}
-use Rattle.cuts.specs.Cut.{drainedTo, cutOf}
-use Rattle.ways_down.specs.declared.Incision.{Incision}
-use Rattle.ways_down.specs.Settled.{madeAlong, cutDown, settledHeight, settledHeights}
-use Rattle.ways_down.specs.Walk.{Ordered, Ways}
+use Rattle.cuts.specs.Cut.{cutDown}
+use Rattle.cuts.specs.declared.Incision.{Incision}
+use Rattle.ways_down.specs.Settled.{madeAlong, settledHeight, settledHeights}
+use Rattle.ways_down.specs.Walk.{Ordered}
 use Rattle.ways_down.proofs.SettleLaws.{along-settled, along-long, settled-down}
 
 -- heights `made` of the cells of recv, each made of that of its receiver
@@ -49,20 +47,9 @@ module _ (by : Incision) (hs areas : List Float) (recv : List ℕ) where
   pub settles : Ordered recv → length hs ≡ length recv → Settles recv cutOn (settledHeight by hs areas recv)
   settles o long = record { fits = fits (o .list) (o .work) long; alone = cut-alone }
 
-  -- a cell is cut as the code does it
-  pub cell-cut : (c : ℕ) (out : List Float) {rate d down v : Float} → rate ≡ rateOf (getD areas c nan) (by .cells) (by .k) → d ≡ apart (by .width) c (getD recv c 0)
-      → down ≡ drainedTo c (getD recv c 0) (getD out (getD recv c 0) nan) (by .water) → v ≡ cutOf (getD hs c nan) (by .uplift) (by .water) (div binary32 rate d) down
-      → set out c v ≡ set out c (cutOn c (getD out (getD recv c 0) nan))
-  cell-cut c out a b e q = ap (set out c) (q ∙ ap₂ (cutOf (getD hs c nan) (by .uplift) (by .water)) (ap₂ (div binary32) a b) e)
-
   -- a list that holds the height of each cell
   pub heights-all : {out : List Float} → length out ≡ length hs → ((c : ℕ) → c < length hs → getD out c nan ≡ settledHeight by hs areas recv c) → out ≡ settledHeights by hs areas recv
   unfolding settledHeights
   heights-all e h =
       ext-getD nan _ _ (e ∙ sym (length-tabulate (settledHeight by hs areas recv) (length hs)))
       (λ c t. let l : c < length hs = omega arith in h c l ∙ sym (getD-tabulate (settledHeight by hs areas recv) (length hs) c nan l))
-
-module _ {w n l : ℕ} {recv : List ℕ} {areas : List Float} (ways : Ways w recv n areas l) where
-  -- the result slice has its length still
-  pub ways-still : {k : ℕ} → k ≡ length recv → Ways w recv n areas k
-  ways-still e = record { wide = ways .wide; steps = ways .steps; ordered = ways .ordered; heights = ways .heights; areas = ways .areas; wholes = ways .wholes; result = e }

@@ -2,4 +2,5 @@
 pub mod PlaceLaws
 pub mod SettleLaws
 pub mod HeightLaws
+pub mod MarkLaws
 pub mod WalkLaws

@@ -1,23 +1,29 @@
 -- A walk down from a cell and back up: how it starts, goes on, turns and ends.
 use Prim.Native.Nat.{ℕ, _+_, _-_, _*_, _≤_, _<_}
 use native.Mathlib.Omega.{arith}
-use native.Mathlib.Decide.{decLt, ℕ-discrete}
+use native.Mathlib.Decide.{ℕ-discrete}
 use mathlib.Core.Path.{_≡_, refl, sym, ap, _∙_, subst}
 use mathlib.Core.Bool.{Bool, true, false, not, cond}
 use mathlib.Core.List.{List, [], _∷_}
-use lib.ListN.{length, getD, set, replicate, length-set, length-replicate, getD-replicate, List·getD-eq-default}
+use lib.ListN.{length, getD, set, length-set}
 use lib.Seq.{getD-set-same, getD-set-other}
 use lib.Dec.{T}
-use lib.Ieee.{Float, nan, binary32, ofBits, toBits, isNan, lt, le}
+use lib.Ieee.{Float, nan, binary32, ofBits, toBits, isNan}
 use borrow.Author.Tests.{eq-eqb, ne-eqb}
 use Rattle.lists.proofs.TestLaws.{clash}
 use Rattle.floats.proofs.BitsLaws.{plain-bits, bits-back}
 use Rattle.drainage.specs.Ways.{times}
-use Rattle.drainage.proofs.TallyLaws.{one-same, one-other}
+use Rattle.drainage.proofs.TallyLaws.{one-same, one-other, one-eq}
 use Rattle.drainage.proofs.WorkListLaws.{receiver-lt}
-use Rattle.ways_down.specs.Walk.{isMade, endsAt, Ordered, Held, Upto, Trail, starts, onward, Descent, Descended, Ascent}
+use Rattle.area_words.specs.Words.{areasIn, receiverIn, Network, Worded}
+use Rattle.area_words.proofs.WordLaws.{network-still}
+use Rattle.cuts.specs.Cut.{cutByWord}
+use Rattle.cuts.specs.declared.Incision.{Incision}
+use Rattle.ways_down.specs.Settled.{settledHeight}
+use Rattle.ways_down.specs.Walk.{madeIn, madeWord, endsAt, Marked, Ordered, Ways, Held, Upto, Trail, starts, onward, Descent, Descended, Ascent, SettledWays}
 use Rattle.ways_down.proofs.PlaceLaws.{Falls, placeIn, falls}
-use Rattle.ways_down.proofs.HeightLaws.{Settles}
+use Rattle.ways_down.proofs.HeightLaws.{Settles, cutOn, settles, heights-all}
+use Rattle.ways_down.proofs.MarkLaws.{marked-none, none-made, marked-words, now-made, still-made, marked-more, areas-kept, free-cut}
 
 -- ---- trails
 trail-inside : {n : ℕ} {recv : List ℕ} {out : List Float} {i j : ℕ} {up : List ℕ} → Trail n recv out i j up → j < n
@@ -70,19 +76,31 @@ module _ {n : ℕ} {recv : List ℕ} {place : ℕ → ℕ} (down : Falls n recv 
         onward l e d (getD-set-other out x _ v nan (other h) ∙ m) (trail-kept t x v (omega (arith, lower _ (trail-inside t) e d)))
 
 -- ---- the walk down
-pub descent-none : {recv : List ℕ} {out : List Float} {i : ℕ} → i < length recv → Descent recv out i out i 0
-descent-none l = record { up = []; trail = starts l; count = refl; long = refl; same = λ c h. refl }
+pub descent-none : {recv : List ℕ} {words out : List Float} {i : ℕ} → i < length recv → madeIn words i ≡ false → Descent recv words out i out i 0
+unfolding times
+descent-none {recv} {words} {out} {i} l f =
+    record { up = []; trail = starts l; count = refl; long = refl; fresh = λ c h. subst (λ (c : ℕ). madeIn words c ≡ false) (one-eq i c (omega arith)) f; same = λ c h. refl }
 
-pub descent-at : {recv : List ℕ} {old out : List Float} {i j steps : ℕ} → Descent recv old i out j steps → j < length recv
-descent-at s = trail-inside (s .trail)
+module _ {recv : List ℕ} {words old out : List Float} {i j steps : ℕ} (s : Descent recv words old i out j steps) where
+  pub descent-at : j < length recv
+  descent-at = trail-inside (s .trail)
 
--- a walk goes on from no cell that is its own receiver
-goes-on : (recv : List ℕ) (out : List Float) (j : ℕ) → endsAt recv out j ≡ false → getD recv j 0 ≡ j → ⊥
-goes-on recv out j e q = clash (ap (λ (b : Bool). cond b true (isMade (getD out (getD recv j 0) nan))) (eq-eqb (getD recv j 0) j q)) e
+module _ (words : List Float) (j r : ℕ) (e : endsAt words j r ≡ false) where
+  -- a walk goes on from no cell that is its own receiver
+  goes-on : r ≡ j → ⊥
+  goes-on q = clash (ap (λ (b : Bool). cond b true (madeIn words r)) (eq-eqb r j q)) e
 
-module _ {recv : List ℕ} {made : ℕ → Float} {out : List Float} {i j steps : ℕ} (s : Ascent recv i made out j steps) where
+  -- nor into one that is made
+  goes-into : madeIn words r ≡ false
+  goes-into = sym (ap (λ (b : Bool). cond b true (madeIn words r)) (ne-eqb r j goes-on)) ∙ e
+
+module _ {w : ℕ} {recv : List ℕ} {areas : List Float} {made : ℕ → Float} {words out : List Float} {i j steps : ℕ} (s : Ascent w recv areas i made words out j steps) where
   pub ascent-at : j < length recv
   ascent-at = trail-inside (s .trail)
+
+  pub ascent-fresh : madeIn words j ≡ false
+  unfolding times
+  ascent-fresh = s .fresh j (omega (arith, one-same j j refl))
 
   -- the cell above, as the bits of what the cell holds tell
   module _ (few : length recv ≤ 4096 * 4096) (more : 0 < steps) where
@@ -105,123 +123,190 @@ module _ {recv : List ℕ} (o : Ordered recv) where
   down : Falls (length recv) recv (placeIn (o .list))
   down = falls (o .work)
 
-  module _ {old out : List Float} {i j steps : ℕ} (s : Descent recv old i out j steps) where
+  module _ {words old out : List Float} {i j steps : ℕ} (s : Descent recv words old i out j steps) where
     -- fewer steps than cells
     pub descent-few : i < length recv → steps < length recv
     descent-few l = omega (arith, trail-place down (s .trail), down .few i l, s .count)
 
-    pub descent-more : length old ≡ length recv → endsAt recv out j ≡ false → {next : List Float} → next ≡ set out (getD recv j 0) (ofBits binary32 j)
-        → Descent recv old i next (getD recv j 0) (steps + 1)
-    unfolding times
-    descent-more few e {next} q =
-        let r : ℕ = getD recv j 0 in
-        let l : r < length recv = receiver-lt (o .work) j (descent-at s) in
-        let d : r ≡ j → ⊥ = goes-on recv out j e in
-        record {
-          up = j ∷ s .up;
-          trail =
-              subst (λ (o : List Float). Trail (length recv) recv o i r (j ∷ s .up)) (sym q)
-              (onward l refl d (getD-set-same out r (ofBits binary32 j) nan (omega (arith, s .long))) (trail-kept down (s .trail) r (ofBits binary32 j) (down .lower j (descent-at s) d)));
-          count = omega (arith, s .count);
-          long = ap length q ∙ length-set out r (ofBits binary32 j) ∙ s .long;
-          same = λ c h.
-              ap (λ (o : List Float). getD o c nan) q ∙ getD-set-other out r c (ofBits binary32 j) nan (λ t. omega (arith, one-same r c (sym t)))
-              ∙ s .same c (omega arith);
-        }
+    -- one step more, to the receiver r
+    module _ {r : ℕ} (z : r ≡ getD recv j 0) where
+      pub next-inside : r < length recv
+      next-inside = omega (arith, receiver-lt (o .work) j (descent-at s))
+
+      pub next-fresh : endsAt words j r ≡ false → madeIn words r ≡ false
+      next-fresh e = goes-into words j r e
+
+      pub descent-ends : endsAt words j r ≡ true → Descended recv words old i out j steps
+      descent-ends e = record { walk = s; ends = ap (endsAt words j) (sym z) ∙ e }
+
+      pub descent-more : endsAt words j r ≡ false → length old ≡ length recv → Descent recv words old i (set out r (ofBits binary32 j)) r (steps + 1)
+      unfolding times
+      descent-more e few =
+          let d : r ≡ j → ⊥ = goes-on words j r e in
+          record {
+            up = j ∷ s .up;
+            trail = onward next-inside (sym z) d (getD-set-same out r (ofBits binary32 j) nan (omega (arith, s .long, next-inside))) (trail-kept down (s .trail) r (ofBits binary32 j) (lower down j (descent-at s) (sym z) d));
+            count = omega (arith, s .count);
+            long = length-set out r (ofBits binary32 j) ∙ s .long;
+            fresh = λ c h. fresh c h (ℕ-discrete r c);
+            same = λ c h. getD-set-other out r c (ofBits binary32 j) nan (λ t. omega (arith, one-same r c (sym t))) ∙ s .same c (omega arith);
+          }
+        where
+          fresh : (c : ℕ) → 0 < times c (r ∷ (j ∷ s .up)) → Dec (r ≡ c) → madeIn words c ≡ false
+          fresh c h (yes t) = subst (λ (c : ℕ). madeIn words c ≡ false) t (goes-into words j r e)
+          fresh c h (no d) = s .fresh c (omega (arith, one-other r c d))
 
   -- ---- the turn
-  module _ {made : ℕ → Float} {old out : List Float} {i j steps : ℕ} (u : Upto (length recv) i made old) (s : Descended recv old i out j steps) where
-    off : (c : ℕ) → times c (j ∷ s .walk .up) ≡ 0 → Held i made out c
-    off c h =
-        let e : getD out c nan ≡ getD old c nan = s .walk .same c h in
-        record { earlier = λ l. e ∙ u .held c .earlier l; already = λ m. e ∙ u .held c .already (ap isMade (sym e) ∙ m) }
+  module _ {w : ℕ} {areas : List Float} {made : ℕ → Float} {words old out : List Float} {i j steps : ℕ} (u : Upto w recv areas i made words old) (s : Descended recv words old i out j steps) where
+    off : (c : ℕ) → c < length recv → times c (j ∷ s .walk .up) ≡ 0 → Held i made words out c
+    off c l h = record { earlier = u .held c l .earlier; already = λ m. s .walk .same c h ∙ u .held c l .already m }
 
     below : (getD recv j 0 ≡ j → ⊥) → getD out (getD recv j 0) nan ≡ made (getD recv j 0)
     below d =
-        off (getD recv j 0) (trail-off down (s .walk .trail) (getD recv j 0) (down .lower j (trail-inside (s .walk .trail)) d)) .already
-        (sym (ap (λ (b : Bool). cond b true (isMade (getD out (getD recv j 0) nan))) (ne-eqb (getD recv j 0) j d)) ∙ s .ends)
+        off (getD recv j 0) (receiver-lt (o .work) j (descent-at (s .walk))) (trail-off down (s .walk .trail) (getD recv j 0) (down .lower j (descent-at (s .walk)) d)) .already
+        (sym (ap (λ (b : Bool). cond b true (madeIn words (getD recv j 0))) (ne-eqb (getD recv j 0) j d)) ∙ s .ends)
 
-    pub turned : Ascent recv i made out j steps
-    turned = record { up = s .walk .up; trail = s .walk .trail; count = s .walk .count; long = s .walk .long ∙ u .long; below = below; held = off }
+    pub turned : Ascent w recv areas i made words out j steps
+    turned = record {
+      up = s .walk .up;
+      trail = s .walk .trail;
+      count = s .walk .count;
+      marks = u .marks;
+      kept = u .kept;
+      long = s .walk .long ∙ u .long;
+      below = below;
+      fresh = s .walk .fresh;
+      held = off;
+    }
 
   -- ---- the walk up
-  module _ {make : ℕ → Float → Float} {made : ℕ → Float} (settles : Settles recv make made) {out : List Float} {i j steps : ℕ} (s : Ascent recv i made out j steps) where
+  module _ {w : ℕ} {areas : List Float} {make : ℕ → Float → Float} {made : ℕ → Float} (fits : Settles recv make made) {words out : List Float} {i j steps : ℕ} (s : Ascent w recv areas i made words out j steps) where
     -- the cell is made as it should be
     right : make j (getD out (getD recv j 0) nan) ≡ made j
-    right = go (ℕ-discrete (getD recv j 0) j) ∙ sym (settles .fits j (ascent-at s))
+    right = go (ℕ-discrete (getD recv j 0) j) ∙ sym (fits .fits j (ascent-at s))
       where
         go : Dec (getD recv j 0 ≡ j) → make j (getD out (getD recv j 0) nan) ≡ make j (made (getD recv j 0))
-        go (yes e) = settles .alone j _ _ e
+        go (yes e) = fits .alone j _ _ e
         go (no d) = ap (make j) (s .below d)
 
-    module _ {next : List Float} (q : next ≡ set out j (make j (getD out (getD recv j 0) nan))) where
+    module _ {next : List Float} (q : next ≡ set out j (make j (getD out (getD recv j 0) nan))) {after : List Float} (p : after ≡ set words j (madeWord (getD words j nan))) where
       made-here : getD next j nan ≡ made j
       made-here = ap (λ (o : List Float). getD o j nan) q ∙ getD-set-same out j _ nan (omega (arith, ascent-at s, s .long)) ∙ right
 
       made-long : length next ≡ length recv
       made-long = ap length q ∙ length-set out j _ ∙ s .long
 
+      marks-after : Marked w recv after
+      marks-after = marked-more (s .marks) (ascent-at s) p
+
+      kept-after : areasIn after ≡ areas
+      kept-after = areas-kept (s .marks) (ascent-at s) p ∙ s .kept
+
       -- every cell off the rest of the walk is as it should be
-      rest-held : (c : ℕ) → times c (s .up) ≡ 0 → Held i made next c
+      rest-held : (c : ℕ) → c < length recv → times c (s .up) ≡ 0 → Held i made after next c
       unfolding times
-      rest-held c h = go (ℕ-discrete c j)
+      rest-held c l h = go (ℕ-discrete c j)
         where
-          go : Dec (c ≡ j) → Held i made next c
-          go (yes e) = let m : getD next c nan ≡ made c = subst (λ (c : ℕ). getD next c nan ≡ made c) (sym e) made-here in record { earlier = λ l. m; already = λ l. m }
+          go : Dec (c ≡ j) → Held i made after next c
+          go (yes e) = record {
+            earlier = λ z. subst (λ (c : ℕ). madeIn after c ≡ true) (sym e) (now-made (s .marks) (ascent-at s) p);
+            already = λ z. subst (λ (c : ℕ). getD next c nan ≡ made c) (sym e) made-here;
+          }
           go (no d) =
               let e : getD next c nan ≡ getD out c nan = ap (λ (o : List Float). getD o c nan) q ∙ getD-set-other out j c _ nan d in
-              let k : Held i made out c = s .held c (omega (arith, one-other j c (λ t. d (sym t)))) in
-              record { earlier = λ l. e ∙ k .earlier l; already = λ m. e ∙ k .already (ap isMade (sym e) ∙ m) }
+              let t : madeIn after c ≡ madeIn words c = still-made (s .marks) (ascent-at s) p c d in
+              let k : Held i made words out c = s .held c l (omega (arith, one-other j c (λ t. d (sym t)))) in
+              record { earlier = λ l. t ∙ k .earlier l; already = λ m. e ∙ k .already (sym t ∙ m) }
 
-      pub ascent-done : steps ≡ 0 → Upto (length recv) (i + 1) made next
+      ascent-done : steps ≡ 0 → Upto w recv areas (i + 1) made after next
       unfolding times
-      ascent-done z = record { long = made-long; held = λ c. go c (rest-held c (ap (times c) (e .1))) (ℕ-discrete c i) }
+      ascent-done z = record { marks = marks-after; kept = kept-after; long = made-long; held = λ c l. go c (rest-held c l (ap (times c) (e .1))) (ℕ-discrete c i) }
         where
           e : (j ≡ i) × (s .up ≡ [])
           e = back-at-start (s .trail) (s .count ∙ z)
 
-          go : (c : ℕ) → Held i made next c → Dec (c ≡ i) → Held (i + 1) made next c
-          go c k (yes q) = record { earlier = λ l. subst (λ (c : ℕ). getD next c nan ≡ made c) (e .0 ∙ sym q) made-here; already = k .already }
+          go : (c : ℕ) → Held i made after next c → Dec (c ≡ i) → Held (i + 1) made after next c
+          go c k (yes q) = record { earlier = λ l. subst (λ (c : ℕ). madeIn after c ≡ true) (e .0 ∙ sym q) (now-made (s .marks) (ascent-at s) p); already = k .already }
           go c k (no d) = record { earlier = λ l. k .earlier (omega arith); already = k .already }
 
       module _ (few : length recv ≤ 4096 * 4096) (more : 0 < steps) where
-        pub ascent-more : Ascent recv i made next (toBits binary32 (getD out j nan)) (steps - 1)
+        ascent-more : Ascent w recv areas i made after next (toBits binary32 (getD out j nan)) (steps - 1)
+        unfolding times
         ascent-more =
-            let a : Above (length recv) recv out i j (s .up) = next-up s few more in
-            subst (λ (b : ℕ). Ascent recv i made next b (steps - 1)) (sym (told s few more))
+            subst (λ (b : ℕ). Ascent w recv areas i made after next b (steps - 1)) (sym (told s few more))
             (record {
               up = a .rest;
-              trail =
-                  subst (λ (o : List Float). Trail (length recv) recv o i (a .cell) (a .rest)) (sym q)
-                  (trail-kept down (a .trail) j _ (lower down (a .cell) (trail-inside (a .trail)) (a .drains) (a .differs)));
+              trail = subst (λ (o : List Float). Trail (length recv) recv o i (a .cell) (a .rest)) (sym q) (trail-kept down (a .trail) j _ lower-here);
               count = omega (arith, s .count, ap length (a .is));
+              marks = marks-after;
+              kept = kept-after;
               long = made-long;
               below = λ d. subst (λ (r : ℕ). getD next r nan ≡ made r) (sym (a .drains)) made-here;
-              held = λ c h. rest-held c (ap (times c) (a .is) ∙ h);
+              fresh = λ c h.
+                  still-made (s .marks) (ascent-at s) p c (λ t. omega (arith, trail-off down (a .trail) j lower-here, ap (λ (c : ℕ). times c (a .cell ∷ a .rest)) t))
+                  ∙ s .fresh c (omega (arith, ap (times c) (a .is)));
+              held = λ c l h. rest-held c l (ap (times c) (a .is) ∙ h);
             })
+          where
+            a : Above (length recv) recv out i j (s .up)
+            a = next-up s few more
+
+            lower-here : placeIn (o .list) j < placeIn (o .list) (a .cell)
+            lower-here = lower down (a .cell) (trail-inside (a .trail)) (a .drains) (a .differs)
+
+-- as `walk_up` does it, cell by cell
+module _ (by : Incision) (hs : List Float) {l : ℕ} {recv : List ℕ} (ways : Ways (by .width) recv (length hs) l) {areas words out : List Float} {i j steps : ℕ}
+    (s : Ascent (by .width) recv areas i (settledHeight by hs areas recv) words out j steps) {next after : List Float}
+    (q : next ≡ set out j (cutByWord by words j (getD hs j nan) (getD out (receiverIn (by .width) j words) nan))) (p : after ≡ set words j (madeWord (getD words j nan))) where
+  fit : Settles recv (cutOn by hs areas recv) (settledHeight by hs areas recv)
+  fit = settles by hs areas recv (ways .ordered) (ways .heights)
+
+  cut-here : next ≡ set out j (cutOn by hs areas recv j (getD out (getD recv j 0) nan))
+  cut-here = free-cut by (s .marks) (ways .network) (s .kept) (ascent-at s) (ascent-fresh s) (getD hs j nan) out q
+
+  pub settled-last : steps ≡ 0 → Upto (by .width) recv areas (i + 1) (settledHeight by hs areas recv) after next
+  settled-last = ascent-done (ways .ordered) fit s cut-here p
+
+  pub settled-more : 0 < steps → Ascent (by .width) recv areas i (settledHeight by hs areas recv) after next (toBits binary32 (getD out j nan)) (steps - 1)
+  settled-more = ascent-more (ways .ordered) fit s cut-here p (ways .network .steps .few)
 
 -- ---- the cells in number order
--- a NaN is not made, nor is what stands outside a list
-none-made : (n : ℕ) (out : List Float) → out ≡ replicate n nan → (c : ℕ) → isMade (getD out c nan) ≡ false
-unfolding lt le ofBits
-none-made n out e c = go (decLt c n)
-  where
-    go : Dec (c < n) → isMade (getD out c nan) ≡ false
-    go (yes l) = ap isMade (ap (λ (o : List Float). getD o c nan) e ∙ getD-replicate n c nan nan l)
-    go (no d) = ap isMade (List·getD-eq-default out nan (omega (arith, ap length e, length-replicate n nan)))
-
-pub upto-none : {n : ℕ} {made : ℕ → Float} {out : List Float} → out ≡ replicate n nan → Upto n 0 made out
-upto-none {n} {made} {out} e =
+-- no cell is made at the start
+pub upto-none : {w cells : ℕ} {recv : List ℕ} {made : ℕ → Float} {words out : List Float} → Network w recv cells → Worded w recv words → length out ≡ length recv → Upto w recv (areasIn words) 0 made words out
+upto-none net d long =
     record {
-      long = ap length e ∙ length-replicate n nan;
-      held = λ c. record { earlier = λ l. absurd (omega arith); already = λ m. absurd (clash m (none-made n out e c)) };
+      marks = marked-none net d;
+      kept = refl;
+      long = long;
+      held = λ c l. record { earlier = λ z. absurd (omega arith); already = λ m. absurd (clash m (none-made net d c l)) };
     }
 
-module _ {n i : ℕ} {made : ℕ → Float} {out : List Float} (u : Upto n i made out) where
+module _ {w i : ℕ} {recv : List ℕ} {areas : List Float} {made : ℕ → Float} {words out : List Float} (u : Upto w recv areas i made words out) where
   -- a cell that is made already
-  pub upto-kept : isMade (getD out i nan) ≡ true → Upto n (i + 1) made out
-  upto-kept m = record { long = u .long; held = λ c. go c (ℕ-discrete c i) }
+  pub upto-kept : madeIn words i ≡ true → Upto w recv areas (i + 1) made words out
+  upto-kept m = record { marks = u .marks; kept = u .kept; long = u .long; held = λ c l. go c (u .held c l) (ℕ-discrete c i) }
     where
-      go : (c : ℕ) → Dec (c ≡ i) → Held (i + 1) made out c
-      go c (yes q) = record { earlier = λ l. subst (λ (c : ℕ). getD out c nan ≡ made c) (sym q) (u .held i .already m); already = u .held c .already }
-      go c (no d) = record { earlier = λ l. u .held c .earlier (omega arith); already = u .held c .already }
+      go : (c : ℕ) → Held i made words out c → Dec (c ≡ i) → Held (i + 1) made words out c
+      go c k (yes q) = record { earlier = λ l. subst (λ (c : ℕ). madeIn words c ≡ true) (sym q) m; already = k .already }
+      go c k (no d) = record { earlier = λ l. k .earlier (omega arith); already = k .already }
+
+-- areas that are the same
+pub upto-areas : {i : ℕ} (by : Incision) (hs : List Float) (recv : List ℕ) {a b words out : List Float} → a ≡ b
+    → Upto (by .width) recv a i (settledHeight by hs a recv) words out → Upto (by .width) recv b i (settledHeight by hs b recv) words out
+upto-areas {i} by hs recv {a} {b} {words} {out} e = subst (λ (t : List Float). Upto (by .width) recv t i (settledHeight by hs t recv) words out) e
+
+-- all cells are done
+pub upto-done : {w i : ℕ} (by : Incision) (hs : List Float) (recv : List ℕ) (old : List Float) {words out : List Float} → Upto w recv (areasIn old) i (settledHeight by hs (areasIn old) recv) words out
+    → length hs ≡ length recv → length recv ≤ i → SettledWays by hs recv old words out
+upto-done by hs recv old u long all = record {
+  heights =
+      heights-all by hs (areasIn old) recv (u .long ∙ sym long)
+      (λ c l. let m : c < length recv = omega arith in u .held c m .already (u .held c m .earlier (omega arith)));
+  areas = u .kept;
+  words = marked-words (u .marks);
+}
+
+module _ {w n l : ℕ} {recv : List ℕ} (ways : Ways w recv n l) where
+  -- the result slice has its length still
+  pub ways-still : {k : ℕ} → k ≡ length recv → Ways w recv n k
+  ways-still e = record { network = network-still (ways .network) (e ∙ sym (ways .network .long)); ordered = ways .ordered; heights = ways .heights }

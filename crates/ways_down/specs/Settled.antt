@@ -4,9 +4,8 @@ use mathlib.Core.List.{List, [], _∷_}
 use lib.ListN.{length, getD, set}
 use lib.Ieee.{Float, nan}
 use Rattle.lists.specs.Loops.{tabulate}
-use Rattle.ways.specs.Apart.{apart}
-use Rattle.cuts.specs.Cut.{incisionCoef, drainedTo, cutOf}
-use Rattle.ways_down.specs.declared.Incision.{Incision}
+use Rattle.cuts.specs.Cut.{cutDown}
+use Rattle.cuts.specs.declared.Incision.{Incision}
 
 -- Any combination from downstream: `make c own down` is what a cell becomes, from its own value and that which its receiver then has.
 module _ {A : Type 0} (absent : A) (recv : List ℕ) (make : ℕ → A → A → A) where
@@ -19,12 +18,6 @@ module _ {A : Type 0} (absent : A) (recv : List ℕ) (make : ℕ → A → A →
   unfoldable pub settled : List A → ℕ → ℕ → A
   settled l zero c = getD l c absent
   settled l (suc k) c = make c (getD l c absent) (settled l k (getD recv c 0))
-
--- the new height of cell c, from its own height, and the new height of its receiver
-abbrev pub cutDown : Incision → List Float → List ℕ → ℕ → Float → Float → Float
-cutDown by areas recv c own below =
-    cutOf own (by .uplift) (by .water) (incisionCoef (getD areas c nan) (by .cells) (by .k) (apart (by .width) c (getD recv c 0)))
-    (drainedTo c (getD recv c 0) below (by .water))
 
 -- the height of cell c once its whole way down is made: no way has more cells than there are
 unfoldable pub settledHeight : Incision → List Float → List Float → List ℕ → ℕ → Float

@@ -1,29 +1,22 @@
 // Incision of all cells by their ways down: for each cell in number order, the way down is followed to the first cell that is made, and every cell of
-// it is incised on the way back up. A way stays near its cell in memory, where a list that is ordered by height does not.
-use cuts::cut;
-use cuts::drains_to;
-use rates::rate_at;
+// it is incised on the way back up. A way stays near its cell in memory, where a list that is ordered by height does not. The word of a cell tells its
+// area, its receiver and whether it is made, so that the walk down waits for one slice, and for no height.
+use cuts::Incision;
+use cuts::settle_cell;
 use rates::table;
-use steps::distances;
-use steps::step_place;
-use ways::fill;
+use steps::step_distances;
+use steps::step_offsets;
+use steps::stepped_to;
 ghost use mathlib.Core.Path.{_≡_};
-ghost use Prim.Native.Nat.{_+_, _*_, _≤_, _<_};
+ghost use mathlib.Core.Bool.{false};
+ghost use Prim.Native.Nat.{_+_, _<_};
 ghost use lib.ListN.{length, getD, set};
 ghost use lib.Ieee.{nan};
-ghost use Rattle.ways.specs.Apart.{apart};
-ghost use Rattle.steps.specs.Step.{distanceTable, Near};
-ghost use Rattle.ways_down.specs.Settled.{cutDown, settledHeight, settledHeights};
-ghost use Rattle.ways_down.specs.Walk.{isMade, endsAt, Ordered, Ways, Tables, Upto, Descended, Ascent};
-
-// An incision on its grid: the columns, the number of cells as a float, and the settings.
-pub struct Incision {
-    pub width: usize,
-    pub cells: f32,
-    pub k: f32,
-    pub uplift: f32,
-    pub water: f32,
-}
+ghost use Rattle.steps.specs.Step.{stepOffsets};
+ghost use Rattle.area_words.specs.Words.{areasIn, receiverIn, Word, Network, Passing, Worded};
+ghost use Rattle.cuts.specs.Cut.{Tables};
+ghost use Rattle.ways_down.specs.Settled.{settledHeight};
+ghost use Rattle.ways_down.specs.Walk.{isMade, madeIn, madeWord, endsAt, Marked, Ordered, Ways, Upto, Descended, Ascent, SettledWays};
 
 // A cell on a walk, and how many steps the walk has gone down to it.
 struct Stop {
@@ -31,73 +24,68 @@ struct Stop {
     steps: usize,
 }
 
-// The distance from cell c to its receiver r on three columns or more, read from a table: which it is cannot be foreseen, and a choice would be a branch.
-fn distance_to(ds: &[f32; 5], c: usize, r: usize, width: usize) -> f32
-    requires { ⌜ now ds ≡ distanceTable ⌝ }
-    requires { ⌜ Near width c r ⌝ }
-    requires { ⌜ 3 ≤ width ⌝ }
-    ensures { λ d. ⌜ d ≡ apart width c r ⌝ }
+// Whether the cell of a word is made: its step is then 15, which no step to a receiver is.
+fn is_made(word: u32) -> bool
+    ensures { λ r. ⌜ r ≡ isMade word ⌝ }
 {
-    let place = step_place(c, r, width);
-    ds[place]
+    word % 16 == 15
 }
 
-// Incises cell c of `hmap` into `out`, which has the new height of its receiver. Every rate of a whole area below 1,024 is in the table.
-fn settle_cell(
-    by: Incision,
-    ds: &[f32; 5],
-    rates: &[f32; 1024],
-    hmap: &[f32],
-    area: &[f32],
-    recv: &[u32],
-    out: &mut [f32],
-    c: usize,
-)
-    requires { ⌜ Ways (by .width) (now recv) (length (now hmap)) (now area) (length (now out)) ⌝ }
-    requires { ⌜ Tables by (now ds) (now rates) ⌝ }
-    requires { ⌜ c < length (now recv) ⌝ }
-    ensures { λ _. ⌜ now (out .exit) ≡ set (now (out .entry)) c (cutDown by (now (area .entry)) (now (recv .entry)) c (getD (now (hmap .entry)) c nan) (getD (now (out .entry)) (getD (now (recv .entry)) c 0) nan)) ⌝ }
+// Marks cell c as made, in its word, which keeps its area.
+fn mark_made(words: &mut [f32], c: usize)
+    requires { ⌜ (c < length (now words)) × Word (getD (now words) c nan) ⌝ }
+    ensures { λ _. ⌜ now (words .exit) ≡ set (now (words .entry)) c (madeWord (getD (now (words .entry)) c nan)) ⌝ }
 {
-    let below = recv[c] as usize;
-    let coef = rate_at(rates, 1024, area[c], by.cells, by.k) / distance_to(ds, c, below, by.width);
-    let down = drains_to(c, below, out[below], by.water);
-    out[c] = cut(hmap[c], by.uplift, by.water, coef, down);
+    let word = f32::to_bits(words[c]);
+    words[c] = f32::from_bits(word - word % 16 + 15);
 }
 
-// Whether a height is made: every number is below 1 or not below 1/2, and a NaN is neither (docs/DECISIONS.md: why not `height == height`).
-fn is_made(height: f32) -> bool
-    ensures { λ r. ⌜ r ≡ isMade height ⌝ }
+// The cell that the word of cell c leads to.
+fn led_to(offsets: &[usize; 16], width: usize, words: &[f32], c: usize) -> usize
+    requires { ⌜ Passing width (now words) c ⌝ }
+    requires { ⌜ now offsets ≡ stepOffsets width ⌝ }
+    ensures { λ r. ⌜ r ≡ receiverIn width c (now (words .entry)) ⌝ }
 {
-    (height < 1.0) | (height >= 0.5)
+    let word = f32::to_bits(words[c]);
+    stepped_to(offsets, c, (word % 16) as usize, width)
 }
 
-// Whether a walk ends at cell j: it is its own receiver, or its receiver is made.
-fn ends_at(recv: &[u32], out: &[f32], j: usize) -> bool
-    requires { ⌜ (j < length (now recv)) × (getD (now recv) j 0 < length (now out)) ⌝ }
-    ensures { λ r. ⌜ r ≡ endsAt (now (recv .entry)) (now (out .entry)) j ⌝ }
+// Whether a walk ends at cell j, whose receiver is r: that is itself, or is made.
+fn ends_at(words: &[f32], j: usize, r: usize) -> bool
+    requires { ⌜ (r < length (now words)) × Word (getD (now words) r nan) ⌝ }
+    ensures { λ b. ⌜ b ≡ endsAt (now (words .entry)) j r ⌝ }
 {
-    let r = recv[j] as usize;
     if r == j {
         return true;
     }
-    is_made(out[r])
+    is_made(f32::to_bits(words[r]))
 }
 
 // Walks down from cell i to where it ends. The place of each cell that it comes to, which is free, gets the number of the cell it comes from.
-fn walk_down(recv: &[u32], out: &mut [f32], i: usize) -> Stop
+fn walk_down(
+    offsets: &[usize; 16],
+    width: usize,
+    recv: &[u32],
+    words: &[f32],
+    out: &mut [f32],
+    i: usize,
+) -> Stop
+    requires { ⌜ Network width (now recv) (length (now out)) ⌝ }
     requires { ⌜ Ordered (now recv) ⌝ }
-    requires { ⌜ (length (now recv) ≤ 4096 * 4096) × (length (now out) ≡ length (now recv)) × (i < length (now recv)) ⌝ }
-    ensures { λ r. ⌜ Descended (now (recv .entry)) (now (out .entry)) i (now (out .exit)) (r .cell) (r .steps) ⌝ }
+    requires { ⌜ Marked width (now recv) (now words) ⌝ }
+    requires { ⌜ (i < length (now recv)) × (madeIn (now words) i ≡ false) × (now offsets ≡ stepOffsets width) ⌝ }
+    ensures { λ r. ⌜ Descended (now (recv .entry)) (now (words .entry)) (now (out .entry)) i (now (out .exit)) (r .cell) (r .steps) ⌝ }
 {
     let mut j = i;
     let mut steps: usize = 0;
-    let mut ended = ends_at(recv, out, j);
+    let mut r = led_to(offsets, width, words, j);
+    let mut ended = ends_at(words, j, r);
     while !ended {
-        let r = recv[j] as usize;
         out[r] = f32::from_bits(j as u32);
         j = r;
         steps += 1;
-        ended = ends_at(recv, out, j);
+        r = led_to(offsets, width, words, j);
+        ended = ends_at(words, j, r);
     }
     Stop {
         cell: j,
@@ -105,28 +93,30 @@ fn walk_down(recv: &[u32], out: &mut [f32], i: usize) -> Stop
     }
 }
 
-// Walks back up to cell i, and incises each cell on the way; `settle_cell` is called at one place, so that it is inlined.
+// Walks back up to cell i, and incises each cell on the way and marks it; `settle_cell` is called at one place, so that it is inlined.
 fn walk_up(
     by: Incision,
-    ds: &[f32; 5],
+    ds: &[f32; 16],
+    offsets: &[usize; 16],
     rates: &[f32; 1024],
     hmap: &[f32],
-    area: &[f32],
     recv: &[u32],
+    words: &mut [f32],
     out: &mut [f32],
     i: usize,
     stop: Stop,
 )
-    requires { ⌜ Ways (by .width) (now recv) (length (now hmap)) (now area) (length (now out)) ⌝ }
-    requires { ⌜ Tables by (now ds) (now rates) ⌝ }
-    requires { ⌜ Ascent (now recv) i (settledHeight by (now hmap) (now area) (now recv)) (now out) (stop .cell) (stop .steps) ⌝ }
-    ensures { λ _. ⌜ Upto (length (now (recv .entry))) (i + 1) (settledHeight by (now (hmap .entry)) (now (area .entry)) (now (recv .entry))) (now (out .exit)) ⌝ }
+    requires { ⌜ Ways (by .width) (now recv) (length (now hmap)) (length (now out)) ⌝ }
+    requires { ⌜ Tables by 1024 (now ds) (now offsets) (now rates) ⌝ }
+    requires { ⌜ Ascent (by .width) (now recv) (areasIn (now words)) i (settledHeight by (now hmap) (areasIn (now words)) (now recv)) (now words) (now out) (stop .cell) (stop .steps) ⌝ }
+    ensures { λ _. ⌜ Upto (by .width) (now (recv .entry)) (areasIn (now (words .entry))) (i + 1) (settledHeight by (now (hmap .entry)) (areasIn (now (words .entry))) (now (recv .entry))) (now (words .exit)) (now (out .exit)) ⌝ }
 {
     let mut j = stop.cell;
     let mut steps = stop.steps;
     loop {
         let above = out[j];
-        settle_cell(by, ds, rates, hmap, area, recv, out, j);
+        settle_cell(by, ds, offsets, rates, 1024, words, out, j, hmap[j]);
+        mark_made(words, j);
         if steps == 0 {
             return;
         }
@@ -138,39 +128,41 @@ fn walk_up(
 // Incises cell i, if it is not made yet, with all of its way down that is not made.
 fn settle_way(
     by: Incision,
-    ds: &[f32; 5],
+    ds: &[f32; 16],
+    offsets: &[usize; 16],
     rates: &[f32; 1024],
     hmap: &[f32],
-    area: &[f32],
     recv: &[u32],
+    words: &mut [f32],
     out: &mut [f32],
     i: usize,
 )
-    requires { ⌜ Ways (by .width) (now recv) (length (now hmap)) (now area) (length (now out)) ⌝ }
-    requires { ⌜ Tables by (now ds) (now rates) ⌝ }
+    requires { ⌜ Ways (by .width) (now recv) (length (now hmap)) (length (now out)) ⌝ }
+    requires { ⌜ Tables by 1024 (now ds) (now offsets) (now rates) ⌝ }
     requires { ⌜ i < length (now recv) ⌝ }
-    requires { ⌜ Upto (length (now recv)) i (settledHeight by (now hmap) (now area) (now recv)) (now out) ⌝ }
-    ensures { λ _. ⌜ Upto (length (now (recv .entry))) (i + 1) (settledHeight by (now (hmap .entry)) (now (area .entry)) (now (recv .entry))) (now (out .exit)) ⌝ }
+    requires { ⌜ Upto (by .width) (now recv) (areasIn (now words)) i (settledHeight by (now hmap) (areasIn (now words)) (now recv)) (now words) (now out) ⌝ }
+    ensures { λ _. ⌜ Upto (by .width) (now (recv .entry)) (areasIn (now (words .entry))) (i + 1) (settledHeight by (now (hmap .entry)) (areasIn (now (words .entry))) (now (recv .entry))) (now (words .exit)) (now (out .exit)) ⌝ }
 {
-    if is_made(out[i]) {
+    if is_made(f32::to_bits(words[i])) {
         return;
     }
-    let stop = walk_down(recv, out, i);
-    walk_up(by, ds, rates, hmap, area, recv, out, i, stop);
+    let stop = walk_down(offsets, by.width, recv, words, out, i);
+    walk_up(by, ds, offsets, rates, hmap, recv, words, out, i, stop);
 }
 
-// The heights of `hmap` in `out`, incised by areas that are given, cell by cell with their ways down.
-pub fn incise_ways(by: Incision, hmap: &[f32], area: &[f32], recv: &[u32], out: &mut [f32])
-    requires { ⌜ Ways (by .width) (now recv) (length (now hmap)) (now area) (length (now out)) ⌝ }
-    ensures { λ _. ⌜ now (out .exit) ≡ settledHeights by (now (hmap .entry)) (now (area .entry)) (now (recv .entry)) ⌝ }
+// The heights of `hmap` in `out`, incised by the areas in the words, cell by cell with their ways down. The words keep their areas and lose their steps.
+pub fn incise_ways(by: Incision, hmap: &[f32], recv: &[u32], words: &mut [f32], out: &mut [f32])
+    requires { ⌜ Ways (by .width) (now recv) (length (now hmap)) (length (now out)) ⌝ }
+    requires { ⌜ Worded (by .width) (now recv) (now words) ⌝ }
+    ensures { λ _. ⌜ SettledWays by (now (hmap .entry)) (now (recv .entry)) (now (words .entry)) (now (words .exit)) (now (out .exit)) ⌝ }
 {
-    let ds = distances();
+    let ds = step_distances();
+    let offsets = step_offsets(by.width);
     let rates = table(1024, by.cells, by.k);
-    fill(out, 0.0 / 0.0);
     let n = recv.len();
     let mut i: usize = 0;
     while i < n {
-        settle_way(by, &ds, &rates, hmap, area, recv, out, i);
+        settle_way(by, &ds, &offsets, &rates, hmap, recv, words, out, i);
         i += 1;
     }
 }

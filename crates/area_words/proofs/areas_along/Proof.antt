@@ -1,17 +1,21 @@
+use mathlib.Core.Path.{_∙_}
 use Rattle.steps.proofs.PlaceLaws.{along-of}
-use Rattle.area_words.proofs.WordLaws.{network-of}
+use Rattle.area_words.proofs.WordLaws.{network-of, worded-words}
 use borrow.Author.Needs.{needs}
 use Rattle.area_words.proofs.areas_along.Statement.{statement}
 use Rattle.area_words.proofs.areas_along.Tie as tie
 
-areas-by-words-requires : tie.Need-areas-by-words-requires
-areas-by-words-requires c κs = network-of (c .before .if2 .taken) (c .before .before .before .before .before .before .pre .0) (c .before .before .before .before .before .before .pre .1)
+words-along-requires : tie.Need-words-along-requires
+words-along-requires c κs = network-of (c .before .if1 .taken) (c .before .before .before .before .before .pre .0) (c .before .before .before .before .before .pre .1)
+
+read-areas-requires : tie.Need-read-areas-requires
+read-areas-requires c κs = worded-words (network-of (c .before .before .before .before .before .if1 .taken) (c .before .before .before .before .before .before .before .before .before .pre .0) (c .before .before .before .before .before .before .before .before .before .pre .1) .0) (c .before .before .before .words-along .ensures .worded)
 
 same-length : tie.Need-same-length
 same-length c = search needs
 
 returns : tie.Need-returns
-returns c = search needs
+returns c = c .before .before .read-areas .ensures ∙ c .before .before .before .before .before .before .words-along .ensures .areas
 
 accumulate-requires : tie.Need-accumulate-requires
 accumulate-requires c κs = along-of (c .before .before .before .before .before .pre .0) (c .before .before .before .before .before .pre .1)
@@ -26,7 +30,8 @@ pub areas-along-spec : {M : Type 1} → statement M
 areas-along-spec =
     tie.close
     (tie.spec
-    areas-by-words-requires
+    words-along-requires
+    read-areas-requires
     same-length
     returns
     accumulate-requires

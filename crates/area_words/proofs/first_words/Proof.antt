@@ -5,7 +5,8 @@ use lib.ListN.{length, getD}
 use lib.Ieee.{binary32, ofBits}
 use Rattle.lists.proofs.FillLaws.{Filling, filling-none, filling-length, filling-more, filling-done}
 use Rattle.floats.proofs.BitsLaws.{no-nan-pattern}
-use Rattle.area_words.specs.Words.{stepOf, wordOf}
+use Rattle.steps.specs.Step.{stepOf}
+use Rattle.area_words.specs.Words.{wordOf}
 use Rattle.area_words.proofs.WordLaws.{step-small}
 use Rattle.area_words.proofs.first_words.Statement.{statement}
 use Rattle.area_words.proofs.first_words.Tie as tie

@@ -4,7 +4,7 @@ use mathlib.Core.Path.{refl, sym, ap, subst}
 use lib.ListN.{length, getD}
 use lib.Ieee.{nan}
 use Rattle.lists.proofs.FillLaws.{Filling, filling-none, filling-length, filling-next, filling-more, filling-done}
-use Rattle.area_words.specs.Words.{areaIn, Word}
+use Rattle.area_words.specs.Words.{areaIn, areasIn, Word}
 use Rattle.area_words.proofs.WordLaws.{word-plain, word-float}
 use Rattle.area_words.proofs.read_areas.Statement.{statement}
 use Rattle.area_words.proofs.read_areas.Tie as tie
@@ -49,6 +49,7 @@ same-length : tie.Need-same-length Inv-loop μ-loop
 same-length c = filling-length (c .before .loop .inv)
 
 returns : tie.Need-returns Inv-loop μ-loop
+unfolding areasIn
 returns c = filling-done (c .before .loop .inv) _ refl (c .loop-test .left)
 
 pub read-areas-spec : {M : Type 1} → statement M

@@ -1,6 +1,4 @@
-use mathlib.Core.Path.{ap, _∙_}
-use lib.ListN.{set}
-use Rattle.cuts.specs.Cut.{cutOf}
+use Rattle.cuts.proofs.CutLaws.{cell-cut}
 use borrow.Author.Needs.{needs}
 use Rattle.cuts.proofs.incise_cell.Statement.{statement}
 use Rattle.cuts.proofs.incise_cell.Tie as tie
@@ -14,6 +12,18 @@ shared-slice-read-r c = search needs
 cast-r : tie.Need-cast-r
 cast-r c = search needs
 
+mul-rate : tie.Need-mul-rate
+mul-rate c = search needs
+
+shared-slice-read-rate : tie.Need-shared-slice-read-rate
+shared-slice-read-rate c = search needs
+
+rate-requires : tie.Need-rate-requires
+rate-requires c κs = search needs
+
+receiver-distance-requires : tie.Need-receiver-distance-requires
+receiver-distance-requires c κs = search needs
+
 mul-drains-to : tie.Need-mul-drains-to
 mul-drains-to c = search needs
 
@@ -25,12 +35,6 @@ drains-to-requires c κs = search needs
 
 mul-cut : tie.Need-mul-cut
 mul-cut c = search needs
-
-shared-slice-read-cut : tie.Need-shared-slice-read-cut
-shared-slice-read-cut c = search needs
-
-mul-cut-2 : tie.Need-mul-cut-2
-mul-cut-2 c = search needs
 
 slice-read-cut : tie.Need-slice-read-cut
 slice-read-cut c = search needs
@@ -48,7 +52,9 @@ same-length : tie.Need-same-length
 same-length c = search needs
 
 returns : tie.Need-returns
-returns c = let a = c .before .before .before .before .before .before .before .before .before .args in ap (set (a .out .now) (a .c)) (c .cut .ensures ∙ ap (cutOf _ _ _ _) (c .before .before .before .drains-to .ensures))
+returns c =
+    let a = c .before .before .before .before .before .before .before .before .before .before .before .args in
+    cell-cut (a .out .now) (a .c) _ (a .by .uplift) (a .by .water) (c .cut .ensures) (c .before .before .before .before .before .rate .ensures) (c .before .before .before .before .receiver-distance .ensures) (c .before .before .drains-to .ensures)
 
 pub incise-cell-spec : {M : Type 1} → statement M
 incise-cell-spec =
@@ -57,12 +63,14 @@ incise-cell-spec =
     mul-r
     shared-slice-read-r
     cast-r
+    mul-rate
+    shared-slice-read-rate
+    rate-requires
+    receiver-distance-requires
     mul-drains-to
     slice-read-drains-to
     drains-to-requires
     mul-cut
-    shared-slice-read-cut
-    mul-cut-2
     slice-read-cut
     cut-requires
     mul-out

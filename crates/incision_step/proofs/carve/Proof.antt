@@ -1,5 +1,6 @@
-use mathlib.Core.Path.{refl, _∙_}
-use Rattle.fluvial_erosion.proofs.CellLaws.{whole-areas}
+use mathlib.Core.Path.{_∙_}
+use Rattle.area_words.proofs.WordLaws.{whole-areas}
+use Rattle.fluvial_erosion.proofs.CellLaws.{few-cells}
 use Rattle.incision_step.proofs.OpeningLaws.{routing-drains, routed-areas, carves}
 use borrow.Author.Needs.{needs}
 use Rattle.incision_step.proofs.carve.Statement.{statement}
@@ -14,7 +15,7 @@ incise-along-requires c κs =
     let route = c .before .before .before .before .before .before .before .before .before .before .before .before .before .before .before .before .route-grid in
     let k = route .kept .1 .1 .1 .1 in
     let drains = routing-drains _ _ _ _ (p .0) (c .before .before .before .before .before .before .before .before .before .before .before .before .before .before .before .before .before .before .before .before .before .before .before .before .before .before .before .before .before .shared-slice-known .given) (route .ensures) (k .0 ∙ p .1 .receivers) in
-    (drains, (record { heights = p .0 .cells; result = k .1 .0 ∙ p .1 .spill; areas = k .1 .1 .0 ∙ p .1 .areas }, whole-areas drains refl (routed-areas (route .ensures))))
+    (drains, (record { heights = p .0 .cells; result = k .1 .0 ∙ p .1 .spill; areas = k .1 .1 .0 ∙ p .1 .areas }, whole-areas (few-cells drains) (drains .work) (routed-areas (route .ensures))))
 
 same-length : tie.Need-same-length
 same-length c = search needs
@@ -35,7 +36,7 @@ same-length-6 : tie.Need-same-length-6
 same-length-6 c = search needs
 
 returns : tie.Need-returns
-returns c = carves _ _ _ _ _ (c .before .before .before .before .before .before .before .before .before .before .before .before .before .before .before .before .before .before .before .route-grid .ensures) (c .before .before .incise-along .ensures)
+returns c = carves _ _ _ _ _ (c .before .before .before .before .before .before .before .before .before .before .before .before .before .before .before .before .before .before .before .before .before .route-grid .ensures) (c .before .before .before .before .incise-along .ensures .heights)
 
 pub carve-spec : {M : Type 1} → statement M
 carve-spec =

@@ -4,9 +4,10 @@ use borrow.Author.Needs.{needs}
 use lib.ListN.{replicate, length-replicate}
 use lib.Ieee.{Float, binary32, ofBits}
 use Rattle.lists.proofs.FillLaws.{Filling, filling-none, filling-more}
+use Rattle.floats.proofs.WholeLaws.{float-in}
 use Rattle.float_order.specs.Whole.{whole}
 use Rattle.rates.specs.Rate.{rateOf}
-use Rattle.rates.proofs.TableLaws.{place-float, table-done}
+use Rattle.rates.proofs.TableLaws.{table-done}
 use Rattle.rates.proofs.table.Statement.{statement}
 use Rattle.rates.proofs.table.Tie as tie
 
@@ -20,7 +21,7 @@ loop-holds : tie.Need-loop-holds Inv-loop μ-loop
 loop-holds c = (filling-none, omega arith)
 
 int-to-float-rate : tie.Need-int-to-float-rate Inv-loop μ-loop
-int-to-float-rate c = place-float _ (omega (arith, c .before .loop-test .taken, c .before .before .before .pre))
+int-to-float-rate c = float-in _ (omega (arith, c .before .loop-test .taken, c .before .before .before .pre))
 
 rate-requires : tie.Need-rate-requires Inv-loop μ-loop
 rate-requires c κs = search needs

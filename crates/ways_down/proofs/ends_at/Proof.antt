@@ -1,16 +1,8 @@
 use borrow.Author.Tests.{eq-eqb, ne-eqb}
+use Rattle.area_words.proofs.WordLaws.{word-plain}
 use borrow.Author.Needs.{needs}
 use Rattle.ways_down.proofs.ends_at.Statement.{statement}
 use Rattle.ways_down.proofs.ends_at.Tie as tie
-
-mul-r : tie.Need-mul-r
-mul-r c = search needs
-
-shared-slice-read-r : tie.Need-shared-slice-read-r
-shared-slice-read-r c = search needs
-
-cast-r : tie.Need-cast-r
-cast-r c = search needs
 
 returns : tie.Need-returns
 returns c = rw (eq-eqb _ _ (c .if1 .taken))
@@ -20,6 +12,9 @@ mul-is-made c = search needs
 
 shared-slice-read-is-made : tie.Need-shared-slice-read-is-made
 shared-slice-read-is-made c = search needs
+
+float-to-bits-is-made : tie.Need-float-to-bits-is-made
+float-to-bits-is-made c = word-plain (c .before .before .before .pre .1)
 
 is-made-requires : tie.Need-is-made-requires
 is-made-requires c κs = search needs
@@ -31,11 +26,9 @@ pub ends-at-spec : {M : Type 1} → statement M
 ends-at-spec =
     tie.close
     (tie.spec
-    mul-r
-    shared-slice-read-r
-    cast-r
     returns
     mul-is-made
     shared-slice-read-is-made
+    float-to-bits-is-made
     is-made-requires
     returns-2)

@@ -1,52 +1,53 @@
-use Prim.Native.Nat.{ℕ, _-_}
-use mathlib.Core.Path.{sym, ap, _∙_}
+use Prim.Native.Nat.{_-_}
+use mathlib.Core.Path.{sym, _∙_}
 use native.Mathlib.Omega.{arith}
-use lib.ListN.{length, replicate}
-use lib.Ieee.{nan, div, ofBits}
+use lib.ListN.{length}
 use borrow.Author.Needs.{needs}
+use Rattle.area_words.specs.Words.{areasIn}
 use Rattle.ways_down.specs.Settled.{settledHeight}
 use Rattle.ways_down.specs.Walk.{Upto}
-use Rattle.ways_down.proofs.HeightLaws.{ways-still, heights-all}
-use Rattle.ways_down.proofs.WalkLaws.{upto-none}
+use Rattle.ways_down.proofs.WalkLaws.{ways-still, upto-none, upto-areas, upto-done}
 use Rattle.ways_down.proofs.incise_ways.Statement.{statement}
 use Rattle.ways_down.proofs.incise_ways.Tie as tie
 
 abbrev Inv-loop : tie.InvT-loop
-Inv-loop by hmap area recv out₀ ds rates n i₀ out i = Upto (length recv) i (settledHeight by hmap area recv) out
+Inv-loop by hmap recv words₀ out₀ ds offsets rates n i₀ words out i = Upto (by .width) recv (areasIn words₀) i (settledHeight by hmap (areasIn words₀) recv) words out
 
 abbrev μ-loop : tie.MeasureT-loop
-μ-loop by hmap area recv out₀ ds rates n i₀ out i = length recv - i
+μ-loop by hmap recv words₀ out₀ ds offsets rates n i₀ words out i = length recv - i
 
-distances-requires : tie.Need-distances-requires Inv-loop μ-loop
-distances-requires c κs = search needs
+step-distances-requires : tie.Need-step-distances-requires Inv-loop μ-loop
+step-distances-requires c κs = search needs
+
+step-offsets-requires : tie.Need-step-offsets-requires Inv-loop μ-loop
+step-offsets-requires c κs = c .before .before .before .before .before .pre .0 .network .steps .wide
 
 table-requires : tie.Need-table-requires Inv-loop μ-loop
 table-requires c κs = search needs
 
-fill-requires : tie.Need-fill-requires Inv-loop μ-loop
-fill-requires c κs = search needs
-
 loop-holds : tie.Need-loop-holds Inv-loop μ-loop
-unfolding div ofBits
-loop-holds c = upto-none (c .before .before .fill .ensures ∙ ap (λ (k : ℕ). replicate k nan) (c .before .before .before .before .before .before .before .before .before .before .pre .result))
+loop-holds c = let p = c .before .before .before .before .before .before .before .pre in upto-none (p .0 .network) (p .1) (p .0 .network .long)
 
 settle-way-requires : tie.Need-settle-way-requires Inv-loop μ-loop
-settle-way-requires c κs = let p = c .before .before .before .before .before .before .before .before .before .before .before .before .before .before .before .pre in (ways-still p (c .before .before .before .before .loop .inv .long), (record { distances = c .before .before .before .before .before .before .before .before .before .before .distances .ensures; small = c .before .before .before .before .before .before .before .before .before .table .ensures }, (c .before .before .before .loop-test .taken, c .before .before .before .before .loop .inv)))
+settle-way-requires c κs = let p = c .before .before .before .before .before .before .before .before .before .before .before .before .before .before .pre in let a = c .before .before .before .before .before .before .before .before .before .before .before .before .before .before .args in let u = c .before .before .before .before .before .before .loop .inv in (ways-still (p .0) (u .long), (record { few = omega arith; distances = c .before .before .before .before .before .before .before .before .before .step-distances .ensures; offsets = c .before .before .before .before .before .before .before .before .step-offsets .ensures; small = c .before .before .before .before .before .before .before .table .ensures }, (c .before .before .before .before .before .loop-test .taken, upto-areas (a .by) (a .hmap .now) (a .recv .now) (sym (u .kept)) u)))
 
 add-i : tie.Need-add-i Inv-loop μ-loop
-add-i c = omega (arith, c .before .before .before .before .before .before .loop-test .taken, c .before .before .before .before .before .before .before .before .before .before .before .before .before .before .before .before .before .before .pre .steps .few)
+add-i c = omega (arith, c .before .before .before .before .before .before .before .before .before .before .loop-test .taken, c .before .before .before .before .before .before .before .before .before .before .before .before .before .before .before .before .before .before .before .pre .0 .network .steps .few)
 
 loop-less : tie.Need-loop-less Inv-loop μ-loop
-loop-less c = omega (arith, c .before .before .before .before .before .before .loop-test .taken)
+loop-less c = omega (arith, c .before .before .before .before .before .before .before .before .before .before .loop-test .taken)
 
 loop-again : tie.Need-loop-again Inv-loop μ-loop
-loop-again c = c .before .before .settle-way .ensures
+loop-again c = let a = c .before .before .before .before .before .before .before .before .before .before .before .before .before .before .before .before .before .before .before .args in upto-areas (a .by) (a .hmap .now) (a .recv .now) (c .before .before .before .before .before .before .before .before .before .before .before .loop .inv .kept) (c .before .before .before .before .settle-way .ensures)
 
 same-length : tie.Need-same-length Inv-loop μ-loop
-same-length c = c .before .loop .inv .long ∙ sym (c .before .before .before .before .before .before .before .before .before .before .before .before .pre .result)
+same-length c = c .before .loop .inv .marks .long ∙ sym (c .before .before .before .before .before .before .before .before .before .pre .1 .long)
+
+same-length-2 : tie.Need-same-length-2 Inv-loop μ-loop
+same-length-2 c = c .before .loop .inv .long ∙ sym (c .before .before .before .before .before .before .before .before .before .pre .0 .network .long)
 
 returns : tie.Need-returns Inv-loop μ-loop
-returns c = let p = c .before .before .before .before .before .before .before .before .before .before .before .before .pre in let u = c .before .loop .inv in heights-all _ _ _ _ (u .long ∙ sym (p .heights)) (λ d l. u .held d .earlier (omega (arith, c .loop-test .left, p .heights)))
+returns c = let a = c .before .before .before .before .before .before .before .before .before .args in upto-done (a .by) (a .hmap .now) (a .recv .now) (a .words .now) (c .before .loop .inv) (c .before .before .before .before .before .before .before .before .before .pre .0 .heights) (c .loop-test .left)
 
 pub incise-ways-spec : {M : Type 1} → statement M
 incise-ways-spec =
@@ -54,13 +55,14 @@ incise-ways-spec =
     (tie.spec
     Inv-loop
     μ-loop
-    distances-requires
+    step-distances-requires
+    step-offsets-requires
     table-requires
-    fill-requires
     loop-holds
     settle-way-requires
     add-i
     loop-less
     loop-again
     same-length
+    same-length-2
     returns)

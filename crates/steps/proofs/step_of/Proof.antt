@@ -1,9 +1,9 @@
 use borrow.Author.Tests.{lt-ltb, le-ltb}
 use borrow.Author.Needs.{needs}
-use Rattle.area_words.specs.Words.{stepOf}
-use Rattle.area_words.proofs.StepLaws.{step-back}
-use Rattle.area_words.proofs.step_of.Statement.{statement}
-use Rattle.area_words.proofs.step_of.Tie as tie
+use Rattle.steps.specs.Step.{stepOf}
+use Rattle.steps.proofs.StepLaws.{step-back}
+use Rattle.steps.proofs.step_of.Statement.{statement}
+use Rattle.steps.proofs.step_of.Tie as tie
 
 add-past : tie.Need-add-past
 add-past c = search needs
