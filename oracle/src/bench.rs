@@ -17,9 +17,13 @@ use source::fluvial_erosion::{self as fluvial, incision_params};
 
 type Sides = (usize, usize);
 
-/// how often both are measured, by turns
+/// how often both are measured, by turns, at least
 const ROUNDS: usize = 7;
 const ROUNDS_ABOVE_2000: usize = 5;
+
+/// short calls are measured on until so many rounds, or so many seconds
+const MOST_ROUNDS: usize = 401;
+const SECONDS: f64 = 1.0;
 
 /// The CPU time of this thread in seconds: what the machine does beside it does not count.
 fn cpu_seconds() -> f64 {
@@ -53,12 +57,15 @@ fn median(mut v: Vec<f64>) -> f64 {
 /// Runs both by turns and prints a row of the table: the medians in milliseconds, and the source's over the library's.
 fn row(call: &str, side: usize, kind: &str, ours: &mut dyn FnMut(), theirs: &mut dyn FnMut()) {
     let (mut a, mut b) = (Vec::new(), Vec::new());
-    for _ in 0..if side > 2000 { ROUNDS_ABOVE_2000 } else { ROUNDS } {
+    let least = if side > 2000 { ROUNDS_ABOVE_2000 } else { ROUNDS };
+    let began = cpu_seconds();
+    while a.len() < least || (a.len() < MOST_ROUNDS && cpu_seconds() - began < SECONDS) {
         b.push(timed(theirs));
         a.push(timed(ours));
     }
     let (a, b) = (median(a) * 1e3, median(b) * 1e3);
-    println!("| `{call}` | {side}² | {kind} | {b:.2} | {a:.2} | {:.2} |", b / a);
+    let digits = if a < 10.0 { 3 } else { 1 };
+    println!("| `{call}` | {side}² | {kind} | {b:.digits$} | {a:.digits$} | {:.2} |", b / a);
 }
 
 fn same_floats(name: &str, a: &[f32], b: &[f32]) {
