@@ -24,7 +24,7 @@ use Rattle.drainage.proofs.TrailLaws.{trail}
 use Rattle.drainage.proofs.WorkListLaws.{entry-lt, downstream}
 use Rattle.drainage.proofs.AreaLaws.{been, been-receiver, been-other, been-own, work-areas, length-areas, areas}
 use Rattle.ways.specs.Apart.{Along}
-use Rattle.steps.specs.Step.{stepOf, steppedTo, Steps}
+use Rattle.steps.specs.Step.{stepOf, steppedTo, Near, Steps}
 use Rattle.steps.proofs.StepLaws.{Step, step-back}
 use Rattle.area_words.specs.Words.{wordOf, areaIn, areasIn, receiverIn, passedOn, Word, Words, Network, Passing, WordFor, Worded, AreaWords, WholeArea, WholeAreas, Ahead}
 
@@ -51,6 +51,10 @@ module _ {w cells : ℕ} {recv : List ℕ} (net : Network w recv cells) where
 
   few : length recv ≤ 2 ^ 24
   few = omega (arith, net .steps .few)
+
+  -- what the word of a cell asks
+  pub given-word : {c area : ℕ} → c < length recv → area ≤ 2 ^ 24 → Near w c (getD recv c 0) × ((3 ≤ w) × (c < 4096 * 4096) × (getD recv c 0 < 4096 * 4096) × (area ≤ 2 ^ 24))
+  given-word l a = (net .steps .near _ l, (net .columns, omega (arith, net .steps .few), omega (arith, net .steps .inside _ l, net .steps .few), a))
 
 -- ---- words for receivers
 module _ {w cells : ℕ} {recv : List ℕ} (net : Network w recv cells) {words : List Float} (d : Worded w recv words) where

@@ -5,14 +5,23 @@ use steps::step_offsets;
 use steps::stepped_to;
 use ways::accumulate;
 ghost use mathlib.Core.Path.{_≡_};
-ghost use Prim.Native.Nat.{_+_, _≤_, _<_};
+ghost use Prim.Native.Nat.{_+_, _*_, _^_, _≤_, _<_};
 ghost use lib.ListN.{length, getD};
 ghost use lib.Ieee.{binary32, ofBits};
 ghost use Rattle.lists.specs.Loops.{tabulate};
 ghost use Rattle.drainage.specs.Ways.{WorkList, areasAlong};
 ghost use Rattle.ways.specs.Apart.{Along};
-ghost use Rattle.steps.specs.Step.{stepOf, stepOffsets, Steps};
+ghost use Rattle.steps.specs.Step.{stepOf, stepOffsets, Near, Steps};
 ghost use Rattle.area_words.specs.Words.{wordOf, areasIn, passedOn, Network, Words, Worded, AreaWords, Ahead, WholeAreas};
+
+// The word of cell i, whose receiver is r, with an area.
+fn word_with(area: u32, i: u32, r: u32, width: u32) -> f32
+    requires { ⌜ Near width i r ⌝ }
+    requires { ⌜ (3 ≤ width) × (i < 4096 * 4096) × (r < 4096 * 4096) × (area ≤ 2 ^ 24) ⌝ }
+    ensures { λ x. ⌜ x ≡ ofBits binary32 (wordOf area (stepOf width i r)) ⌝ }
+{
+    f32::from_bits(area * 16 + step_of(i, r, width))
+}
 
 // The word of each cell with an area of 1.
 fn first_words(width: usize, recv: &[u32], words: &mut [f32])
@@ -23,7 +32,7 @@ fn first_words(width: usize, recv: &[u32], words: &mut [f32])
     let n = recv.len();
     let mut i: usize = 0;
     while i < n {
-        words[i] = f32::from_bits(16 + step_of(i as u32, recv[i], w));
+        words[i] = word_with(1, i as u32, recv[i], w);
         i += 1;
     }
 }
@@ -51,7 +60,7 @@ pub fn to_words(width: usize, recv: &[u32], words: &mut [f32])
     let n = recv.len();
     let mut i: usize = 0;
     while i < n {
-        words[i] = f32::from_bits((words[i] as u32) * 16 + step_of(i as u32, recv[i], w));
+        words[i] = word_with(words[i] as u32, i as u32, recv[i], w);
         i += 1;
     }
 }

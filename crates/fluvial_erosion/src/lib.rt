@@ -95,7 +95,7 @@ fn incise_listed(by: Incision, recv: &[u32], words: &[f32], order: &[u32], out: 
     }
 }
 
-// The heights of `hmap` in `out`, incised along the list by areas that are given, on a grid of one or two columns or on any.
+// The heights of `hmap` in `out`, incised along the list by areas that are given, in the plain form.
 fn incise_narrow(
     size: Sides,
     hmap: &[f32],

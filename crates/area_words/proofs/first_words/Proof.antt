@@ -1,13 +1,11 @@
-use Prim.Native.Nat.{ℕ, _+_, _-_}
+use Prim.Native.Nat.{_-_}
 use native.Mathlib.Omega.{arith}
-use mathlib.Core.Path.{ap}
 use lib.ListN.{length, getD}
 use lib.Ieee.{binary32, ofBits}
 use Rattle.lists.proofs.FillLaws.{Filling, filling-none, filling-length, filling-more, filling-done}
-use Rattle.floats.proofs.BitsLaws.{no-nan-pattern}
 use Rattle.steps.specs.Step.{stepOf}
 use Rattle.area_words.specs.Words.{wordOf}
-use Rattle.area_words.proofs.WordLaws.{step-small}
+use Rattle.area_words.proofs.WordLaws.{given-word}
 use Rattle.area_words.proofs.first_words.Statement.{statement}
 use Rattle.area_words.proofs.first_words.Tie as tie
 
@@ -23,23 +21,17 @@ cast-w c = omega (arith, c .before .before .pre .steps .wide)
 loop-holds : tie.Need-loop-holds Inv-loop μ-loop
 loop-holds c = filling-none
 
-cast-step-of : tie.Need-cast-step-of Inv-loop μ-loop
-cast-step-of c = omega (arith, c .loop-test .taken, c .before .before .before .before .pre .steps .few)
+cast-word-with : tie.Need-cast-word-with Inv-loop μ-loop
+cast-word-with c = omega (arith, c .loop-test .taken, c .before .before .before .before .pre .steps .few)
 
-mul-step-of : tie.Need-mul-step-of Inv-loop μ-loop
-mul-step-of c = omega (arith, c .loop-test .taken, c .before .before .before .before .pre .steps .few)
+mul-word-with : tie.Need-mul-word-with Inv-loop μ-loop
+mul-word-with c = omega (arith, c .loop-test .taken, c .before .before .before .before .pre .steps .few)
 
-shared-slice-read-step-of : tie.Need-shared-slice-read-step-of Inv-loop μ-loop
-shared-slice-read-step-of c = omega (arith, c .before .loop-test .taken)
+shared-slice-read-word-with : tie.Need-shared-slice-read-word-with Inv-loop μ-loop
+shared-slice-read-word-with c = omega (arith, c .before .loop-test .taken)
 
-step-of-requires : tie.Need-step-of-requires Inv-loop μ-loop
-step-of-requires c κs = let p = c .before .before .before .before .before .pre in let l = c .before .loop-test .taken in (p .steps .near _ l, (p .columns, omega (arith, l, p .steps .few), omega (arith, p .steps .inside _ l, p .steps .few)))
-
-add-words : tie.Need-add-words Inv-loop μ-loop
-add-words c = omega (arith, step-small (c .before .before .before .before .before .before .pre) (c .before .before .loop-test .taken), c .step-of .ensures)
-
-float-from-bits-words : tie.Need-float-from-bits-words Inv-loop μ-loop
-float-from-bits-words c = no-nan-pattern _ (omega (arith, step-small (c .before .before .before .before .before .before .pre) (c .before .before .loop-test .taken), c .step-of .ensures))
+word-with-requires : tie.Need-word-with-requires Inv-loop μ-loop
+word-with-requires c κs = given-word (c .before .before .before .before .before .pre) (c .before .loop-test .taken) (omega arith)
 
 mul-words : tie.Need-mul-words Inv-loop μ-loop
 mul-words c = omega (arith, c .before .before .loop-test .taken, c .before .before .before .before .before .before .pre .steps .few)
@@ -54,7 +46,7 @@ loop-less : tie.Need-loop-less Inv-loop μ-loop
 loop-less c = omega (arith, c .before .before .loop-test .taken)
 
 loop-again : tie.Need-loop-again Inv-loop μ-loop
-loop-again c = filling-more (c .before .before .before .loop .inv) (ap (λ (s : ℕ). ofBits binary32 (16 + s)) (c .step-of .ensures)) (omega (arith, c .before .before .loop-test .taken, c .before .before .before .before .before .before .pre .long))
+loop-again c = filling-more (c .before .before .before .loop .inv) (c .word-with .ensures) (omega (arith, c .before .before .loop-test .taken, c .before .before .before .before .before .before .pre .long))
 
 same-length : tie.Need-same-length Inv-loop μ-loop
 same-length c = filling-length (c .before .loop .inv)
@@ -70,12 +62,10 @@ first-words-spec =
     μ-loop
     cast-w
     loop-holds
-    cast-step-of
-    mul-step-of
-    shared-slice-read-step-of
-    step-of-requires
-    add-words
-    float-from-bits-words
+    cast-word-with
+    mul-word-with
+    shared-slice-read-word-with
+    word-with-requires
     mul-words
     slice-write-words
     add-i

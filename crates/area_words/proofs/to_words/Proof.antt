@@ -1,12 +1,12 @@
-use Prim.Native.Nat.{ℕ, _+_, _-_, _*_}
+use Prim.Native.Nat.{_-_}
 use native.Mathlib.Omega.{arith}
-use mathlib.Core.Path.{sym, ap₂, subst}
-use lib.ListN.{length}
+use mathlib.Core.Path.{sym, ap, _∙_, subst}
+use lib.ListN.{length, getD}
 use lib.Ieee.{Float, nan, binary32, ofBits, toUnsigned}
 use Rattle.lists.proofs.FillLaws.{Filling, filling-none, filling-length, filling-next, filling-more, filling-done}
-use Rattle.floats.proofs.BitsLaws.{no-nan-pattern}
-use Rattle.area_words.specs.Words.{WholeArea}
-use Rattle.area_words.proofs.WordLaws.{step-small, area-cast, area-few, wordWith, with-areas}
+use Rattle.steps.specs.Step.{stepOf}
+use Rattle.area_words.specs.Words.{wordOf, WholeArea}
+use Rattle.area_words.proofs.WordLaws.{given-word, area-cast, area-few, wordWith, with-areas}
 use Rattle.area_words.proofs.to_words.Statement.{statement}
 use Rattle.area_words.proofs.to_words.Tie as tie
 
@@ -22,38 +22,29 @@ cast-w c = omega (arith, c .before .before .pre .0 .steps .wide)
 loop-holds : tie.Need-loop-holds Inv-loop μ-loop
 loop-holds c = filling-none
 
+mul-word-with : tie.Need-mul-word-with Inv-loop μ-loop
+mul-word-with c = omega (arith, c .loop-test .taken, c .before .before .before .before .pre .0 .steps .few)
+
+slice-read-word-with : tie.Need-slice-read-word-with Inv-loop μ-loop
+slice-read-word-with c = omega (arith, c .before .loop-test .taken, filling-length (c .before .before .loop .inv), c .before .before .before .before .before .pre .0 .long)
+
+float-to-int-word-with : tie.Need-float-to-int-word-with Inv-loop μ-loop
+float-to-int-word-with c = area-cast (subst WholeArea (sym (filling-next (c .before .before .before .loop .inv) nan)) (c .before .before .before .before .before .before .pre .1 _ (omega (arith, c .before .before .loop-test .taken, c .before .before .before .before .before .before .pre .0 .long))))
+
+cast-word-with : tie.Need-cast-word-with Inv-loop μ-loop
+cast-word-with c = omega (arith, c .before .before .loop-test .taken, c .before .before .before .before .before .before .pre .0 .steps .few)
+
+mul-word-with-2 : tie.Need-mul-word-with-2 Inv-loop μ-loop
+mul-word-with-2 c = omega (arith, c .before .before .loop-test .taken, c .before .before .before .before .before .before .pre .0 .steps .few)
+
+shared-slice-read-word-with : tie.Need-shared-slice-read-word-with Inv-loop μ-loop
+shared-slice-read-word-with c = omega (arith, c .before .before .before .loop-test .taken)
+
+word-with-requires : tie.Need-word-with-requires Inv-loop μ-loop
+word-with-requires c κs = given-word (c .before .before .before .before .before .before .before .pre .0) (c .before .before .before .loop-test .taken) (area-few (subst WholeArea (sym (filling-next (c .before .before .before .before .loop .inv) nan)) (c .before .before .before .before .before .before .before .pre .1 _ (omega (arith, c .before .before .before .loop-test .taken, c .before .before .before .before .before .before .before .pre .0 .long)))))
+
 mul-words : tie.Need-mul-words Inv-loop μ-loop
-mul-words c = omega (arith, c .loop-test .taken, c .before .before .before .before .pre .0 .steps .few)
-
-slice-read-words : tie.Need-slice-read-words Inv-loop μ-loop
-slice-read-words c = omega (arith, c .before .loop-test .taken, filling-length (c .before .before .loop .inv), c .before .before .before .before .before .pre .0 .long)
-
-float-to-int-words : tie.Need-float-to-int-words Inv-loop μ-loop
-float-to-int-words c = area-cast (subst WholeArea (sym (filling-next (c .before .before .before .loop .inv) nan)) (c .before .before .before .before .before .before .pre .1 _ (omega (arith, c .before .before .loop-test .taken, c .before .before .before .before .before .before .pre .0 .long))))
-
-mul-words-2 : tie.Need-mul-words-2 Inv-loop μ-loop
-mul-words-2 c = omega (arith, area-few (subst WholeArea (sym (filling-next (c .before .before .before .loop .inv) nan)) (c .before .before .before .before .before .before .pre .1 _ (omega (arith, c .before .before .loop-test .taken, c .before .before .before .before .before .before .pre .0 .long)))))
-
-cast-step-of : tie.Need-cast-step-of Inv-loop μ-loop
-cast-step-of c = omega (arith, c .before .before .loop-test .taken, c .before .before .before .before .before .before .pre .0 .steps .few)
-
-mul-step-of : tie.Need-mul-step-of Inv-loop μ-loop
-mul-step-of c = omega (arith, c .before .before .loop-test .taken, c .before .before .before .before .before .before .pre .0 .steps .few)
-
-shared-slice-read-step-of : tie.Need-shared-slice-read-step-of Inv-loop μ-loop
-shared-slice-read-step-of c = omega (arith, c .before .before .before .loop-test .taken)
-
-step-of-requires : tie.Need-step-of-requires Inv-loop μ-loop
-step-of-requires c κs = let p = c .before .before .before .before .before .before .before .pre .0 in let l = c .before .before .before .loop-test .taken in (p .steps .near _ l, (p .columns, omega (arith, l, p .steps .few), omega (arith, p .steps .inside _ l, p .steps .few)))
-
-add-words : tie.Need-add-words Inv-loop μ-loop
-add-words c = omega (arith, area-few (subst WholeArea (sym (filling-next (c .before .before .before .before .before .loop .inv) nan)) (c .before .before .before .before .before .before .before .before .pre .1 _ (omega (arith, c .before .before .before .before .loop-test .taken, c .before .before .before .before .before .before .before .before .pre .0 .long)))), step-small (c .before .before .before .before .before .before .before .before .pre .0) (c .before .before .before .before .loop-test .taken), c .step-of .ensures)
-
-float-from-bits-words : tie.Need-float-from-bits-words Inv-loop μ-loop
-float-from-bits-words c = no-nan-pattern _ (omega (arith, area-few (subst WholeArea (sym (filling-next (c .before .before .before .before .before .loop .inv) nan)) (c .before .before .before .before .before .before .before .before .pre .1 _ (omega (arith, c .before .before .before .before .loop-test .taken, c .before .before .before .before .before .before .before .before .pre .0 .long)))), step-small (c .before .before .before .before .before .before .before .before .pre .0) (c .before .before .before .before .loop-test .taken), c .step-of .ensures))
-
-mul-words-3 : tie.Need-mul-words-3 Inv-loop μ-loop
-mul-words-3 c = omega (arith, c .before .before .before .before .loop-test .taken, c .before .before .before .before .before .before .before .before .pre .0 .steps .few)
+mul-words c = omega (arith, c .before .before .before .before .loop-test .taken, c .before .before .before .before .before .before .before .before .pre .0 .steps .few)
 
 slice-write-words : tie.Need-slice-write-words Inv-loop μ-loop
 slice-write-words c = omega (arith, c .before .before .before .before .loop-test .taken, filling-length (c .before .before .before .before .before .loop .inv), c .before .before .before .before .before .before .before .before .pre .0 .long)
@@ -65,7 +56,7 @@ loop-less : tie.Need-loop-less Inv-loop μ-loop
 loop-less c = omega (arith, c .before .before .before .before .loop-test .taken)
 
 loop-again : tie.Need-loop-again Inv-loop μ-loop
-loop-again c = filling-more (c .before .before .before .before .before .loop .inv) (ap₂ (λ (x : Float) (s : ℕ). ofBits binary32 (toUnsigned 32 x * 16 + s)) (filling-next (c .before .before .before .before .before .loop .inv) nan) (c .step-of .ensures)) (omega (arith, c .before .before .before .before .loop-test .taken, c .before .before .before .before .before .before .before .before .pre .0 .long))
+loop-again c = filling-more (c .before .before .before .before .before .loop .inv) (c .word-with .ensures ∙ ap (λ (x : Float). ofBits binary32 (wordOf (toUnsigned 32 x) (stepOf (c .before .before .before .before .before .before .before .before .args .width) (c .before .before .before .before .before .loop .i) (getD (c .before .before .before .before .before .before .before .before .args .recv .now) (c .before .before .before .before .before .loop .i) 0)))) (filling-next (c .before .before .before .before .before .loop .inv) nan)) (omega (arith, c .before .before .before .before .loop-test .taken, c .before .before .before .before .before .before .before .before .pre .0 .long))
 
 same-length : tie.Need-same-length Inv-loop μ-loop
 same-length c = filling-length (c .before .loop .inv)
@@ -81,17 +72,14 @@ to-words-spec =
     μ-loop
     cast-w
     loop-holds
+    mul-word-with
+    slice-read-word-with
+    float-to-int-word-with
+    cast-word-with
+    mul-word-with-2
+    shared-slice-read-word-with
+    word-with-requires
     mul-words
-    slice-read-words
-    float-to-int-words
-    mul-words-2
-    cast-step-of
-    mul-step-of
-    shared-slice-read-step-of
-    step-of-requires
-    add-words
-    float-from-bits-words
-    mul-words-3
     slice-write-words
     add-i
     loop-less
