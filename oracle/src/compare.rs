@@ -119,7 +119,12 @@ fn large() -> bool {
     for kind in [Kind::Fluvial, Kind::Thermal] {
         whole::large(&mut t, r, kind, size, h.clone(), &settings(size, 1), false);
     }
-    t.print("large grids: sides 512, 1,024, 4,095, 4,096, 1 x 4,096 and 4,096 x 1")
+    let size = (2048, 2048);
+    for make in [hills, noise] {
+        let h = make(r, size);
+        passes::large(&mut t, r, size, h, 0.12);
+    }
+    t.print("large grids: sides 512, 1,024, 2,048, 4,095, 4,096, 1 x 4,096 and 4,096 x 1")
 }
 
 fn main() -> ExitCode {
