@@ -131,7 +131,7 @@ fn incise_words(
     ensures { λ _. ⌜ Incised (size .w) (size .h) (now (hmap .entry)) params (areasIn (now (words .entry))) (now (recv .entry)) (now (order .entry)) (now (out .exit)) (now (words .exit)) ⌝ }
 {
     let by = incision_of(size, params);
-    if 1048576 < words.len() {
+    if 4194304 < words.len() {
         incise_ways(by, hmap, recv, words, out);
         read_areas(words);
         return;
