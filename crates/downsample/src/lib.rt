@@ -3,8 +3,7 @@ use answers::Answer;
 use answers::Refusal;
 use grid::Sides;
 use grid::all_finite;
-use grid::first_not_finite;
-use resample::shape_refusal;
+use resample::map_refusal;
 ghost use mathlib.Core.Path.{_≡_};
 ghost use Prim.Native.Nat.{_+_, _*_, _<_, _≤_};
 ghost use lib.ListN.{length};
@@ -139,12 +138,9 @@ pub fn downsample_into(src: &[f32], size: Sides, dst: &mut [f32], dsize: Sides)
 pub fn downsample(src: &[f32], size: Sides, dst: &mut [f32], dsize: Sides) -> Answer
     ensures { λ r. ⌜ Downsampled (now (src .entry)) (size .w) (size .h) (now (dst .entry)) (dsize .w) (dsize .h) r (now (dst .exit)) ⌝ }
 {
-    let shape = shape_refusal(size, src.len(), dsize, dst.len());
-    if let Answer::Refused(_) = shape {
-        return shape;
-    }
-    if !all_finite(size, src) {
-        return Answer::Refused(Refusal::Height(first_not_finite(size, src)));
+    let refusal = map_refusal(src, size, dsize, dst.len());
+    if let Answer::Refused(_) = refusal {
+        return refusal;
     }
     downsample_into(src, size, dst, dsize);
     if !all_finite(dsize, dst) {

@@ -1,21 +1,23 @@
--- Refusals in number order: what is known where a test has failed or held, and what a refusal for the shape says of the whole answer.
+-- Refusals in number order: what is known where a test has failed or held, and what a refusal says of the whole answer.
 use Prim.Native.Nat.{ℕ, _*_, _≤_}
 use mathlib.Core.Path.{_≡_, refl, sym, ap, _∙_}
-use mathlib.Core.Bool.{false, not, _||_}
+use mathlib.Core.Bool.{true, false, not, _||_}
 use mathlib.Core.List.{List}
 use native.Mathlib.Omega.{arith}
+use lib.ListN.{length}
 use lib.Dec.{eqb, ltb}
 use lib.Ieee.{Float}
 use borrow.Author.Tests.{eqb-true, eqb-false, ltb-false, not-false}
 use Rattle.lists.proofs.TestLaws.{neither, through}
-use Rattle.answers.specs.Outcome.{Outcome, gives, refused, answerOf}
+use Rattle.answers.specs.Outcome.{Outcome, gives, refused, refusedAt, answerOf}
 use Rattle.answers.specs.declared.Answer.{Answer}
 use Rattle.answers.specs.declared.Refusal.{Refusal}
 use Rattle.grid.specs.Sides.{badSides}
-use Rattle.answers.proofs.OutcomeLaws.{refused-given, not-refused, byOutcome, refused-whole, refused-kept}
+use Rattle.grid.specs.Heights.{firstNotFinite, allFinite}
+use Rattle.answers.proofs.OutcomeLaws.{refused-given, not-refused, not-refused-unless, byOutcome, refused-whole, refused-kept}
 use Rattle.grid.proofs.SidesLaws.{good-sides}
 use Rattle.resample.specs.WorkSize.{Within}
-use Rattle.resample.specs.Blocks.{badReduced, shapeRefusal}
+use Rattle.resample.specs.Blocks.{badReduced, mapRefusal}
 
 reduced-good : (r s : ℕ) → badReduced r s ≡ false → (1 ≤ r) × (r ≤ s)
 reduced-good r s e =
@@ -35,44 +37,49 @@ within-good w h dw dh e f =
 pub reduced-small : (w h dw dh : ℕ) → badSides w h ≡ false → (badReduced dw w || badReduced dh h) ≡ false → (dw ≤ 4096) × (dh ≤ 4096)
 reduced-small w h dw dh e f = omega (arith, within-good w h dw dh e f)
 
--- an answer that refuses the shape is the whole answer, and what is kept is kept
-module _ (w h len dw dh dlen : ℕ) where
+-- an answer that refuses is the whole answer, and what is kept is kept
+module _ (map : List Float) (w h dlen dw dh : ℕ) where
   abbrev tests : (A : Type 0) → (ℕ → A) → (ℕ → ℕ → A) → A → A
-  tests A number at then = shapeRefusal w h len dw dh dlen number then
+  tests A number at then = mapRefusal map w h dlen dw dh number at then
 
-  alike : (A : Type 0) (number : ℕ → A) (at : ℕ → ℕ → A) (then : A) → byOutcome number at then (shapeRefusal w h len dw dh dlen refused (gives tt)) ≡ tests A number at then
+  alike : (A : Type 0) (number : ℕ → A) (at : ℕ → ℕ → A) (then : A) → byOutcome number at then (mapRefusal map w h dlen dw dh refused refusedAt (gives tt)) ≡ tests A number at then
   alike A number at then = simp (through (byOutcome number at then))
 
-  pub shape-refused : (a : Answer) (r : Refusal) → answerOf a ≡ shapeRefusal w h len dw dh dlen refused (gives tt) → a ≡ Answer.Refused r
-      → ((x : Outcome (Unit {0})) → answerOf a ≡ shapeRefusal w h len dw dh dlen refused x) × ((d x : List Float) → d ≡ shapeRefusal w h len dw dh dlen (λ n. d) x)
-  shape-refused a r e f =
+  pub map-refused : (a : Answer) (r : Refusal) → answerOf a ≡ mapRefusal map w h dlen dw dh refused refusedAt (gives tt) → a ≡ Answer.Refused r
+      → ((x : Outcome (Unit {0})) → answerOf a ≡ mapRefusal map w h dlen dw dh refused refusedAt x) × ((d x : List Float) → d ≡ mapRefusal map w h dlen dw dh (λ n. d) (λ n c. d) x)
+  map-refused a r e f =
       let none = refused-given f in
       (refused-whole tests alike (answerOf a) e none, refused-kept tests alike (answerOf a) e none)
 
--- an accepted shape: no test holds, the reduced grid lies within the full one, and both slices are their grid's
-pub record Shaped (w h len dw dh dlen : ℕ) : Type 0 where
+-- an accepted map: no test holds, the reduced grid lies within the full one, and both slices are their grid's
+pub record Accepted (map : List Float) (w h dlen dw dh : ℕ) : Type 0 where
   pub sides : badSides w h ≡ false
   pub reduced : (badReduced dw w || badReduced dh h) ≡ false
-  pub lengths : (not (eqb len (w * h)) || not (eqb dlen (dw * dh))) ≡ false
+  pub lengths : (not (eqb (length map) (w * h)) || not (eqb dlen (dw * dh))) ≡ false
+  pub finite : allFinite map ≡ true
   pub in-grid : Within w h dw dh
-  pub full : len ≡ w * h
+  pub full : length map ≡ w * h
   pub small : dlen ≡ dw * dh
 
-pub shape-good : (w h len dw dh dlen : ℕ) (a : Answer) → answerOf a ≡ shapeRefusal w h len dw dh dlen refused (gives tt) → a ≡ Answer.Done → Shaped w h len dw dh dlen
-shape-good w h len dw dh dlen r e f =
+pub map-good : (map : List Float) (w h dlen dw dh : ℕ) (a : Answer) → answerOf a ≡ mapRefusal map w h dlen dw dh refused refusedAt (gives tt) → a ≡ Answer.Done
+    → Accepted map w h dlen dw dh
+map-good map w h dlen dw dh r e f =
     let a = not-refused (badSides w h) (refused 1) _ tt refl (sym e ∙ ap answerOf f) in
     let b = not-refused (badReduced dw w || badReduced dh h) (refused 2) _ tt refl (a .1) in
-    let c = not-refused (not (eqb len (w * h)) || not (eqb dlen (dw * dh))) (refused 3) _ tt refl (b .1) in
-    let q = neither (not (eqb len (w * h))) (not (eqb dlen (dw * dh))) (c .0) in
+    let c = not-refused (not (eqb (length map) (w * h)) || not (eqb dlen (dw * dh))) (refused 3) _ tt refl (b .1) in
+    let d = not-refused-unless (allFinite map) tt (refusedAt 5 (firstNotFinite map)) tt refl (c .1) in
+    let q = neither (not (eqb (length map) (w * h))) (not (eqb dlen (dw * dh))) (c .0) in
     record {
       sides = a .0;
       reduced = b .0;
       lengths = c .0;
+      finite = d .0;
       in-grid = within-good w h dw dh (a .0) (b .0);
-      full = eqb-true len (w * h) (not-false (eqb len (w * h)) (q .0));
+      full = eqb-true (length map) (w * h) (not-false (eqb (length map) (w * h)) (q .0));
       small = eqb-true dlen (dw * dh) (not-false (eqb dlen (dw * dh)) (q .1));
     }
 
--- past an accepted shape: what the rest says is what the whole says
-pub past-shape : {w h len dw dh dlen : ℕ} → Shaped w h len dw dh dlen → {A : Type 0} (number : ℕ → A) {x then : A} → x ≡ then → x ≡ shapeRefusal w h len dw dh dlen number then
-past-shape s number e = rw (s .sides, s .reduced, s .lengths) e
+-- past an accepted map: what the rest says is what the whole says
+pub past-map : {map : List Float} {w h dlen dw dh : ℕ} → Accepted map w h dlen dw dh → {A : Type 0} (number : ℕ → A) (at : ℕ → ℕ → A) {x then : A} → x ≡ then
+    → x ≡ mapRefusal map w h dlen dw dh number at then
+past-map s number at e = rw (s .sides, s .reduced, s .lengths, s .finite) e

@@ -67,26 +67,23 @@ pub record Values (n : ℕ) (l : List Float) : Type 0 where
 abbrev pub badReduced : ℕ → ℕ → Bool
 badReduced reduced side = eqb reduced 0 || ltb side reduced
 
--- 1: a side; 2: a reduced side; 3: a length, of the full map or of the reduced one; else `then`. `number` says what a refusal gives
-abbrev pub shapeRefusal : {A : Type 0} → ℕ → ℕ → ℕ → ℕ → ℕ → ℕ → (ℕ → A) → A → A
-shapeRefusal w h len dw dh dlen number then =
+-- 1: a side; 2: a reduced side; 3: a length, of the full map or of the reduced one; 5: a height of the full map; else `then`. `number` says what a
+-- refusal gives, and `at` what one with its cell gives
+abbrev pub mapRefusal : {A : Type 0} → List Float → ℕ → ℕ → ℕ → ℕ → ℕ → (ℕ → A) → (ℕ → ℕ → A) → A → A
+mapRefusal map w h dlen dw dh number at then =
     cond (badSides w h) (number 1)
-    (cond (badReduced dw w || badReduced dh h) (number 2) (cond (not (eqb len (w * h)) || not (eqb dlen (dw * dh))) (number 3) then))
-
--- then 5: a height; `at` says what a refusal with its cell gives
-abbrev pub downsampleRefusal : {A : Type 0} → List Float → ℕ → ℕ → ℕ → ℕ → ℕ → (ℕ → A) → (ℕ → ℕ → A) → A → A
-downsampleRefusal src w h len dw dh number at then =
-    shapeRefusal w h (length src) dw dh len number (cond (allFinite src) then (at 5 (firstNotFinite src)))
+    (cond (badReduced dw w || badReduced dh h) (number 2)
+    (cond (not (eqb (length map) (w * h)) || not (eqb dlen (dw * dh))) (number 3) (cond (allFinite map) then (at 5 (firstNotFinite map)))))
 
 -- then 22: an average not finite
 abbrev pub downsampleAnswer : List Float → ℕ → ℕ → ℕ → ℕ → ℕ → Outcome (Unit {0})
 downsampleAnswer src w h len dw dh =
-    downsampleRefusal src w h len dw dh refused refusedAt (cond (allFinite (downsampled src w h dw dh)) (gives tt) (refused 22))
+    mapRefusal src w h len dw dh refused refusedAt (cond (allFinite (downsampled src w h dw dh)) (gives tt) (refused 22))
 
 -- what the result slice holds at the end: what it held on 1 to 5, else the averages
 abbrev pub downsampleResult : List Float → ℕ → ℕ → List Float → ℕ → ℕ → List Float
 downsampleResult src w h dst dw dh =
-    downsampleRefusal src w h (length dst) dw dh (λ n. dst) (λ n c. dst) (downsampled src w h dw dh)
+    mapRefusal src w h (length dst) dw dh (λ n. dst) (λ n c. dst) (downsampled src w h dw dh)
 
 -- what `downsample` promises of its answer r and of what the result slice then holds
 pub record Downsampled (src : List Float) (w h : ℕ) (dst : List Float) (dw dh : ℕ) (r : Answer) (after : List Float) : Type 0 where

@@ -1,4 +1,4 @@
-// The source's resample.rs: the sides of the reduced grid, and the refusals of two grids for their shape. The block average onto it is in the crate `downsample`, the way back
+// The source's resample.rs: the sides of the reduced grid, and the refusals of a full map beside a reduced one. The block average onto it is in the crate `downsample`, the way back
 // in `bilinear` and `upsample`.
 use answers::Answer;
 use answers::Refusal;
@@ -6,15 +6,17 @@ use floats::ratio;
 use floats::round;
 use floats::to_count;
 use grid::Sides;
+use grid::all_finite;
 use grid::bad_sides;
+use grid::first_not_finite;
 use grid::longest;
 ghost use mathlib.Core.Path.{_≡_};
 ghost use mathlib.Core.Bool.{not, _||_};
 ghost use Prim.Native.Nat.{_*_, _≤_};
 ghost use lib.Dec.{eqb};
-ghost use Rattle.answers.specs.Outcome.{gives, refused, answerOf};
+ghost use Rattle.answers.specs.Outcome.{gives, refused, refusedAt, answerOf};
 ghost use Rattle.resample.specs.WorkSize.{scaledSide, workSize, workOf, workAnswer};
-ghost use Rattle.resample.specs.Blocks.{badReduced, shapeRefusal};
+ghost use Rattle.resample.specs.Blocks.{badReduced, mapRefusal};
 
 // The working sides, or the refusal of a bad side.
 pub enum Work {
@@ -87,9 +89,9 @@ pub fn bad_length(len: usize, size: Sides) -> bool
     len != size.w * size.h
 }
 
-// 1, 2 and 3, of a full map of len values and a reduced one of dlen.
-pub fn shape_refusal(size: Sides, len: usize, dsize: Sides, dlen: usize) -> Answer
-    ensures { λ r. ⌜ answerOf r ≡ shapeRefusal (size .w) (size .h) len (dsize .w) (dsize .h) dlen refused (gives tt) ⌝ }
+// 1, 2, 3 and 5, of a full map and of a reduced one of dlen values, whose heights are not asked for.
+pub fn map_refusal(map: &[f32], size: Sides, dsize: Sides, dlen: usize) -> Answer
+    ensures { λ r. ⌜ answerOf r ≡ mapRefusal (now (map .entry)) (size .w) (size .h) dlen (dsize .w) (dsize .h) refused refusedAt (gives tt) ⌝ }
 {
     if bad_sides(size) {
         return Answer::Refused(Refusal::Side);
@@ -97,11 +99,14 @@ pub fn shape_refusal(size: Sides, len: usize, dsize: Sides, dlen: usize) -> Answ
     if bad_reduced(dsize, size) {
         return Answer::Refused(Refusal::ReducedSide);
     }
-    if bad_length(len, size) {
+    if bad_length(map.len(), size) {
         return Answer::Refused(Refusal::Length);
     }
     if bad_length(dlen, dsize) {
         return Answer::Refused(Refusal::Length);
+    }
+    if !all_finite(size, map) {
+        return Answer::Refused(Refusal::Height(first_not_finite(size, map)));
     }
     Answer::Done
 }

@@ -9,7 +9,7 @@ use Rattle.answers.specs.Outcome.{Outcome, gives, refused, refusedAt, answerOf}
 use Rattle.answers.specs.declared.Answer.{Answer}
 use Rattle.lists.specs.Loops.{tabulate}
 use Rattle.grid.specs.Heights.{firstNotFinite, allFinite}
-use Rattle.resample.specs.Blocks.{shapeRefusal}
+use Rattle.resample.specs.Blocks.{mapRefusal}
 use Rattle.bilinear.specs.Samples.{between, bilinearOf}
 use Rattle.sample_rows.specs.Rows.{centreOf}
 pub use Rattle.bilinear.specs.Samples.{FarEdge, asSource}
@@ -38,11 +38,10 @@ pub record AddedFinite (sum map : List Float) (r : Bool) (after : List Float) : 
   pub good : r ≡ allFinite sum
   pub heights : after ≡ cond r sum map
 
--- 1, 2, 3, 5 (the full grid first), else `then`
+-- the refusals of the map, then 5 of the reduced grid, else `then`
 abbrev pub addRefusal : {A : Type 0} → List Float → ℕ → ℕ → List Float → ℕ → ℕ → (ℕ → A) → (ℕ → ℕ → A) → A → A
 addRefusal map w h delta dw dh number at then =
-    shapeRefusal w h (length map) dw dh (length delta) number
-    (cond (allFinite map) (cond (allFinite delta) then (at 5 (firstNotFinite delta))) (at 5 (firstNotFinite map)))
+    mapRefusal map w h (length delta) dw dh number at (cond (allFinite delta) then (at 5 (firstNotFinite delta)))
 
 abbrev pub addAnswer : List Float → ℕ → ℕ → List Float → ℕ → ℕ → Outcome (Unit {0})
 addAnswer map w h delta dw dh =

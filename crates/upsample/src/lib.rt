@@ -6,7 +6,7 @@ use floats::is_finite;
 use grid::Sides;
 use grid::all_finite;
 use grid::first_not_finite;
-use resample::shape_refusal;
+use resample::map_refusal;
 use sample_rows::columns;
 use sample_rows::mix_rows;
 use sample_rows::prepare;
@@ -115,12 +115,9 @@ pub fn add_finite(map: &mut [f32], size: Sides, delta: &[f32], dsize: Sides) -> 
 pub fn add_upsampled(map: &mut [f32], size: Sides, delta: &[f32], dsize: Sides) -> Answer
     ensures { λ r. ⌜ Added (now (map .entry)) (size .w) (size .h) (now (delta .entry)) (dsize .w) (dsize .h) r (now (map .exit)) ⌝ }
 {
-    let shape = shape_refusal(size, map.len(), dsize, delta.len());
-    if let Answer::Refused(_) = shape {
-        return shape;
-    }
-    if !all_finite(size, map) {
-        return Answer::Refused(Refusal::Height(first_not_finite(size, map)));
+    let refusal = map_refusal(map, size, dsize, delta.len());
+    if let Answer::Refused(_) = refusal {
+        return refusal;
     }
     if !all_finite(dsize, delta) {
         return Answer::Refused(Refusal::Height(first_not_finite(dsize, delta)));
