@@ -105,8 +105,8 @@ pub fn bilinear(v: &[f32], x: f32, y: f32, size: Sides) -> Value
     if bad_coordinate(y, size.h) {
         return Value::Refused(Refusal::Setting);
     }
-    if !all_finite(size, v) {
-        return Value::Refused(Refusal::Height(first_not_finite(size, v)));
+    if !all_finite(v) {
+        return Value::Refused(Refusal::Height(first_not_finite(v)));
     }
     let s = sample(v, x, y, size);
     if !is_finite(s) {

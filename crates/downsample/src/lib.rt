@@ -143,7 +143,7 @@ pub fn downsample(src: &[f32], size: Sides, dst: &mut [f32], dsize: Sides) -> An
         return refusal;
     }
     downsample_into(src, size, dst, dsize);
-    if !all_finite(dsize, dst) {
+    if !all_finite(dst) {
         return Answer::Refused(Refusal::RunOff);
     }
     Answer::Done

@@ -93,7 +93,7 @@ pub fn run_pass(
     if marks.stopped {
         return ended(21, marks, r);
     }
-    if all_finite(size, copy) {
+    if all_finite(copy) {
         copy_heights(copy, hmap);
         return Reached {
             marks: marks,
@@ -125,7 +125,7 @@ pub fn reduce(size: Sides, hmap: &[f32], work: Sides, small: &mut [f32], eroded:
 {
     downsample_into(hmap, size, small, work);
     copy_heights(small, eroded);
-    all_finite(work, small)
+    all_finite(small)
 }
 
 // What erosion changed on the reduced grid, in the place of the eroded heights.
@@ -158,7 +158,7 @@ pub fn add_back(
     ensures { λ _. ⌜ now (eroded .exit) ≡ differenceOf (now (eroded .entry)) (now (small .entry)) ⌝ }
 {
     subtract(eroded, small);
-    if !all_finite(work, eroded) {
+    if !all_finite(eroded) {
         return ended(22, r.marks, r);
     }
     if !add_finite(hmap, size, eroded, work) {

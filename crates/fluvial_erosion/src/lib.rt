@@ -248,7 +248,7 @@ fn refusal(
     if bad_incision(params) {
         return Answer::Refused(Refusal::Setting);
     }
-    let height = first_not_finite(size, hmap);
+    let height = first_not_finite(hmap);
     if height != n {
         return Answer::Refused(Refusal::Height(height));
     }
@@ -281,7 +281,7 @@ pub fn incise(
     };
     let n = size.w * size.h;
     incise_into(size, hmap, params, recv, order, out, &mut area[..n]);
-    if all_finite(size, out) {
+    if all_finite(out) {
         return Answer::Done;
     }
     Answer::Refused(Refusal::RunOff)

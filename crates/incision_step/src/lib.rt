@@ -72,7 +72,7 @@ pub fn open_iteration(
         return ended(21, marks, r);
     }
     carve(size, hmap, params, copy, area, order, recv, queue, status);
-    if all_finite(size, copy) {
+    if all_finite(copy) {
         copy_heights(copy, hmap);
         return Reached {
             marks: marks,

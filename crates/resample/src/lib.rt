@@ -105,8 +105,8 @@ pub fn map_refusal(map: &[f32], size: Sides, dsize: Sides, dlen: usize) -> Answe
     if bad_length(dlen, dsize) {
         return Answer::Refused(Refusal::Length);
     }
-    if !all_finite(size, map) {
-        return Answer::Refused(Refusal::Height(first_not_finite(size, map)));
+    if !all_finite(map) {
+        return Answer::Refused(Refusal::Height(first_not_finite(map)));
     }
     Answer::Done
 }

@@ -137,7 +137,7 @@ fn slide_accepted(
     if reached.stopped {
         return refused(Refusal::Stopped, reached);
     }
-    if all_finite(size, out) {
+    if all_finite(out) {
         return Slid {
             answer: Answer::Done,
             progress: reached,
@@ -174,7 +174,7 @@ pub fn slide_pass(
     if bad_pass(params, from, to, progress) {
         return refused(Refusal::Setting, progress);
     }
-    let bad = first_not_finite(size, hmap);
+    let bad = first_not_finite(hmap);
     if bad != n {
         return refused(Refusal::Height(bad), progress);
     }

@@ -119,8 +119,8 @@ pub fn add_upsampled(map: &mut [f32], size: Sides, delta: &[f32], dsize: Sides) 
     if let Answer::Refused(_) = refusal {
         return refusal;
     }
-    if !all_finite(dsize, delta) {
-        return Answer::Refused(Refusal::Height(first_not_finite(dsize, delta)));
+    if !all_finite(delta) {
+        return Answer::Refused(Refusal::Height(first_not_finite(delta)));
     }
     if !add_finite(map, size, delta, dsize) {
         return Answer::Refused(Refusal::RunOff);

@@ -38,10 +38,10 @@ returns-4 : tie.Need-returns-4
 returns-4 c = rw (sym (c .before .before .before .before .before .before .before .bad-sides .ensures) ∙ c .before .before .before .before .before .before .if1 .left, sym (c .before .before .before .before .before .bad-length .ensures) ∙ c .before .before .before .before .if2 .left, sym (c .before .before .before .bad-coordinate .ensures) ∙ c .before .before .if3 .left, sym (c .before .bad-coordinate2 .ensures) ∙ c .if4 .taken)
 
 all-finite-requires : tie.Need-all-finite-requires
-all-finite-requires c κs = good (c .before .before .before .before) .size
+all-finite-requires c κs = search needs
 
 first-not-finite-requires : tie.Need-first-not-finite-requires
-first-not-finite-requires c κs = good (c .before .before .before .before .before .before) .size
+first-not-finite-requires c κs = search needs
 
 returns-5 : tie.Need-returns-5
 returns-5 c = rw (sym (c .before .before .before .before .before .before .before .before .before .before .bad-sides .ensures) ∙ c .before .before .before .before .before .before .before .before .before .if1 .left, sym (c .before .before .before .before .before .before .before .before .bad-length .ensures) ∙ c .before .before .before .before .before .before .before .if2 .left, sym (c .before .before .before .before .before .before .bad-coordinate .ensures) ∙ c .before .before .before .before .before .if3 .left, sym (c .before .before .before .before .bad-coordinate2 .ensures) ∙ c .before .before .before .if4 .left, sym (c .before .before .all-finite .ensures) ∙ not-true _ (c .before .if5 .taken), c .first-not-finite .ensures)

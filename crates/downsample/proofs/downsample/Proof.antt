@@ -28,7 +28,7 @@ downsample-into-requires : tie.Need-downsample-into-requires
 downsample-into-requires c κs = let s = accepted (c .before) in (s .in-grid, (s .full, s .small))
 
 all-finite-requires : tie.Need-all-finite-requires
-all-finite-requires c κs = c .before .before .before .downsample-into .kept .1 .1 .0 ∙ accepted (c .before .before .before .before .before) .small
+all-finite-requires c κs = search needs
 
 same-length : tie.Need-same-length
 same-length c = search needs

@@ -48,7 +48,7 @@ incise-into-requires : tie.Need-incise-into-requires
 incise-into-requires c κs = (drains (c .before .before .before), record { heights = sizes (c .before .before .before) .map; result = sizes (c .before .before .before) .out; areas = length-take-le _ _ (sizes (c .before .before .before) .areas) })
 
 all-finite-requires : tie.Need-all-finite-requires
-all-finite-requires c κs = c .before .before .before .before .before .incise-into .kept .1 .1 .1 .1 .1 .0 ∙ sizes (c .before .before .before .before .before .before .before .before .before) .out
+all-finite-requires c κs = search needs
 
 same-length : tie.Need-same-length
 same-length c = search needs

@@ -4,17 +4,17 @@ use Rattle.grid.proofs.HeightsLaws.{all-below, first-none}
 use Rattle.grid.proofs.first_not_finite.Statement.{statement}
 use Rattle.grid.proofs.first_not_finite.Tie as tie
 
-every-finite-requires : tie.Need-every-finite-requires
-every-finite-requires c κs = search needs
+all-finite-requires : tie.Need-all-finite-requires
+all-finite-requires c κs = search needs
 
 returns : tie.Need-returns
-returns c = sym (first-none _ (all-below _ (sym (c .before .every-finite .ensures) ∙ c .if1 .taken)))
+returns c = sym (first-none _ (all-below _ (sym (c .before .all-finite .ensures) ∙ c .if1 .taken)))
 
-search-rows-requires : tie.Need-search-rows-requires
-search-rows-requires c κs = search needs
+search-heights-requires : tie.Need-search-heights-requires
+search-heights-requires c κs = search needs
 
 returns-2 : tie.Need-returns-2
-returns-2 c = c .search-rows .ensures
+returns-2 c = c .search-heights .ensures
 
 pub first-not-finite-spec : {M : Type 1} → statement M
-first-not-finite-spec = tie.close (tie.spec every-finite-requires returns search-rows-requires returns-2)
+first-not-finite-spec = tie.close (tie.spec all-finite-requires returns search-heights-requires returns-2)

@@ -18,7 +18,7 @@ carve-requires : tie.Need-carve-requires
 carve-requires c κs = search needs
 
 all-finite-requires : tie.Need-all-finite-requires
-all-finite-requires c κs = c .before .before .before .before .before .before .before .before .before .before .before .before .before .carve .kept .1 .1 .1 .0 ∙ c .before .before .before .before .before .before .before .before .before .before .before .before .before .before .before .before .before .before .before .before .before .before .before .before .before .before .before .before .before .before .pre .1 .0 .spill
+all-finite-requires c κs = search needs
 
 copy-heights-requires : tie.Need-copy-heights-requires
 copy-heights-requires c κs = c .before .before .before .before .before .before .before .before .before .before .before .before .before .before .before .before .before .before .before .before .before .before .before .before .before .before .before .before .before .before .before .before .before .before .pre .1 .0 .heights ∙ sym (c .before .before .before .before .before .before .before .before .before .before .before .before .before .before .before .before .before .carve .kept .1 .1 .1 .0 ∙ c .before .before .before .before .before .before .before .before .before .before .before .before .before .before .before .before .before .before .before .before .before .before .before .before .before .before .before .before .before .before .before .before .before .before .pre .1 .0 .spill)

@@ -1,5 +1,5 @@
 use mathlib.Core.Path.{sym, _∙_}
-use borrow.Author.Tests.{eqb-true, not-true, not-false}
+use borrow.Author.Tests.{not-true, not-false}
 use Rattle.resample.proofs.RefusalLaws.{sides-good, reduced-small}
 use borrow.Author.Needs.{needs}
 use Rattle.resample.proofs.map_refusal.Statement.{statement}
@@ -31,10 +31,10 @@ returns-4 c = rw (sym (c .before .before .before .before .before .before .before
 
 -- the full map is its grid's
 all-finite-requires : tie.Need-all-finite-requires
-all-finite-requires c κs = eqb-true _ _ (not-false _ (sym (c .before .before .before .bad-length .ensures) ∙ c .before .before .if3 .left))
+all-finite-requires c κs = search needs
 
 first-not-finite-requires : tie.Need-first-not-finite-requires
-first-not-finite-requires c κs = eqb-true _ _ (not-false _ (sym (c .before .before .before .before .before .bad-length .ensures) ∙ c .before .before .before .before .if3 .left))
+first-not-finite-requires c κs = search needs
 
 returns-5 : tie.Need-returns-5
 returns-5 c = rw (sym (c .before .before .before .before .before .before .before .before .before .before .bad-sides .ensures) ∙ c .before .before .before .before .before .before .before .before .before .if1 .left, sym (c .before .before .before .before .before .before .before .before .bad-reduced .ensures) ∙ c .before .before .before .before .before .before .before .if2 .left, sym (c .before .before .before .before .before .before .bad-length .ensures) ∙ c .before .before .before .before .before .if3 .left, sym (c .before .before .before .before .bad-length2 .ensures) ∙ c .before .before .before .if4 .left, sym (c .before .before .all-finite .ensures) ∙ not-true _ (c .before .if5 .taken), c .first-not-finite .ensures)

@@ -21,7 +21,7 @@ returns : tie.Need-returns
 returns c = rw (c .refused .ensures) (passed-stopped _ _ _ (c .before .before .before .before .slide-pass-into .ensures ∙ rows-with _ _ (c .before .before .before .before .before .before .before .thresholds .ensures) _ _ _ _ _ _ _ _) (c .before .if1 .taken))
 
 all-finite-requires : tie.Need-all-finite-requires
-all-finite-requires c κs = c .before .before .before .before .slide-pass-into .kept .1 .1 .1 .0 ∙ c .before .before .before .before .before .before .before .before .before .before .pre .copied ∙ c .before .before .before .before .before .before .before .before .before .before .pre .heights
+all-finite-requires c κs = search needs
 
 same-length-2 : tie.Need-same-length-2
 same-length-2 c = c .before .before .before .before .before .before .slide-pass-into .kept .1 .1 .1 .0

@@ -28,10 +28,10 @@ enum-told-2 : tie.Need-enum-told-2
 enum-told-2 c = search needs
 
 all-finite-requires : tie.Need-all-finite-requires
-all-finite-requires c κs = accepted c .small
+all-finite-requires c κs = search needs
 
 first-not-finite-requires : tie.Need-first-not-finite-requires
-first-not-finite-requires c κs = accepted (c .before .before) .small
+first-not-finite-requires c κs = search needs
 
 same-length-2 : tie.Need-same-length-2
 same-length-2 c = search needs
