@@ -1,14 +1,13 @@
 -- The first columns of all blocks read from their array, and the averages row by row.
 use Prim.Native.Nat.{ℕ, _+_, _-_, _*_, _^_, _≤_, _<_}
-use mathlib.Core.Path.{_≡_, sym, ap₂, _∙_}
+use mathlib.Core.Path.{_≡_}
 use mathlib.Core.List.{List}
 use native.Mathlib.Omega.{arith}
 use lib.ListN.{length, getD, replicate}
-use lib.Arith.{digits-div, digits-mod}
 use lib.Ieee.{Float, binary32, div}
 use borrow.Rule.Slice.PartMut.{putMid}
 use Rattle.float_order.specs.Whole.{whole}
-use Rattle.lists.proofs.TableLaws.{tabulate-same, filled-read}
+use Rattle.lists.proofs.TableLaws.{filled-read}
 use Rattle.lists.proofs.FillLaws.{Filling, stored}
 use Rattle.grid.proofs.SidesLaws.{row-few}
 use Rattle.resample.specs.WorkSize.{Within}
@@ -16,7 +15,7 @@ use Rattle.resample.specs.Places.{Block}
 use Rattle.resample.specs.Blocks.{firstOf, blockSum, averageOf}
 use Rattle.resample.proofs.BlockLaws.{run-of, average-by}
 use Rattle.resample.proofs.FillLaws.{averageAt}
-use Rattle.resample.proofs.RowFillLaws.{stored-row}
+use Rattle.resample.proofs.RowFillLaws.{stored-row-at}
 use Rattle.downsample.specs.Firsts.{firstsOf, averagesOf}
 
 module _ (side reduced : ℕ) where
@@ -56,6 +55,4 @@ pub averages-more : (src : List Float) (w h dw dh y : ℕ) {old now row : List F
     → row ≡ averagesOf src w h dw dh y → Filling (averageAt src w h dw dh) ((y + 1) * dw) old (putMid (y * dw) (y * dw + dw - y * dw) now row)
 unfolding averagesOf
 averages-more src w h dw dh y {old} {now} {row} f inside e =
-    stored-row dw y f inside row
-    (e ∙ tabulate-same (λ bx. averageOf src w h dw dh bx y) (λ x. averageAt src w h dw dh (y * dw + x)) dw
-    (λ x l. ap₂ (λ (a b : ℕ). averageOf src w h dw dh a b) (sym (digits-mod y l)) (sym (digits-div y l))))
+    stored-row-at (λ a b. averageOf src w h dw dh a b) dw y f inside e

@@ -1,18 +1,19 @@
 -- 'All heights are finite': what the first bad cell says of the heights before it, and that it is the only such cell.
-use Prim.Native.Nat.{ℕ, zero, suc, _+_, min, _≤_, _<_}
+use Prim.Native.Nat.{ℕ, zero, suc, _+_, _≤_, _<_}
 use native.Mathlib.Omega.{arith}
 use native.Mathlib.Numerals.{add-one}
 use mathlib.Core.Path.{_≡_, refl, sym, _∙_, ap, ap₂}
 use mathlib.Core.Bool.{Bool, true, false, cond, _&&_, and-assoc, and-true}
 use mathlib.Core.List.{List, [], _∷_, _++_}
-use lib.ListN.{length, getD, take}
+use lib.ListN.{length, getD}
 use lib.Dec.{eqb, eqb·suc-suc, eqb·zero-suc}
 use lib.Ieee.{Float, nan}
 use lib.Ieee.Scale.{finite}
 use borrow.Author.Tests.{eq-eqb, ne-eqb, eqb-true}
 use Rattle.lists.specs.Loops.{tabulate}
+use Rattle.lists.specs.Firsts.{First}
 use Rattle.lists.proofs.LoopLaws.{at-end, below-suc}
-use Rattle.lists.proofs.TableLaws.{tabulate-getD}
+use Rattle.lists.proofs.TableLaws.{length-tabulate, getD-tabulate, tabulate-getD}
 use Rattle.grid.specs.Heights.{firstNotFinite, allFinite, FiniteBelow, FirstBad}
 
 pub below-none : (hs : List Float) (n : ℕ) → n ≤ 0 → FiniteBelow hs n
@@ -75,34 +76,30 @@ first-below (x ∷ xs) = go (finite x) refl (first-below xs)
     go true e p = below-cons e p
     go false e p = below-none (x ∷ xs) 0 (omega arith)
 
--- of a part at the front, and of two parts
-pub first-take : (n : ℕ) (hs : List Float) → firstNotFinite (take n hs) ≡ min n (firstNotFinite hs)
+-- which is not, where there is one
+first-fails : (hs : List Float) → firstNotFinite hs < length hs → finite (getD hs (firstNotFinite hs) nan) ≡ false
 unfolding firstNotFinite
-first-take zero hs = omega arith
-first-take (suc n) [] = omega arith
-first-take (suc n) (x ∷ xs) = go (finite x) (first-take n xs)
+first-fails [] l = absurd (omega arith)
+first-fails (x ∷ xs) l = go (finite x) refl (first-fails xs) l
   where
-    go : (b : Bool) → firstNotFinite (take n xs) ≡ min n (firstNotFinite xs)
-        → cond b (suc (firstNotFinite (take n xs))) 0 ≡ min (suc n) (cond b (suc (firstNotFinite xs)) 0)
-    go true e = omega arith
-    go false e = omega arith
+    go : (b : Bool) → finite x ≡ b → (firstNotFinite xs < length xs → finite (getD xs (firstNotFinite xs) nan) ≡ false)
+        → cond b (suc (firstNotFinite xs)) 0 < suc (length xs) → finite (getD (x ∷ xs) (cond b (suc (firstNotFinite xs)) 0) nan) ≡ false
+    go true e r l = r (omega arith)
+    go false e r l = e
 
-pub first-append-finite : (xs ys : List Float) → FiniteBelow xs (length xs) → firstNotFinite (xs ++ ys) ≡ length xs + firstNotFinite ys
-first-append-finite [] ys p = omega arith
-first-append-finite (x ∷ xs) ys p =
-    let e : firstNotFinite (xs ++ ys) ≡ length xs + firstNotFinite ys = first-append-finite xs ys (below-tail p) in
-    let f : firstNotFinite (x ∷ xs ++ ys) ≡ suc (firstNotFinite (xs ++ ys)) = cons-finite x (xs ++ ys) (p .each 0 (omega arith)) in
-    omega arith
-
-pub first-append-bad : (xs ys : List Float) → firstNotFinite xs < length xs → firstNotFinite (xs ++ ys) ≡ firstNotFinite xs
-unfolding firstNotFinite
-first-append-bad [] ys l = absurd (omega arith)
-first-append-bad (x ∷ xs) ys l = go (finite x) (first-append-bad xs ys) l
+-- of values f 0, f 1, …
+pub first-table : (f : ℕ → Float) (n : ℕ) → First n (λ i. finite (f i)) (firstNotFinite (tabulate n f))
+first-table f n = record {
+  bound = le;
+  earlier = λ i l. sym (at i (omega (arith, le))) ∙ first-below (tabulate n f) .each i l;
+  fails = λ l. sym (at (firstNotFinite (tabulate n f)) l) ∙ first-fails (tabulate n f) (omega (arith, length-tabulate f n));
+}
   where
-    go : (b : Bool) → (firstNotFinite xs < length xs → firstNotFinite (xs ++ ys) ≡ firstNotFinite xs)
-        → cond b (suc (firstNotFinite xs)) 0 < suc (length xs) → cond b (suc (firstNotFinite (xs ++ ys))) 0 ≡ cond b (suc (firstNotFinite xs)) 0
-    go true r l = ap suc (r (omega arith))
-    go false r l = refl
+    le : firstNotFinite (tabulate n f) ≤ n
+    le = omega (arith, first-le (tabulate n f), length-tabulate f n)
+
+    at : (i : ℕ) → i < n → finite (getD (tabulate n f) i nan) ≡ finite (f i)
+    at i l = ap finite (getD-tabulate f n i nan l)
 
 -- all heights are finite exactly if none is the first bad one
 pub below-all : {hs : List Float} → FiniteBelow hs (length hs) → allFinite hs ≡ true

@@ -4,5 +4,4 @@ pub mod ShiftedLaws
 pub mod NeighbourLaws
 pub mod ReachLaws
 pub mod HeightsLaws
-pub mod WalkLaws
 pub mod BaseLaws

@@ -1,14 +1,15 @@
 -- A map filled row by row.
-use Prim.Native.Nat.{ℕ, zero, suc, _+_, _-_, _*_, _≤_}
+use Prim.Native.Nat.{ℕ, zero, suc, _+_, _-_, _*_, _/_, _%_, _≤_}
 use mathlib.Core.Path.{_≡_, sym, ap, ap₂, _∙_, subst}
 use mathlib.Core.List.{List, [], _∷_, _++_, append-assoc, append-nil}
 use native.Mathlib.Omega.{arith}
 use lib.ListN.{length, take, drop}
 use lib.Seq.{take-at, drop-at, drop-drop}
+use lib.Arith.{digits-div, digits-mod}
 use lib.Ieee.{Float}
 use borrow.Rule.Slice.PartMut.{putMid, post-is}
 use Rattle.lists.specs.Loops.{tabulate}
-use Rattle.lists.proofs.TableLaws.{length-tabulate}
+use Rattle.lists.proofs.TableLaws.{length-tabulate, tabulate-same}
 use Rattle.lists.proofs.FillLaws.{Filling}
 
 -- f 0 … f (a + b - 1) in two parts
@@ -38,3 +39,10 @@ stored-row {f} {old} {now} w y p inside row e =
           ∙ ap (λ (l : List Float). l ++ drop (a + w) old) (sym (tabulate-add f a w));
       within = inside;
     })
+
+-- the same, of values by column and row
+pub stored-row-at : (g : ℕ → ℕ → Float) (w y : ℕ) {old now row : List Float} → Filling (λ c. g (c % w) (c / w)) (y * w) old now → y * w + w ≤ length old
+    → row ≡ tabulate w (λ x. g x y) → Filling (λ c. g (c % w) (c / w)) ((y + 1) * w) old (putMid (y * w) (y * w + w - y * w) now row)
+stored-row-at g w y {old} {now} {row} p inside e =
+    stored-row w y p inside row
+    (e ∙ tabulate-same (λ x. g x y) (λ x. g ((y * w + x) % w) ((y * w + x) / w)) w (λ x l. ap₂ g (sym (digits-mod y l)) (sym (digits-div y l))))

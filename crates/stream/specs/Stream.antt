@@ -83,6 +83,11 @@ rowsMarked s rows w (suc y) = rowsMarked s rows w y && marked s (rowAt rows w y)
 abbrev pub heightAt : List ℕ → ℕ → ℕ → ℕ → ℕ → Float
 heightAt s rows w x y = float4 s (rowAt rows w y + (2 + 4 * x))
 
+-- the heights of row y
+unfoldable pub rowHeights : List ℕ → ℕ → ℕ → ℕ → List Float
+unfolding number4 tabulate
+rowHeights s rows w y = tabulate w (λ x. heightAt s rows w x y)
+
 abbrev pub cellAt : List ℕ → ℕ → ℕ → ℕ → Float
 cellAt s rows w i = heightAt s rows w (columnOf w i) (rowOf w i)
 

@@ -1,8 +1,8 @@
 // The stream of document 01, read: bytes to the run that they ask for, or to a refusal (specs/Stream.antt).
 use answers::Refusal;
-use floats::is_finite;
 use grid::Sides;
 use grid::bad_sides;
+use grid::first_not_finite;
 use plans::bad_fluvial;
 use plans::bad_thermal;
 use runs::FluvialSettings;
@@ -19,7 +19,7 @@ ghost use lib.ListN.{length};
 ghost use Rattle.grid.specs.Sides.{InRange};
 ghost use Rattle.grid.specs.Heights.{firstNotFinite};
 ghost use Rattle.stream_bytes.specs.Bytes.{markAt};
-ghost use Rattle.stream.specs.Stream.{sidesAt, settingsLength, settingsAt, Recorded, headerAt, rowLength, rowsMarked, heightsAt, parsedOf, badGrid, badRest, badSettings, Framed, Whole, fluvialAt, thermalAt, heightAt, valuesOf, readStream, readOf};
+ghost use Rattle.stream.specs.Stream.{sidesAt, settingsLength, settingsAt, Recorded, headerAt, rowLength, rowsMarked, rowHeights, heightsAt, parsedOf, badGrid, badRest, badSettings, Framed, Whole, fluvialAt, thermalAt, heightAt, valuesOf, readStream, readOf};
 
 // The mark of each record.
 pub const GRID: [u8; 2] = *b"GR";
@@ -215,6 +215,21 @@ fn height_at(bytes: &[u8], rows: usize, size: Sides, x: usize, y: usize) -> f32
     read_f32(bytes, row + (2 + 4 * x))
 }
 
+// Writes the heights of row y.
+fn read_row(bytes: &[u8], rows: usize, size: Sides, y: usize, row: &mut [f32])
+    requires { ⌜ Framed (now bytes) rows (size .w) (size .h) ⌝ }
+    requires { ⌜ y < size .h ⌝ }
+    requires { ⌜ length (now row) ≡ size .w ⌝ }
+    ensures { λ _. ⌜ now (row .exit) ≡ rowHeights (now (bytes .entry)) rows (size .w) y ⌝ }
+{
+    let n = row.len();
+    let mut x: usize = 0;
+    while x < n {
+        row[x] = height_at(bytes, rows, size, x, y);
+        x += 1;
+    }
+}
+
 // The first cell, row by row, whose height is not finite; w × h where every height is finite.
 fn first_bad_height(bytes: &[u8], rows: usize, size: Sides) -> usize
     requires { ⌜ Framed (now bytes) rows (size .w) (size .h) ⌝ }
@@ -222,21 +237,17 @@ fn first_bad_height(bytes: &[u8], rows: usize, size: Sides) -> usize
 {
     let w = size.w;
     let h = size.h;
+    let mut row: [f32; 4096] = [0.0; 4096];
     let mut y: usize = 0;
-    'rows: loop {
-        if h <= y {
-            break 'rows w * h;
-        }
-        let mut x: usize = 0;
-        while x < w {
-            let cell = x + y * w;
-            if !is_finite(height_at(bytes, rows, size, x, y)) {
-                break 'rows cell;
-            }
-            x += 1;
+    while y < h {
+        read_row(bytes, rows, size, y, &mut row[..w]);
+        let x = first_not_finite(&row[..w]);
+        if x < w {
+            return x + y * w;
         }
         y += 1;
     }
+    w * h
 }
 
 // Writes the heights of the stream into the map.
@@ -249,11 +260,9 @@ pub fn load(bytes: &[u8], rows: usize, size: Sides, map: &mut [f32])
     let h = size.h;
     let mut y: usize = 0;
     while y < h {
-        let mut x: usize = 0;
-        while x < w {
-            map[x + y * w] = height_at(bytes, rows, size, x, y);
-            x += 1;
-        }
+        let from = y * w;
+        let to = from + w;
+        read_row(bytes, rows, size, y, &mut map[from..to]);
         y += 1;
     }
 }

@@ -1,87 +1,77 @@
-use Prim.Native.Nat.{_-_}
-use mathlib.Core.Path.{sym, _∙_}
+use Prim.Native.Nat.{_-_, _*_, _≤_}
 use native.Mathlib.Omega.{arith}
-use Rattle.grid.proofs.SidesLaws.{cell-lt}
-use Rattle.grid.proofs.WalkLaws.{walked-row}
-use Rattle.stream.proofs.CellLaws.{cell-few, Loading, loading-none, loading-more, loading-done}
+use lib.ListN.{length-take, length-drop}
+use Rattle.lists.proofs.FillLaws.{Filling, filling-length, filling-start, filling-rows}
+use Rattle.stream.specs.Stream.{cellAt, heightsAt}
+use Rattle.stream.proofs.CellLaws.{row-inside, rows-more}
 use Rattle.stream.proofs.load.Statement.{statement}
 use Rattle.stream.proofs.load.Tie as tie
 
-abbrev Inv-loop2 : tie.InvT-loop2
-Inv-loop2 bytes rows size map₀ w h y x₀ map x = Loading bytes rows w h map x y
-
-abbrev μ-loop2 : tie.MeasureT-loop2
-μ-loop2 bytes rows size map₀ w h y x₀ map x = w - x
-
 abbrev Inv-loop : tie.InvT-loop
-Inv-loop bytes rows size map₀ w h y₀ map y = Loading bytes rows w h map 0 y
+Inv-loop bytes rows size map₀ w h y₀ map y = Filling (cellAt bytes rows w) (y * w) map₀ map × (y ≤ h)
 
 abbrev μ-loop : tie.MeasureT-loop
 μ-loop bytes rows size map₀ w h y₀ map y = h - y
 
-loop-holds : tie.Need-loop-holds Inv-loop2 μ-loop2 Inv-loop μ-loop
-loop-holds c = loading-none _ _ _ _ (c .before .before .pre .1)
+loop-holds : tie.Need-loop-holds Inv-loop μ-loop
+loop-holds c = (filling-start _, omega arith)
 
-loop2-holds : tie.Need-loop2-holds Inv-loop2 μ-loop2 Inv-loop μ-loop
-loop2-holds c = c .before .loop .inv
+mul-from : tie.Need-mul-from Inv-loop μ-loop
+mul-from c = omega (arith, row-inside (c .before .before .before .before .pre .0) (c .loop-test .taken))
 
-height-at-requires : tie.Need-height-at-requires Inv-loop2 μ-loop2 Inv-loop μ-loop
-height-at-requires c κs = (c .before .before .before .before .before .before .pre .0, (c .loop2-test .taken, c .before .before .loop-test .taken))
+add-to : tie.Need-add-to Inv-loop μ-loop
+add-to c = omega (arith, row-inside (c .before .before .before .before .pre .0) (c .loop-test .taken))
 
-mul-map : tie.Need-mul-map Inv-loop2 μ-loop2 Inv-loop μ-loop
-mul-map c = omega (arith, cell-few (c .before .before .before .before .before .before .before .pre .0) (c .before .loop2-test .taken) (c .before .before .before .loop-test .taken))
+mul-read-row : tie.Need-mul-read-row Inv-loop μ-loop
+mul-read-row c = omega (arith, row-inside (c .before .before .before .before .pre .0) (c .loop-test .taken))
 
-add-map : tie.Need-add-map Inv-loop2 μ-loop2 Inv-loop μ-loop
-add-map c = omega (arith, cell-few (c .before .before .before .before .before .before .before .pre .0) (c .before .loop2-test .taken) (c .before .before .before .loop-test .taken))
+sub-read-row : tie.Need-sub-read-row Inv-loop μ-loop
+sub-read-row c = omega (arith, row-inside (c .before .before .before .before .pre .0) (c .loop-test .taken))
 
-mul-map-2 : tie.Need-mul-map-2 Inv-loop2 μ-loop2 Inv-loop μ-loop
-mul-map-2 c = omega (arith, cell-few (c .before .before .before .before .before .before .before .pre .0) (c .before .loop2-test .taken) (c .before .before .before .loop-test .taken))
+part-read-row-start : tie.Need-part-read-row-start Inv-loop μ-loop
+part-read-row-start c = omega (arith, row-inside (c .before .before .before .before .pre .0) (c .loop-test .taken))
 
-slice-write-map : tie.Need-slice-write-map Inv-loop2 μ-loop2 Inv-loop μ-loop
-slice-write-map c = omega (arith, c .before .before .loop2 .inv .cells .full, cell-lt _ _ _ (c .before .loop2-test .taken) _ (c .before .before .before .loop-test .taken))
+part-read-row-end : tie.Need-part-read-row-end Inv-loop μ-loop
+part-read-row-end c = omega (arith, row-inside (c .before .before .before .before .pre .0) (c .loop-test .taken), c .before .before .before .before .pre .1, filling-length (c .before .loop .inv .0))
 
-add-x : tie.Need-add-x Inv-loop2 μ-loop2 Inv-loop μ-loop
-add-x c = omega arith
+read-row-requires : tie.Need-read-row-requires Inv-loop μ-loop
+read-row-requires c κs =
+    let p = c .before .before .before .before .before .pre in
+    (p .0, (c .before .loop-test .taken, simp (length-take, length-drop) (omega (arith, row-inside (p .0) (c .before .loop-test .taken), p .1, filling-length (c .before .before .loop .inv .0)))))
 
-loop2-less : tie.Need-loop2-less Inv-loop2 μ-loop2 Inv-loop μ-loop
-loop2-less c = omega arith
+add-y : tie.Need-add-y Inv-loop μ-loop
+add-y c = omega (arith, c .before .before .before .before .loop-test .taken, c .before .before .before .before .before .before .before .before .pre .0 .sides .high)
 
-loop2-again : tie.Need-loop2-again Inv-loop2 μ-loop2 Inv-loop μ-loop
-loop2-again c = loading-more _ _ _ _ (c .before .loop2-test .taken) (c .before .before .before .loop-test .taken) (c .height-at .ensures) (c .before .before .loop2 .inv)
+loop-less : tie.Need-loop-less Inv-loop μ-loop
+loop-less c = omega (arith, c .before .before .before .before .loop-test .taken)
 
-add-y : tie.Need-add-y Inv-loop2 μ-loop2 Inv-loop μ-loop
-add-y c = omega arith
+loop-again : tie.Need-loop-again Inv-loop μ-loop
+loop-again c =
+    let p = c .before .before .before .before .before .before .before .before .pre in
+    let l = c .before .before .before .before .loop-test .taken in
+    (rows-more _ _ _ (c .before .before .before .before .before .loop .y) (c .before .before .before .before .before .loop .inv .0) (omega (arith, row-inside (p .0) l, p .1)) (c .before .before .read-row .ensures), omega (arith, l))
 
-loop-less : tie.Need-loop-less Inv-loop2 μ-loop2 Inv-loop μ-loop
-loop-less c = omega arith
+same-length : tie.Need-same-length Inv-loop μ-loop
+same-length c = filling-length (c .before .loop .inv .0)
 
-loop-again : tie.Need-loop-again Inv-loop2 μ-loop2 Inv-loop μ-loop
-loop-again c = walked-row (c .before .loop2 .inv) (c .loop2-test .left) (c .before .before .loop-test .taken)
-
-same-length : tie.Need-same-length Inv-loop2 μ-loop2 Inv-loop μ-loop
-same-length c = c .before .loop .inv .cells .full ∙ sym (c .before .before .before .before .pre .1)
-
-returns : tie.Need-returns Inv-loop2 μ-loop2 Inv-loop μ-loop
-returns c = loading-done _ _ _ _ (c .before .loop .inv) (c .loop-test .left)
+returns : tie.Need-returns Inv-loop μ-loop
+unfolding heightsAt
+returns c = filling-rows _ (c .before .loop .inv .0) (c .before .before .before .before .pre .1) (c .loop-test .left)
 
 pub load-spec : {M : Type 1} → statement M
 load-spec =
     tie.close
     (tie.spec
-    Inv-loop2
-    μ-loop2
     Inv-loop
     μ-loop
     loop-holds
-    loop2-holds
-    height-at-requires
-    mul-map
-    add-map
-    mul-map-2
-    slice-write-map
-    add-x
-    loop2-less
-    loop2-again
+    mul-from
+    add-to
+    mul-read-row
+    sub-read-row
+    part-read-row-start
+    part-read-row-end
+    read-row-requires
     add-y
     loop-less
     loop-again
