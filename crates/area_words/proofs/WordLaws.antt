@@ -5,7 +5,7 @@ use native.Mathlib.Decide.{ℕ-discrete}
 use mathlib.Core.Path.{_≡_, refl, sym, ap, _∙_, subst}
 use mathlib.Core.Bool.{Bool, true, false, not, cond}
 use mathlib.Core.List.{List, _∷_, _++_}
-use lib.ListN.{length, getD, set, take, drop, length-set}
+use lib.ListN.{length, getD, set, take, drop, replicate, length-set, length-replicate, getD-replicate}
 use lib.Seq.{getD-set-same, getD-set-other, split-at, drop-cons, drop-length, ext-getD}
 use lib.Dec.{T, eqb, le→leb}
 use lib.IntN.{pos}
@@ -18,6 +18,7 @@ use Rattle.lists.proofs.TableLaws.{tabulate-same, tabulate-getD, length-tabulat
 use Rattle.floats.proofs.BitsLaws.{plain-bits, bits-back}
 use Rattle.floats.proofs.WholeLaws.{float-in}
 use Rattle.float_order.specs.Whole.{whole}
+use Rattle.float_order.proofs.WholeLaws.{whole-inj}
 use Rattle.drainage.specs.Ways.{passes, areaOf, times, WorkList, areasAlong}
 use Rattle.drainage.proofs.CountLaws.{count-le, count-one}
 use Rattle.drainage.proofs.TrailLaws.{trail}
@@ -26,7 +27,7 @@ use Rattle.drainage.proofs.AreaLaws.{been, been-receiver, been-other, been-own,
 use Rattle.ways.specs.Apart.{Along}
 use Rattle.steps.specs.Step.{stepOf, steppedTo, Near, Steps}
 use Rattle.steps.proofs.StepLaws.{Step, step-back}
-use Rattle.area_words.specs.Words.{wordOf, areaIn, areasIn, receiverIn, passedOn, Word, Words, Network, Passing, WordFor, Worded, AreaWords, WholeArea, WholeAreas, Ahead}
+use Rattle.area_words.specs.Words.{wordOf, areaIn, areasIn, receiverIn, passedOn, Word, Words, Network, Passing, WordFor, Worded, AreaWords, WholeArea, WholeAreas, startArea, startAreas, Ahead}
 
 module _ {x : Float} (w : Word x) where
   pub word-plain : T (not (isNan x))
@@ -41,6 +42,11 @@ module _ {x : Float} (w : Word x) where
   -- its area is a whole number that binary32 has
   pub word-float : T (inFloat binary32 (pos (toBits binary32 x / 16)))
   word-float = float-in (toBits binary32 x / 16) (omega (arith, word-small))
+
+-- the area in a word is that of its place among all
+pub area-is : (words : List Float) (c : ℕ) → c < length words → areaIn (getD words c nan) ≡ getD (areasIn words) c nan
+unfolding areasIn
+area-is words c l = sym (getD-tabulate (λ c. areaIn (getD words c nan)) (length words) c nan l)
 
 module _ {w cells : ℕ} {recv : List ℕ} (net : Network w recv cells) where
   step : {c : ℕ} → c < length recv → Step w c (getD recv c 0) (stepOf w c (getD recv c 0))
@@ -95,13 +101,20 @@ pub record Summing (w : ℕ) (recv list : List ℕ) (k : ℕ) (words : List Floa
   held : (c : ℕ) → c < length recv → getD words c nan ≡ ofBits binary32 (wordOf (been (length recv) recv (drop k list) c) (stepOf w c (getD recv c 0)))
 
 module _ {w cells : ℕ} {recv list : List ℕ} (net : Network w recv cells) where
-  pub summing-none : {words : List Float} → words ≡ tabulate (length recv) (λ c. ofBits binary32 (wordOf 1 (stepOf w c (getD recv c 0)))) → Summing w recv list (length list) words
+  pub summing-none : (old : List Float) {words : List Float} → length old ≡ length recv → AreaWords w recv (startAreas false old) words → Summing w recv list (length list) words
   unfolding trail
-  summing-none {words} e = record {
+  summing-none old {words} long a = record {
     place = omega arith;
-    long = ap length e ∙ length-tabulate _ (length recv);
-    held = λ c l. ap (λ (t : List Float). getD t c nan) e ∙ getD-tabulate _ (length recv) c nan l ∙ ap (λ (a : ℕ). ofBits binary32 (wordOf a (stepOf w c (getD recv c 0)))) (sym (count-one (length recv) c l) ∙ ap (λ (s : List ℕ). been (length recv) recv s c) (sym (drop-length list)));
+    long = a .worded .long;
+    held = λ c l. a .worded .each c l .same ∙ ap (λ (n : ℕ). ofBits binary32 (wordOf n (stepOf w c (getD recv c 0)))) (one c l ∙ sym (count-one (length recv) c l) ∙ ap (λ (s : List ℕ). been (length recv) recv s c) (sym (drop-length list)));
   }
+    where
+      one : (c : ℕ) (l : c < length recv) → a .worded .each c l .area ≡ 1
+      one c l = whole-inj _ 1 (a .worded .each c l .few) (omega arith)
+          (ap whole (sym (counted net (a .worded) c l))
+          ∙ area-is words c (omega (arith, a .worded .long))
+          ∙ ap (λ (t : List Float). getD t c nan) (a .areas)
+          ∙ getD-replicate (length old) c (whole 1) nan (omega arith))
 
   module _ {k : ℕ} {words : List Float} (s : Summing w recv list k words) where
     few-been : (c : ℕ) → been (length recv) recv (drop k list) c ≤ 2 ^ 24
@@ -193,7 +206,7 @@ module _ {w cells : ℕ} {recv list : List ℕ} (net : Network w recv cells) whe
             ∙ ap (λ (t : List ℕ). ofBits binary32 (wordOf (been (length recv) recv t y) (stepOf w y (getD recv y 0)))) (sym front);
       }
 
--- ---- words of areas that are given
+-- ---- words of areas that cells start with
 module _ {area : Float} (a : WholeArea area) where
   area-back : T (inUnsigned binary32 32 (whole (a .number))) × (toUnsigned 32 (whole (a .number)) ≡ a .number)
   unfolding inFloat
@@ -210,6 +223,33 @@ module _ {area : Float} (a : WholeArea area) where
 
   area-again : whole (toUnsigned 32 area) ≡ area
   area-again = ap whole area-number ∙ sym (a .same)
+
+-- an area of 1 is a whole number
+one-area : WholeArea (whole 1)
+one-area = record { number = 1; same = refl; small = omega arith }
+
+pub one-number : toUnsigned 32 (whole 1) ≡ 1
+unfolding one-area
+one-number = area-number one-area
+
+pub start-length : (given : Bool) (areas : List Float) → length (startAreas given areas) ≡ length areas
+start-length true areas = refl
+start-length false areas = length-replicate (length areas) (whole 1)
+
+pub one-areas : (areas : List Float) → WholeAreas (startAreas false areas)
+one-areas areas c l = subst WholeArea (sym (getD-replicate (length areas) c (whole 1) nan (omega (arith, start-length false areas)))) one-area
+
+-- a cell starts with the area of its place among all
+module _ (given : Bool) (areas : List Float) {c : ℕ} {x : Float} (e : x ≡ getD areas c nan) (l : c < length areas) where
+  pub start-is : startArea given x ≡ getD (startAreas given areas) c nan
+  start-is = ap (startArea given) e ∙ go given
+    where
+      go : (b : Bool) → startArea b (getD areas c nan) ≡ getD (startAreas b areas) c nan
+      go true = refl
+      go false = sym (getD-replicate (length areas) c (whole 1) nan l)
+
+  pub start-whole : WholeAreas (startAreas given areas) → WholeArea (startArea given x)
+  start-whole wholes = subst WholeArea (sym start-is) (wholes c (omega (arith, start-length given areas)))
 
 -- the word of cell c with the area that stands in its place
 abbrev pub wordWith : ℕ → List ℕ → List Float → ℕ → Float
@@ -231,11 +271,11 @@ module _ {w cells : ℕ} {recv : List ℕ} (areas : List Float) {words : List Fl
   unfolding areasIn with-words with-word
   with-areas = record { worded = with-words; areas = ext-getD nan _ _ (length-tabulate _ (length words) ∙ with-words .long ∙ sym long) at }
     where
-      at : (c : ℕ) → c < length (tabulate (length words) (λ c. areaIn (getD words c nan))) → getD (tabulate (length words) (λ c. areaIn (getD words c nan))) c nan ≡ getD areas c nan
+      at : (c : ℕ) → c < length (areasIn words) → getD (areasIn words) c nan ≡ getD areas c nan
       at c h =
           let k : c < length words = omega (arith, length-tabulate (λ c. areaIn (getD words c nan)) (length words)) in
           let l : c < length recv = omega (arith, with-words .long) in
-          getD-tabulate (λ c. areaIn (getD words c nan)) (length words) c nan k
+          sym (area-is words c k)
           ∙ ap whole (counted net with-words c l)
           ∙ area-again (wholes c (omega arith))
 

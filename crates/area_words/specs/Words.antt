@@ -1,9 +1,9 @@
 -- The word of a cell: its area times 16, and the step to its receiver. It stands as the bits of a float in the slice of the areas.
 use Prim.Native.Nat.{ℕ, _+_, _-_, _*_, _/_, _%_, _^_, _≤_, _<_}
 use mathlib.Core.Path.{_≡_}
-use mathlib.Core.Bool.{cond}
+use mathlib.Core.Bool.{Bool, cond}
 use mathlib.Core.List.{List}
-use lib.ListN.{length, getD, set}
+use lib.ListN.{length, getD, set, replicate}
 use lib.Dec.{eqb}
 use lib.Ieee.{Float, nan, binary32, ofBits, toBits}
 use Rattle.lists.specs.Loops.{tabulate}
@@ -81,6 +81,14 @@ pub record WholeArea (area : Float) : Type 0 where
 -- and so is each of all cells
 abbrev pub WholeAreas : List Float → Type 0
 WholeAreas areas = (c : ℕ) → c < length areas → WholeArea (getD areas c nan)
+
+-- the area that a cell starts with: `area` where areas are given, else 1
+abbrev pub startArea : Bool → Float → Float
+startArea given area = cond given area (whole 1)
+
+-- and those of all cells
+abbrev pub startAreas : Bool → List Float → List Float
+startAreas given areas = cond given areas (replicate (length areas) (whole 1))
 
 -- `below` has the receivers of the cells at positions lo to k - 1 of a list
 pub record Ahead (recv list : List ℕ) (lo k : ℕ) (below : List ℕ) : Type 0 where

@@ -6,13 +6,12 @@ use steps::stepped_to;
 use ways::accumulate;
 ghost use mathlib.Core.Path.{_≡_};
 ghost use Prim.Native.Nat.{_+_, _*_, _^_, _≤_, _<_};
-ghost use lib.ListN.{length, getD};
-ghost use lib.Ieee.{binary32, ofBits};
-ghost use Rattle.lists.specs.Loops.{tabulate};
+ghost use lib.ListN.{length};
+ghost use lib.Ieee.{binary32, ofBits, toUnsigned};
 ghost use Rattle.drainage.specs.Ways.{WorkList, areasAlong};
 ghost use Rattle.ways.specs.Apart.{Along};
 ghost use Rattle.steps.specs.Step.{stepOf, stepOffsets, Near, Steps};
-ghost use Rattle.area_words.specs.Words.{wordOf, areasIn, passedOn, Network, Words, Worded, AreaWords, Ahead, WholeAreas};
+ghost use Rattle.area_words.specs.Words.{wordOf, areasIn, passedOn, Network, Words, Worded, AreaWords, Ahead, WholeArea, WholeAreas, startArea, startAreas};
 
 // The word of cell i, whose receiver is r, with an area.
 fn word_with(area: u32, i: u32, r: u32, width: u32) -> f32
@@ -23,16 +22,28 @@ fn word_with(area: u32, i: u32, r: u32, width: u32) -> f32
     f32::from_bits(area * 16 + step_of(i, r, width))
 }
 
-// The word of each cell with an area of 1.
-fn first_words(width: usize, recv: &[u32], words: &mut [f32])
+// The area that a cell starts with, as a number: `area` where areas are given, else 1.
+fn start_area(given: bool, area: f32) -> u32
+    requires { ⌜ WholeArea (startArea given area) ⌝ }
+    ensures { λ a. ⌜ a ≡ toUnsigned 32 (startArea given area) ⌝ }
+{
+    if given {
+        return area as u32;
+    }
+    1
+}
+
+// The words of all cells: with the areas that stand in their places where these are given, else with an area of 1.
+pub fn to_words(width: usize, recv: &[u32], words: &mut [f32], given: bool)
     requires { ⌜ Network width (now recv) (length (now words)) ⌝ }
-    ensures { λ _. ⌜ now (words .exit) ≡ tabulate (length (now (recv .entry))) (λ c. ofBits binary32 (wordOf 1 (stepOf width c (getD (now (recv .entry)) c 0)))) ⌝ }
+    requires { ⌜ WholeAreas (startAreas given (now words)) ⌝ }
+    ensures { λ _. ⌜ AreaWords width (now (recv .entry)) (startAreas given (now (words .entry))) (now (words .exit)) ⌝ }
 {
     let w = width as u32;
     let n = recv.len();
     let mut i: usize = 0;
     while i < n {
-        words[i] = word_with(1, i as u32, recv[i], w);
+        words[i] = word_with(start_area(given, words[i]), i as u32, recv[i], w);
         i += 1;
     }
 }
@@ -48,21 +59,6 @@ fn pass_on(words: &mut [f32], c: usize, r: usize)
     }
     let word = f32::to_bits(words[c]);
     words[r] = f32::from_bits(f32::to_bits(words[r]) + (word - word % 16));
-}
-
-// The words of all cells with areas that are given, each in the place of its area.
-pub fn to_words(width: usize, recv: &[u32], words: &mut [f32])
-    requires { ⌜ Network width (now recv) (length (now words)) ⌝ }
-    requires { ⌜ WholeAreas (now words) ⌝ }
-    ensures { λ _. ⌜ AreaWords width (now (recv .entry)) (now (words .entry)) (now (words .exit)) ⌝ }
-{
-    let w = width as u32;
-    let n = recv.len();
-    let mut i: usize = 0;
-    while i < n {
-        words[i] = word_with(words[i] as u32, i as u32, recv[i], w);
-        i += 1;
-    }
 }
 
 // The area of each word in its place.
@@ -142,7 +138,7 @@ pub fn words_along(width: usize, recv: &[u32], order: &[u32], words: &mut [f32])
     ensures { λ _. ⌜ AreaWords width (now (recv .entry)) (areasAlong (length (now (words .entry))) (now (recv .entry)) (now (order .entry))) (now (words .exit)) ⌝ }
 {
     let offsets = step_offsets(width);
-    first_words(width, recv, words);
+    to_words(width, recv, words, false);
     let mut below: [u32; 256] = [0; 256];
     let mut k = order.len();
     let mut lo = k;

@@ -1,16 +1,15 @@
 -- A cell is cut by its word as by its area and its receiver.
 use Prim.Native.Nat.{ℕ, _%_, _<_}
 use native.Mathlib.Omega.{arith}
-use mathlib.Core.Path.{_≡_, sym, ap, ap₂, _∙_}
+use mathlib.Core.Path.{_≡_, ap, ap₂, _∙_}
 use mathlib.Core.List.{List}
 use lib.ListN.{length, getD, set}
 use lib.Ieee.{Float, nan, binary32, toBits, div}
-use Rattle.lists.proofs.TableLaws.{getD-tabulate}
 use Rattle.ways.specs.Apart.{apart}
 use Rattle.steps.specs.Step.{stepDistances}
 use Rattle.steps.proofs.StepLaws.{step-distance}
-use Rattle.area_words.specs.Words.{areaIn, areasIn, receiverIn, Network, Worded}
-use Rattle.area_words.proofs.WordLaws.{stepped, leads}
+use Rattle.area_words.specs.Words.{areasIn, receiverIn, Network, Worded}
+use Rattle.area_words.proofs.WordLaws.{area-is, stepped, leads}
 use Rattle.cuts.specs.Cut.{incisionCoef, drainedTo, cutOf, cutDown, cutByWord}
 use Rattle.cuts.specs.declared.Incision.{Incision}
 
@@ -23,13 +22,9 @@ module _ (by : Incision) {cells : ℕ} {recv : List ℕ} (net : Network (by .wid
   distance-is : (c : ℕ) → c < length recv → getD stepDistances (toBits binary32 (getD words c nan) % 16) nan ≡ apart (by .width) c (getD recv c 0)
   distance-is c l = ap (λ (s : ℕ). getD stepDistances s nan) (stepped net d c l) ∙ step-distance (net .steps .near c l) (net .columns)
 
-  area-is : (c : ℕ) → c < length recv → areaIn (getD words c nan) ≡ getD (areasIn words) c nan
-  unfolding areasIn
-  area-is c l = sym (getD-tabulate (λ c. areaIn (getD words c nan)) (length words) c nan (omega (arith, d .long)))
-
   pub by-word : (c : ℕ) → c < length recv → (own x : Float) → cutByWord by words c own x ≡ cutDown by (areasIn words) recv c own x
   by-word c l own x =
-      ap₂ (cutOf own (by .uplift) (by .water)) (ap₂ (λ (a d : Float). incisionCoef a (by .cells) (by .k) d) (area-is c l) (distance-is c l))
+      ap₂ (cutOf own (by .uplift) (by .water)) (ap₂ (λ (a d : Float). incisionCoef a (by .cells) (by .k) d) (area-is words c (omega (arith, d .long))) (distance-is c l))
       (ap (λ (r : ℕ). drainedTo c r x (by .water)) (leads net d c l))
 
   -- as `settle_cell` leaves it

@@ -160,7 +160,7 @@ pub fn incise_along(
         incise_narrow(size, hmap, params, area, recv, order, out);
         return;
     }
-    to_words(size.w, recv, area);
+    to_words(size.w, recv, area, true);
     incise_words(size, hmap, params, recv, order, out, area);
 }
 

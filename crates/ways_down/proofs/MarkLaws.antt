@@ -11,13 +11,14 @@ use lib.Ieee.{Float, nan, binary32, ofBits, toBits}
 use borrow.Author.Tests.{eq-eqb, ne-eqb}
 use Rattle.lists.specs.Loops.{tabulate}
 use Rattle.lists.proofs.TestLaws.{clash}
-use Rattle.lists.proofs.TableLaws.{tabulate-same, getD-tabulate}
+use Rattle.lists.proofs.TableLaws.{tabulate-same}
 use Rattle.floats.proofs.BitsLaws.{bits-back}
 use Rattle.float_order.specs.Whole.{whole}
 use Rattle.ways.specs.Apart.{apart}
 use Rattle.steps.specs.Step.{stepOf, steppedTo, stepDistances}
 use Rattle.steps.proofs.StepLaws.{Step, step-back, step-proper, step-distance}
 use Rattle.area_words.specs.Words.{wordOf, areaIn, areasIn, receiverIn, Word, Words, Network, Passing, Worded}
+use Rattle.area_words.proofs.WordLaws.{area-is}
 use Rattle.cuts.specs.Cut.{incisionCoef, drainedTo, cutOf, cutDown, cutByWord}
 use Rattle.cuts.specs.declared.Incision.{Incision}
 use Rattle.ways_down.specs.Walk.{isMade, madeIn, madeWord, MarkFor, Marked}
@@ -139,10 +140,6 @@ module _ {w : ℕ} {recv : List ℕ} {words : List Float} (m : Marked w recv wor
     distance-is : getD stepDistances (toBits binary32 (getD words c nan) % 16) nan ≡ apart w c (getD recv c 0)
     distance-is = ap (λ (s : ℕ). getD stepDistances s nan) stepped ∙ step-distance (net .steps .near c l) (net .columns)
 
-    area-is : areaIn (getD words c nan) ≡ getD (areasIn words) c nan
-    unfolding areasIn
-    area-is = sym (getD-tabulate (λ c. areaIn (getD words c nan)) (length words) c nan (omega (arith, m .long)))
-
 -- a cell that is not made is cut by its word as by its area and its receiver
 pub free-cut : (by : Incision) {cells : ℕ} {recv : List ℕ} {words areas : List Float} (m : Marked (by .width) recv words) (net : Network (by .width) recv cells) → areasIn words ≡ areas
     → {c : ℕ} → c < length recv → madeIn words c ≡ false → (own : Float) (out : List Float) {next : List Float} → next ≡ set out c (cutByWord by words c own (getD out (receiverIn (by .width) c words) nan))
@@ -150,5 +147,5 @@ pub free-cut : (by : Incision) {cells : ℕ} {recv : List ℕ} {words areas : Li
 free-cut by {cells} {recv} {words} {areas} m net kept {c} l e own out q =
     q ∙ ap (set out c)
     (ap₂ (cutOf own (by .uplift) (by .water))
-    (ap₂ (λ (a d : Float). incisionCoef a (by .cells) (by .k) d) (area-is m net l e ∙ ap (λ (t : List Float). getD t c nan) kept) (distance-is m net l e))
+    (ap₂ (λ (a d : Float). incisionCoef a (by .cells) (by .k) d) (area-is words c (omega (arith, m .long)) ∙ ap (λ (t : List Float). getD t c nan) kept) (distance-is m net l e))
     (ap (λ (r : ℕ). drainedTo c r (getD out r nan) (by .water)) (free-leads m net l e)))

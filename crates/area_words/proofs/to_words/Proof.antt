@@ -1,20 +1,20 @@
-use Prim.Native.Nat.{_-_}
+use Prim.Native.Nat.{ℕ, _-_, _<_}
 use native.Mathlib.Omega.{arith}
-use mathlib.Core.Path.{sym, ap, _∙_, subst}
+use mathlib.Core.Path.{ap, _∙_}
 use lib.ListN.{length, getD}
-use lib.Ieee.{Float, nan, binary32, ofBits, toUnsigned}
+use lib.Ieee.{nan, binary32, ofBits, toUnsigned}
 use Rattle.lists.proofs.FillLaws.{Filling, filling-none, filling-length, filling-next, filling-more, filling-done}
 use Rattle.steps.specs.Step.{stepOf}
-use Rattle.area_words.specs.Words.{wordOf, WholeArea}
-use Rattle.area_words.proofs.WordLaws.{given-word, area-cast, area-few, wordWith, with-areas}
+use Rattle.area_words.specs.Words.{wordOf, startAreas}
+use Rattle.area_words.proofs.WordLaws.{given-word, area-few, start-length, start-is, start-whole, wordWith, with-areas}
 use Rattle.area_words.proofs.to_words.Statement.{statement}
 use Rattle.area_words.proofs.to_words.Tie as tie
 
 abbrev Inv-loop : tie.InvT-loop
-Inv-loop width recv words₀ w n i₀ words i = Filling (wordWith width recv words₀) i words₀ words
+Inv-loop width recv words₀ given w n i₀ words i = Filling (wordWith width recv (startAreas given words₀)) i words₀ words
 
 abbrev μ-loop : tie.MeasureT-loop
-μ-loop width recv words₀ w n i₀ words i = length recv - i
+μ-loop width recv words₀ given w n i₀ words i = length recv - i
 
 cast-w : tie.Need-cast-w Inv-loop μ-loop
 cast-w c = omega (arith, c .before .before .pre .0 .steps .wide)
@@ -22,26 +22,31 @@ cast-w c = omega (arith, c .before .before .pre .0 .steps .wide)
 loop-holds : tie.Need-loop-holds Inv-loop μ-loop
 loop-holds c = filling-none
 
-mul-word-with : tie.Need-mul-word-with Inv-loop μ-loop
-mul-word-with c = omega (arith, c .loop-test .taken, c .before .before .before .before .pre .0 .steps .few)
+mul-start-area : tie.Need-mul-start-area Inv-loop μ-loop
+mul-start-area c = omega (arith, c .loop-test .taken, c .before .before .before .before .pre .0 .steps .few)
 
-slice-read-word-with : tie.Need-slice-read-word-with Inv-loop μ-loop
-slice-read-word-with c = omega (arith, c .before .loop-test .taken, filling-length (c .before .before .loop .inv), c .before .before .before .before .before .pre .0 .long)
+slice-read-start-area : tie.Need-slice-read-start-area Inv-loop μ-loop
+slice-read-start-area c = omega (arith, c .before .loop-test .taken, filling-length (c .before .before .loop .inv), c .before .before .before .before .before .pre .0 .long)
 
-float-to-int-word-with : tie.Need-float-to-int-word-with Inv-loop μ-loop
-float-to-int-word-with c = area-cast (subst WholeArea (sym (filling-next (c .before .before .before .loop .inv) nan)) (c .before .before .before .before .before .before .pre .1 _ (omega (arith, c .before .before .loop-test .taken, c .before .before .before .before .before .before .pre .0 .long))))
+start-area-requires : tie.Need-start-area-requires Inv-loop μ-loop
+start-area-requires c κs =
+    let p = c .before .before .before .before .before .pre in
+    start-whole (c .before .before .before .before .before .args .given) (c .before .before .before .before .before .args .words .now) (filling-next (c .before .before .loop .inv) nan) (omega (arith, c .before .loop-test .taken, p .0 .long)) (p .1)
 
 cast-word-with : tie.Need-cast-word-with Inv-loop μ-loop
 cast-word-with c = omega (arith, c .before .before .loop-test .taken, c .before .before .before .before .before .before .pre .0 .steps .few)
 
-mul-word-with-2 : tie.Need-mul-word-with-2 Inv-loop μ-loop
-mul-word-with-2 c = omega (arith, c .before .before .loop-test .taken, c .before .before .before .before .before .before .pre .0 .steps .few)
+mul-word-with : tie.Need-mul-word-with Inv-loop μ-loop
+mul-word-with c = omega (arith, c .before .before .loop-test .taken, c .before .before .before .before .before .before .pre .0 .steps .few)
 
 shared-slice-read-word-with : tie.Need-shared-slice-read-word-with Inv-loop μ-loop
 shared-slice-read-word-with c = omega (arith, c .before .before .before .loop-test .taken)
 
 word-with-requires : tie.Need-word-with-requires Inv-loop μ-loop
-word-with-requires c κs = given-word (c .before .before .before .before .before .before .before .pre .0) (c .before .before .before .loop-test .taken) (area-few (subst WholeArea (sym (filling-next (c .before .before .before .before .loop .inv) nan)) (c .before .before .before .before .before .before .before .pre .1 _ (omega (arith, c .before .before .before .loop-test .taken, c .before .before .before .before .before .before .before .pre .0 .long)))))
+word-with-requires c κs =
+    let p = c .before .before .before .before .before .before .before .pre in
+    let area = start-whole (c .before .before .before .before .before .before .before .args .given) (c .before .before .before .before .before .before .before .args .words .now) (filling-next (c .before .before .before .before .loop .inv) nan) (omega (arith, c .before .before .before .loop-test .taken, p .0 .long)) (p .1) in
+    given-word (p .0) (c .before .before .before .loop-test .taken) (omega (arith, c .before .start-area .ensures, area-few area))
 
 mul-words : tie.Need-mul-words Inv-loop μ-loop
 mul-words c = omega (arith, c .before .before .before .before .loop-test .taken, c .before .before .before .before .before .before .before .before .pre .0 .steps .few)
@@ -56,13 +61,20 @@ loop-less : tie.Need-loop-less Inv-loop μ-loop
 loop-less c = omega (arith, c .before .before .before .before .loop-test .taken)
 
 loop-again : tie.Need-loop-again Inv-loop μ-loop
-loop-again c = filling-more (c .before .before .before .before .before .loop .inv) (c .word-with .ensures ∙ ap (λ (x : Float). ofBits binary32 (wordOf (toUnsigned 32 x) (stepOf (c .before .before .before .before .before .before .before .before .args .width) (c .before .before .before .before .before .loop .i) (getD (c .before .before .before .before .before .before .before .before .args .recv .now) (c .before .before .before .before .before .loop .i) 0)))) (filling-next (c .before .before .before .before .before .loop .inv) nan)) (omega (arith, c .before .before .before .before .loop-test .taken, c .before .before .before .before .before .before .before .before .pre .0 .long))
+loop-again c =
+    let a = c .before .before .before .before .before .before .before .before .args in
+    let s = c .before .before .before .before .before .loop in
+    let l : s .i < length (a .words .now) = omega (arith, c .before .before .before .before .loop-test .taken, c .before .before .before .before .before .before .before .before .pre .0 .long) in
+    filling-more (s .inv) (c .word-with .ensures ∙ ap (λ (n : ℕ). ofBits binary32 (wordOf n (stepOf (a .width) (s .i) (getD (a .recv .now) (s .i) 0)))) (c .before .before .start-area .ensures ∙ ap (toUnsigned 32) (start-is (a .given) (a .words .now) (filling-next (s .inv) nan) l))) l
 
 same-length : tie.Need-same-length Inv-loop μ-loop
 same-length c = filling-length (c .before .loop .inv)
 
 returns : tie.Need-returns Inv-loop μ-loop
-returns c = with-areas _ (c .before .before .before .before .pre .0) (c .before .before .before .before .pre .1) (c .before .before .before .before .pre .0 .long) (filling-done (c .before .loop .inv) _ (c .before .before .before .before .pre .0 .long) (c .loop-test .left))
+returns c =
+    let a = c .before .before .before .before .args in
+    let p = c .before .before .before .before .pre in
+    with-areas (startAreas (a .given) (a .words .now)) (p .0) (p .1) (start-length (a .given) (a .words .now) ∙ p .0 .long) (filling-done (c .before .loop .inv) _ (p .0 .long) (c .loop-test .left))
 
 pub to-words-spec : {M : Type 1} → statement M
 to-words-spec =
@@ -72,11 +84,11 @@ to-words-spec =
     μ-loop
     cast-w
     loop-holds
-    mul-word-with
-    slice-read-word-with
-    float-to-int-word-with
+    mul-start-area
+    slice-read-start-area
+    start-area-requires
     cast-word-with
-    mul-word-with-2
+    mul-word-with
     shared-slice-read-word-with
     word-with-requires
     mul-words

@@ -5,7 +5,7 @@ use lib.ListN.{length, length-replicate}
 use Rattle.drainage.proofs.WorkListLaws.{list-length}
 use Rattle.steps.proofs.PlaceLaws.{along-of}
 use Rattle.area_words.specs.Words.{Ahead}
-use Rattle.area_words.proofs.WordLaws.{Summing, summing-none, summing-worded, summing-more, summing-done, entry, worded-words, network-still, ahead-none, ahead-less, ahead-at}
+use Rattle.area_words.proofs.WordLaws.{one-areas, Summing, summing-none, summing-worded, summing-more, summing-done, entry, worded-words, network-still, ahead-none, ahead-less, ahead-at}
 use Rattle.area_words.proofs.words_along.Statement.{statement}
 use Rattle.area_words.proofs.words_along.Tie as tie
 
@@ -18,11 +18,11 @@ abbrev μ-loop : tie.MeasureT-loop
 step-offsets-requires : tie.Need-step-offsets-requires Inv-loop μ-loop
 step-offsets-requires c κs = c .before .before .before .pre .0 .steps .wide
 
-first-words-requires : tie.Need-first-words-requires Inv-loop μ-loop
-first-words-requires c κs = c .before .before .before .before .before .pre .0
+to-words-requires : tie.Need-to-words-requires Inv-loop μ-loop
+to-words-requires c κs = (c .before .before .before .before .before .pre .0, one-areas (c .before .before .before .before .before .args .words .now))
 
 loop-holds : tie.Need-loop-holds Inv-loop μ-loop
-loop-holds c = (summing-none (c .before .before .before .before .before .before .before .before .pre .0) (c .before .before .first-words .ensures), ahead-none, length-replicate {A = ℕ} 256 0)
+loop-holds c = (summing-none (c .before .before .before .before .before .before .before .before .pre .0) (c .before .before .before .before .before .before .before .before .args .words .now) (c .before .before .before .before .before .before .before .before .pre .0 .long) (c .before .before .to-words .ensures), ahead-none, length-replicate {A = ℕ} 256 0)
 
 slice-aggregate-refill : tie.Need-slice-aggregate-refill Inv-loop μ-loop
 slice-aggregate-refill c = sym (c .before .before .before .loop .inv .2)
@@ -87,7 +87,7 @@ words-along-spec =
     Inv-loop
     μ-loop
     step-offsets-requires
-    first-words-requires
+    to-words-requires
     loop-holds
     slice-aggregate-refill
     refill-requires
