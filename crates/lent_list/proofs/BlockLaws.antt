@@ -1,4 +1,4 @@
--- The walk along a block of the list: along the positions whose cells lie in the stretch, or along all where all do.
+-- The walk along a block of the list, along the positions taken: those whose cells lie in the stretch, or all where all do.
 use Prim.Native.Nat.{ℕ, zero, suc, _+_, _-_, _*_, _≤_, _<_}
 use native.Mathlib.Numerals.{add-one}
 use native.Mathlib.Omega.{arith}
@@ -9,10 +9,10 @@ use lib.ListN.{length, getD}
 use borrow.Author.Tests.{lt-ltb}
 use Rattle.list_marks.specs.Seen.{span, isMarked, marking, inStretch, missingIn}
 use Rattle.list_marks.proofs.SeenLaws.{Put, put-word, inside, outside, stretch-from}
-use Rattle.list_blocks.specs.Blocks.{CellsBefore, following, Apart, Listed, receiversAt, receiversFrom}
-use Rattle.list_blocks.proofs.ListedLaws.{following-last}
-use Rattle.lent_list.specs.Walks.{Walk, Passed, Scanned, Lengths}
-use Rattle.lent_list.proofs.StretchLaws.{walk-twice, walk-early, walk-more, walk-past, walk-done, from-start}
+use Rattle.list_blocks.specs.Blocks.{CellsBefore, takenAt, following, Apart, Listed, receiversAt}
+use Rattle.list_blocks.proofs.ListedLaws.{following-last, listed-whole}
+use Rattle.lent_list.specs.Walks.{Walk, Passed, Scanned, Lengths, ReceiversIn}
+use Rattle.lent_list.proofs.StretchLaws.{walk-twice, walk-early, walk-more, walk-past, walk-done}
 
 -- the walk passes entries outside the stretch
 module _ {n : ℕ} {recv list : List ℕ} {lo to : ℕ} {m : ℕ → Bool} (cells : CellsBefore n list to) (long : to ≤ length list) where
@@ -71,123 +71,77 @@ module _ {n : ℕ} {recv list : List ℕ} {lo to p : ℕ} (seen : List ℕ) {nex
       go false b true f false g v = absurd (true≢false v)
       go false b true f true g v = walk-more w marked from before l k cell b (λ u z. g)
 
--- the loop along the listed positions: i of them are taken
-pub record Taking (n : ℕ) (recv list : List ℕ) (lo from to : ℕ) (places : List ℕ) (k i : ℕ) (seen : List ℕ) : Type 0 where
+-- the loop along the positions taken: i of them are done
+pub record Taking (n : ℕ) (recv list : List ℕ) (lo from to : ℕ) (position : ℕ → ℕ) (k i : ℕ) (seen : List ℕ) : Type 0 where
   pub some : i ≤ k
   pub room : span ≤ length seen * 64
-  pub walk : Walk span n recv list lo to (following from places i) (isMarked seen)
+  pub walk : Walk span n recv list lo to (following from position i) (isMarked seen)
 
-pub taking-none : {n : ℕ} {recv list : List ℕ} {lo from to : ℕ} {places : List ℕ} {k : ℕ} {seen : List ℕ} → span ≤ length seen * 64
-    → Walk span n recv list lo to from (isMarked seen) → Taking n recv list lo from to places k 0 seen
+pub taking-none : {n : ℕ} {recv list : List ℕ} {lo from to : ℕ} {position : ℕ → ℕ} {k : ℕ} {seen : List ℕ} → span ≤ length seen * 64
+    → Walk span n recv list lo to from (isMarked seen) → Taking n recv list lo from to position k 0 seen
 unfolding following
 taking-none l w = record { some = omega arith; room = l; walk = w }
 
 -- what the loop finds: the positions and the receivers of a block
-pub record Block (n : ℕ) (recv list : List ℕ) (lo from to : ℕ) (places below : List ℕ) (k : ℕ) : Type 0 where
+pub record Block (n : ℕ) (recv list : List ℕ) (lo from to : ℕ) (position : ℕ → ℕ) (below : List ℕ) (k : ℕ) : Type 0 where
   pub cells : CellsBefore n list to
   pub long : to ≤ length list
-  pub listed : Listed list lo from to places k
-  pub receivers : (i : ℕ) → i < k → getD below i 0 ≡ receiversAt recv list places i
-  pub some : k ≤ length places
-  pub each : length below ≡ length places
+  pub listed : Listed list lo from to position k
+  pub receivers : (i : ℕ) → i < k → getD below i 0 ≡ receiversAt recv list position i
 
-module _ {n : ℕ} {recv list : List ℕ} {lo from to : ℕ} {places below : List ℕ} {k i : ℕ} {seen : List ℕ} (b : Block n recv list lo from to places below k)
-    (t : Taking n recv list lo from to places k i seen) where
-  abbrev position : ℕ
-  position = getD places i 0
+module _ {n : ℕ} {recv list : List ℕ} {lo from to : ℕ} {position : ℕ → ℕ} {below : List ℕ} {k : ℕ} (b : Block n recv list lo from to position below k) where
+  module _ {i p : ℕ} (l : i < k) (here : p ≡ position i) where
+    abbrev cell : ℕ
+    cell = getD list p 0
 
-  abbrev cell : ℕ
-  cell = getD list position 0
+    pub taken-before : p < to
+    taken-before = omega (arith, b .listed .below i l)
 
-  module _ (l : i < k) {bad : Bool} {next : List ℕ} (put : next ≡ marking seen (cell - lo)) (verdict : bad ≡ (isMarked seen (cell - lo) || missingIn next lo (getD below i 0))) where
-    arrived : Walk span n recv list lo to position (isMarked seen)
-    arrived = walk-apart (b .cells) (b .long) (t .walk) (b .listed .between i l) (omega (arith, b .listed .below i l))
+    pub taken-inside : inStretch span lo cell ≡ true
+    taken-inside = rw here (b .listed .inside i l)
 
-    by-receiver : bad ≡ (isMarked seen (cell - lo) || missingIn next lo (getD recv cell 0))
-    by-receiver = rw (b .receivers i l) at verdict
+    taken-receiver : getD below i 0 ≡ getD recv cell 0
+    taken-receiver = rw here (b .receivers i l)
 
-    pub taking-bad : bad ≡ true → Passed n recv list lo to next position
-    taking-bad e =
-        record {
-          found = taken-bad seen arrived (t .room) (b .listed .inside i l) put by-receiver e;
-          marks = λ q. absurd (omega (arith, b .listed .below i l));
-        }
+    -- where all receivers lie in the stretch, this one does
+    pub receiver-inside : ReceiversIn lo n recv → inStretch span lo (getD below i 0) ≡ true
+    receiver-inside all = rw taken-receiver (all .each cell (b .cells .cell p taken-before))
 
-    pub taking-more : length next ≡ length seen → bad ≡ false → Taking n recv list lo from to places k (i + 1) next
-    taking-more same e =
-        let w = taken-good seen arrived (t .room) (b .listed .inside i l) put by-receiver e (b .listed .below i l) (b .long) (b .cells .cell _ (b .listed .below i l)) in
-        record {
-          some = omega arith;
-          room = omega (arith, t .room, same);
-          walk = rw (add-one i, following-last from places i) w;
-        }
+    module _ {seen : List ℕ} (t : Taking n recv list lo from to position k i seen) {bad : Bool} {next : List ℕ} (put : next ≡ marking seen (cell - lo))
+        (verdict : bad ≡ (isMarked seen (cell - lo) || missingIn next lo (getD below i 0))) where
+      arrived : Walk span n recv list lo to p (isMarked seen)
+      arrived = rw here (walk-apart (b .cells) (b .long) (t .walk) (b .listed .between i l) (omega (arith, b .listed .below i l)))
 
-  pub taking-done : k ≤ i → Passed n recv list lo to seen to
-  taking-done h =
+      by-receiver : bad ≡ (isMarked seen (cell - lo) || missingIn next lo (getD recv cell 0))
+      by-receiver = rw taken-receiver at verdict
+
+      pub taking-bad : bad ≡ true → Passed n recv list lo to next p
+      taking-bad e = record { found = taken-bad seen arrived (t .room) taken-inside put by-receiver e; marks = λ q. absurd (omega (arith, taken-before)) }
+
+      pub taking-more : length next ≡ length seen → bad ≡ false → Taking n recv list lo from to position k (i + 1) next
+      taking-more same e =
+          let w = taken-good seen arrived (t .room) taken-inside put by-receiver e taken-before (b .long) (b .cells .cell p taken-before) in
+          record {
+            some = omega arith;
+            room = omega (arith, t .room, same);
+            walk = rw (add-one i, following-last from position i, sym here) w;
+          }
+
+  pub taking-done : {i : ℕ} {seen : List ℕ} → Taking n recv list lo from to position k i seen → k ≤ i → Passed n recv list lo to seen to
+  taking-done {i} t h =
       let all : i ≡ k = omega (arith, t .some) in
       let w = walk-apart (b .cells) (b .long) (rw all at (t .walk)) (b .listed .rest) (omega arith) in
       record { found = walk-done w (omega arith); marks = λ q. w .marks }
 
+-- the stretch from 0 where it holds every cell: all positions are taken
 within-first : (c : ℕ) → c < span → inStretch span 0 c ≡ true
 within-first c l = stretch-from span 0 c (omega arith) ∙ lt-ltb (c - 0) span (omega arith)
 
--- what the loop along a whole block finds, one where every cell lies in the stretch from 0: the receivers
-pub record Whole (n : ℕ) (recv list : List ℕ) (from to : ℕ) (below : List ℕ) : Type 0 where
-  pub few : n ≤ span
-  pub network : Lengths n recv list
-  pub cells : CellsBefore n list to
-  pub long : to ≤ length list
-  pub receivers : (i : ℕ) → i < to - from → getD below i 0 ≡ receiversFrom recv list from i
+pub whole-receivers : {n : ℕ} {recv list : List ℕ} → n ≤ span → Lengths n recv list → ReceiversIn 0 n recv
+whole-receivers {recv = recv} few g = record { each = λ c l. within-first (getD recv c 0) (omega (arith, g .inside c l)) }
 
--- that loop: the entries before position p are taken
-pub record Going (n : ℕ) (recv list : List ℕ) (from to p : ℕ) (seen : List ℕ) : Type 0 where
-  pub start : from ≤ p
-  pub room : span ≤ length seen * 64
-  pub walk : Walk span n recv list 0 to p (isMarked seen)
-
-module _ {n : ℕ} {recv list : List ℕ} {from to : ℕ} {below : List ℕ} {p : ℕ} {seen : List ℕ} (b : Whole n recv list from to below) (g : Going n recv list from to p seen) where
-  abbrev entry : ℕ
-  entry = getD list p 0
-
-  module _ (l : p < to) where
-    -- the entry and its receiver have marks
-    pub going-cell : entry < span
-    going-cell = omega (arith, b .cells .cell p l, b .few)
-
-    at-place : getD below (p - from) 0 ≡ getD recv entry 0
-    at-place =
-        let back : from + (p - from) ≡ p = omega (arith, g .start) in
-        b .receivers (p - from) (omega (arith, g .start)) ∙ ap (λ (k : ℕ). getD recv (getD list k 0) 0) back
-
-    pub going-receiver : getD below (p - from) 0 < span
-    going-receiver = omega (arith, at-place, b .network .inside entry (b .cells .cell p l), b .few)
-
-    module _ {bad : Bool} {next : List ℕ} (put : next ≡ marking seen entry) (verdict : bad ≡ (isMarked seen entry || not (isMarked next (getD below (p - from) 0)))) where
-      put-first : next ≡ marking seen (entry - 0)
-      put-first = rw (from-start entry) put
-
-      by-stretch : bad ≡ (isMarked seen (entry - 0) || missingIn next 0 (getD recv entry 0))
-      by-stretch = rw (from-start entry, within-first (getD recv entry 0) (omega (arith, at-place, going-receiver)), from-start (getD recv entry 0), sym at-place) verdict
-
-      pub going-bad : bad ≡ true → Passed n recv list 0 to next p
-      going-bad e =
-          record {
-            found = taken-bad seen (g .walk) (g .room) (within-first entry going-cell) put-first by-stretch e;
-            marks = λ q. absurd (omega arith);
-          }
-
-      pub going-more : length next ≡ length seen → bad ≡ false → Going n recv list from to (p + 1) next
-      going-more same e =
-          record {
-            start = omega (arith, g .start);
-            room = omega (arith, g .room, same);
-            walk = taken-good seen (g .walk) (g .room) (within-first entry going-cell) put-first by-stretch e l (b .long) (b .cells .cell p l);
-          }
-
-  pub going-done : to ≤ p → Passed n recv list 0 to seen to
-  going-done h =
-      let all : p ≡ to = omega (arith, g .walk .place) in
-      record { found = walk-done (g .walk) h; marks = λ q. rw all at (g .walk .marks) }
+pub whole-listed : {n : ℕ} {list : List ℕ} {from to : ℕ} (places : List ℕ) → n ≤ span → from ≤ to → CellsBefore n list to → Listed list 0 from to (takenAt true places from) (to - from)
+whole-listed {list = list} places few l cells = listed-whole places l (λ i k. within-first (getD list i 0) (omega (arith, cells .cell i k)))
 
 -- the walk for a stretch, block by block
 pub block-network : {n : ℕ} {recv list : List ℕ} → Lengths n recv list → Lengths (length recv) recv list

@@ -12,13 +12,14 @@ use borrow.Author.Count.{below-more}
 use borrow.Author.Tests.{lt-ltb, ltb-true, ltb-false}
 use Rattle.drainage.proofs.TallyLaws.{one-same, one-other, times-more}
 use Rattle.drainage.specs.Ways.{one, times}
-use Rattle.lent_list.specs.Entries.{goodEntry, firstBadEntry, GoodAt}
+use Rattle.lent_list.specs.Entries.{everyCell, goodEntry, firstBadEntry, GoodAt}
 use Rattle.list_marks.specs.Seen.{stretch, span}
 use Rattle.lent_list.specs.Walks.{GoodWithin, Scanned, Stood, Walk, Lengths, Near}
 use Rattle.list_marks.proofs.SeenLaws.{Put}
 use Rattle.list_blocks.specs.Blocks.{CellsBefore}
 use Rattle.lists.specs.Firsts.{First}
-use Rattle.lists.proofs.FirstLaws.{first-is}
+use Rattle.lists.proofs.FirstLaws.{first-is, first-end}
+use Rattle.lists.proofs.LoopLaws.{all-pass}
 use Rattle.lent_list.proofs.ListLaws.{good-at, at-good}
 
 -- an entry with a fault is not good
@@ -154,6 +155,11 @@ pub record Stretches (n : ℕ) (recv list : List ℕ) (lo f : ℕ) : Type 0 wher
   pub bound : f ≤ n
   earlier : (i : ℕ) → i < f → GoodBelow n recv list lo i
   fails : f < n → goodEntry n recv list f ≡ false
+
+-- where every entry is a cell, none is the first that is no cell
+pub every-first : {n : ℕ} (list : List ℕ) → everyCell n list ≡ true → length list ≡ n → First n (λ p. ltb (getD list p 0) n) n
+unfolding everyCell
+every-first {n} list e k = first-end (λ i l. all-pass (length list) (λ p. ltb (getD list p 0) n) e i (omega arith))
 
 pub stretches-none : {n : ℕ} {recv list : List ℕ} {f : ℕ} → First n (λ p. ltb (getD list p 0) n) f → Stretches n recv list 0 f
 stretches-none {n} {recv} {list} {f} s =

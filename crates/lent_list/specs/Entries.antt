@@ -1,12 +1,18 @@
 -- Refusal 7: a lent list that is no work list.
 use Prim.Native.Nat.{ℕ, _<_}
 use mathlib.Core.Path.{_≡_}
-use mathlib.Core.Bool.{Bool, _&&_, _||_}
+use mathlib.Core.Bool.{Bool, true, _&&_, _||_}
 use mathlib.Core.List.{List}
-use lib.ListN.{getD, take}
+use lib.ListN.{length, getD, take}
 use lib.Dec.{eqb, ltb}
+use Rattle.lists.specs.Loops.{turns}
 use Rattle.lists.specs.Firsts.{firstFailing}
 use Rattle.drainage.specs.Ways.{times, WorkList}
+
+-- every entry of a list is one of n cells
+unfoldable pub everyCell : ℕ → List ℕ → Bool
+unfolding turns
+everyCell n list = turns (length list) (λ p good. good && ltb (getD list p 0) n) true
 
 -- the entry at a position is a cell, did not stand earlier, and any other cell that it drains into did
 unfoldable pub goodEntry : ℕ → List ℕ → List ℕ → ℕ → Bool

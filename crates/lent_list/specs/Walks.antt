@@ -1,12 +1,12 @@
 -- The walk along a list for a stretch of cells: what the marks say of the entries passed.
 use Prim.Native.Nat.{ℕ, _+_, _^_, _≤_, _<_}
 use mathlib.Core.Path.{_≡_}
-use mathlib.Core.Bool.{Bool, false}
+use mathlib.Core.Bool.{Bool, true, false}
 use mathlib.Core.List.{List}
 use lib.ListN.{length, getD, take}
 use lib.Dec.{ltb}
 use Rattle.drainage.specs.Ways.{times}
-use Rattle.list_marks.specs.Seen.{stretch, span, isMarked}
+use Rattle.list_marks.specs.Seen.{stretch, span, isMarked, inStretch}
 use Rattle.lent_list.specs.Entries.{goodEntry}
 
 -- the entry at a position is good as far as the cells lo to hi - 1 tell
@@ -42,6 +42,10 @@ pub record Lengths (n : ℕ) (recv list : List ℕ) : Type 0 where
   pub receivers : length recv ≡ n
   pub entries : length list ≡ n
   pub inside : (c : ℕ) → c < n → getD recv c 0 < n
+
+-- every receiver of n cells lies in the stretch from lo
+pub record ReceiversIn (lo n : ℕ) (recv : List ℕ) : Type 0 where
+  pub each : (c : ℕ) → c < n → inStretch span lo (getD recv c 0) ≡ true
 
 -- no receiver of n cells is further from its cell than stretches overlap
 pub record Near (n : ℕ) (recv : List ℕ) : Type 0 where

@@ -1,21 +1,22 @@
 // Refusal 7: the check of a lent list. Nothing lent is written before it is decided.
 use list_blocks::block_end;
 use list_blocks::positions_in;
-use list_blocks::receivers_at;
-use list_blocks::receivers_from;
+use list_blocks::receivers_of;
+use list_blocks::taken;
 use list_marks::bad_in_stretch;
-use list_marks::bad_in_whole;
 ghost use mathlib.Core.Path.{_≡_};
+ghost use mathlib.Core.Bool.{true, false};
 ghost use Prim.Native.Nat.{_+_, _*_, _^_, _≤_};
 ghost use lib.ListN.{length, getD};
 ghost use lib.Dec.{ltb};
 ghost use Rattle.lists.specs.Firsts.{First};
 ghost use Rattle.list_marks.specs.Seen.{span, isMarked, Blank};
-ghost use Rattle.list_blocks.specs.Blocks.{CellsBefore};
-ghost use Rattle.lent_list.specs.Entries.{firstBadEntry};
-ghost use Rattle.lent_list.specs.Walks.{Walk, Passed, Scanned, Lengths, Near};
+ghost use Rattle.list_blocks.specs.Blocks.{CellsBefore, takenAt, Listed};
+ghost use Rattle.lent_list.specs.Entries.{everyCell, firstBadEntry};
+ghost use Rattle.lent_list.specs.Walks.{Walk, Passed, Scanned, Lengths, ReceiversIn, Near};
 
-// Goes from position `from` to `to`, at most 1,024 further on: the first position whose entry is bad by the marks of the stretch from lo, `to` where none is.
+// Goes along the k positions taken of the block from `from` to `to`: the first whose entry is bad by the marks of the stretch from lo, `to` where none is.
+// Where the whole block is taken, `places` is not read, and that every receiver lies in the stretch is known.
 fn first_in_block(
     seen: &mut [u64],
     lo: usize,
@@ -23,21 +24,23 @@ fn first_in_block(
     list: &[u32],
     from: usize,
     to: usize,
+    places: &[u32],
+    k: usize,
+    whole: bool,
 ) -> usize
-    requires { ⌜ (span ≤ length (now seen) * 64) × (lo ≤ 2 ^ 24) ⌝ }
-    requires { ⌜ (to ≤ from + 1024) × (to ≤ length (now list)) × (to ≤ 2 ^ 24) ⌝ }
+    requires { ⌜ (span ≤ length (now seen) * 64) × (whole ≡ true → ReceiversIn lo (length (now recv)) (now recv)) ⌝ }
+    requires { ⌜ (to ≤ from + 1024) × (to ≤ length (now list)) × (whole ≡ false → k ≤ length (now places)) ⌝ }
     requires { ⌜ CellsBefore (length (now recv)) (now list) to ⌝ }
+    requires { ⌜ Listed (now list) lo from to (takenAt whole (now places) from) k ⌝ }
     requires { ⌜ Walk span (length (now recv)) (now recv) (now list) lo to from (isMarked (now seen)) ⌝ }
     ensures { λ r. ⌜ Passed (length (now (recv .entry))) (now (recv .entry)) (now (list .entry)) lo to (now (seen .exit)) r ⌝ }
 {
-    let mut places: [u32; 1024] = [0; 1024];
     let mut below: [u32; 1024] = [0; 1024];
-    let k = positions_in(list, lo, from, to, &mut places);
-    receivers_at(recv, list, &places, k, &mut below);
+    receivers_of(recv, list, places, k, &mut below, whole, from);
     let mut i: usize = 0;
     while i < k {
-        let p = places[i] as usize;
-        if bad_in_stretch(seen, lo, list[p] as usize, below[i] as usize) {
+        let p = taken(whole, places, from, i);
+        if bad_in_stretch(seen, lo, list[p] as usize, below[i] as usize, whole) {
             return p;
         }
         i += 1;
@@ -45,28 +48,8 @@ fn first_in_block(
     to
 }
 
-// The same in the stretch from 0 where that holds every cell: all positions are taken, so none are picked out first.
-fn first_in_whole(seen: &mut [u64], recv: &[u32], list: &[u32], from: usize, to: usize) -> usize
-    requires { ⌜ (span ≤ length (now seen) * 64) × (length (now recv) ≤ span) ⌝ }
-    requires { ⌜ (to ≤ from + 1024) × (to ≤ length (now list)) ⌝ }
-    requires { ⌜ Lengths (length (now recv)) (now recv) (now list) ⌝ }
-    requires { ⌜ CellsBefore (length (now recv)) (now list) to ⌝ }
-    requires { ⌜ Walk span (length (now recv)) (now recv) (now list) 0 to from (isMarked (now seen)) ⌝ }
-    ensures { λ r. ⌜ Passed (length (now (recv .entry))) (now (recv .entry)) (now (list .entry)) 0 to (now (seen .exit)) r ⌝ }
-{
-    let mut below: [u32; 1024] = [0; 1024];
-    receivers_from(recv, list, from, to - from, &mut below);
-    let mut p = from;
-    while p < to {
-        if bad_in_whole(seen, list[p] as usize, below[p - from] as usize) {
-            return p;
-        }
-        p += 1;
-    }
-    to
-}
-
-// The same for any stretch and any number of cells, by the shorter way where it serves.
+// The same for any block, at most 1,024 positions long: all are taken in the stretch from 0 where that holds every cell, else those whose cells lie in the
+// stretch are picked out first.
 fn first_in_some(
     seen: &mut [u64],
     lo: usize,
@@ -84,10 +67,12 @@ fn first_in_some(
 {
     if lo == 0 {
         if recv.len() <= 8388608 {
-            return first_in_whole(seen, recv, list, from, to);
+            return first_in_block(seen, 0, recv, list, from, to, list, to - from, true);
         }
     }
-    first_in_block(seen, lo, recv, list, from, to)
+    let mut places: [u32; 1024] = [0; 1024];
+    let k = positions_in(list, lo, from, to, &mut places);
+    first_in_block(seen, lo, recv, list, from, to, &places, k, false)
 }
 
 // The first position below the limit whose entry is bad by the marks of the stretch from lo; the limit where none is.
@@ -110,8 +95,22 @@ fn first_in_stretch(n: usize, recv: &[u32], list: &[u32], lo: usize, limit: usiz
     limit
 }
 
-// The first position with an entry that is no cell, n where each is one.
-fn first_outside(n: usize, list: &[u32]) -> usize
+// Whether every entry is one of n cells, with no branch, so that the compiler tests several at a time.
+fn every_cell(n: u32, list: &[u32]) -> bool
+    ensures { λ r. ⌜ r ≡ everyCell n (now (list .entry)) ⌝ }
+{
+    let size = list.len();
+    let mut good = true;
+    let mut p: usize = 0;
+    while p < size {
+        good = good & (list[p] < n);
+        p += 1;
+    }
+    good
+}
+
+// Searches the list for the first position with an entry that is no cell; n where each is one.
+fn search_outside(n: usize, list: &[u32]) -> usize
     requires { ⌜ length (now list) ≡ n ⌝ }
     ensures { λ r. ⌜ First n (λ p. ltb (getD (now (list .entry)) p 0) n) r ⌝ }
 {
@@ -123,6 +122,19 @@ fn first_outside(n: usize, list: &[u32]) -> usize
         p += 1;
     }
     n
+}
+
+// The first position with an entry that is no cell, n where each is one. The list is searched only where there is one, or where n is no u32.
+fn first_outside(n: usize, list: &[u32]) -> usize
+    requires { ⌜ length (now list) ≡ n ⌝ }
+    ensures { λ r. ⌜ First n (λ p. ltb (getD (now (list .entry)) p 0) n) r ⌝ }
+{
+    if n <= 4294967295 {
+        if every_cell(n as u32, list) {
+            return n;
+        }
+    }
+    search_outside(n, list)
 }
 
 // The first position whose entry is no cell or is bad, for cells that all have a byte in `seen`, none of them set yet; n where none is.

@@ -1,7 +1,7 @@
 -- A block of a list: which of its positions have cells of a stretch, and the receivers of the cells there.
 use Prim.Native.Nat.{ℕ, zero, suc, _+_, _≤_, _<_}
 use mathlib.Core.Path.{_≡_}
-use mathlib.Core.Bool.{true, false}
+use mathlib.Core.Bool.{Bool, true, false, cond}
 use mathlib.Core.List.{List}
 use lib.ListN.{length, getD}
 use Rattle.list_marks.specs.Seen.{span, inStretch}
@@ -10,33 +10,33 @@ use Rattle.list_marks.specs.Seen.{span, inStretch}
 pub record CellsBefore (n : ℕ) (list : List ℕ) (position : ℕ) : Type 0 where
   pub cell : (i : ℕ) → i < position → getD list i 0 < n
 
+-- the position of the i-th entry taken of a block that starts at `from`: all are taken, or those at the positions picked out
+abbrev pub takenAt : Bool → List ℕ → ℕ → ℕ → ℕ
+takenAt whole places from i = cond whole (from + i) (getD places i 0)
+
 -- the entry at each of the first k positions is one of n cells
-pub record CellsAt (n : ℕ) (list places : List ℕ) (k : ℕ) : Type 0 where
-  pub place : (i : ℕ) → i < k → getD places i 0 < length list
-  pub cell : (i : ℕ) → i < k → getD list (getD places i 0) 0 < n
+pub record CellsAt (n : ℕ) (list : List ℕ) (position : ℕ → ℕ) (k : ℕ) : Type 0 where
+  pub place : (i : ℕ) → i < k → position i < length list
+  pub cell : (i : ℕ) → i < k → getD list (position i) 0 < n
 
 -- the position after the first i of some positions, which start at `from`
-unfoldable pub following : ℕ → List ℕ → ℕ → ℕ
-following from places zero = from
-following from places (suc i) = suc (getD places i 0)
+unfoldable pub following : ℕ → (ℕ → ℕ) → ℕ → ℕ
+following from position zero = from
+following from position (suc i) = suc (position i)
 
 -- no cell at the positions from `from` to before `to` lies in the stretch from lo
 pub record Apart (list : List ℕ) (lo from to : ℕ) : Type 0 where
   pub order : from ≤ to
   pub each : (q : ℕ) → from ≤ q → q < to → inStretch span lo (getD list q 0) ≡ false
 
--- the first k of `places` are, in order, the positions from `from` to before `to` whose cells lie in the stretch from lo
-pub record Listed (list : List ℕ) (lo from to : ℕ) (places : List ℕ) (k : ℕ) : Type 0 where
+-- the first k positions are, in order, those from `from` to before `to` whose cells lie in the stretch from lo
+pub record Listed (list : List ℕ) (lo from to : ℕ) (position : ℕ → ℕ) (k : ℕ) : Type 0 where
   pub few : from + k ≤ to
-  pub below : (i : ℕ) → i < k → getD places i 0 < to
-  pub inside : (i : ℕ) → i < k → inStretch span lo (getD list (getD places i 0) 0) ≡ true
-  pub between : (i : ℕ) → i < k → Apart list lo (following from places i) (getD places i 0)
-  pub rest : Apart list lo (following from places k) to
+  pub below : (i : ℕ) → i < k → position i < to
+  pub inside : (i : ℕ) → i < k → inStretch span lo (getD list (position i) 0) ≡ true
+  pub between : (i : ℕ) → i < k → Apart list lo (following from position i) (position i)
+  pub rest : Apart list lo (following from position k) to
 
 -- the receiver of the cell at the i-th of some positions
-abbrev pub receiversAt : List ℕ → List ℕ → List ℕ → ℕ → ℕ
-receiversAt recv list places i = getD recv (getD list (getD places i 0) 0) 0
-
--- the receiver of the cell at the i-th position from `from` on
-abbrev pub receiversFrom : List ℕ → List ℕ → ℕ → ℕ → ℕ
-receiversFrom recv list from i = getD recv (getD list (from + i) 0) 0
+abbrev pub receiversAt : List ℕ → List ℕ → (ℕ → ℕ) → ℕ → ℕ
+receiversAt recv list position i = getD recv (getD list (position i) 0) 0

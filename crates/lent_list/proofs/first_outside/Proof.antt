@@ -1,60 +1,25 @@
-use Prim.Native.Nat.{ℕ, _-_, _≤_, _<_}
-use mathlib.Core.Path.{_≡_}
-use mathlib.Core.Bool.{true}
-use lib.ListN.{getD}
-use lib.Dec.{ltb}
-use native.Mathlib.Omega.{arith}
-use borrow.Author.Count.{below-more}
-use borrow.Author.Tests.{lt-ltb, le-ltb}
-use Rattle.lists.proofs.FirstLaws.{first-stop, first-end}
+use mathlib.Core.Path.{sym, _∙_}
+use Rattle.lent_list.proofs.StretchLaws.{every-first}
+use borrow.Author.Needs.{needs}
 use Rattle.lent_list.proofs.first_outside.Statement.{statement}
 use Rattle.lent_list.proofs.first_outside.Tie as tie
 
-abbrev Inv-loop : tie.InvT-loop
-Inv-loop n list p₀ p = (p ≤ n) × ((i : ℕ) → i < p → ltb (getD list i 0) n ≡ true)
+cast-every-cell : tie.Need-cast-every-cell
+cast-every-cell c = search needs
 
-abbrev μ-loop : tie.MeasureT-loop
-μ-loop n list p₀ p = n - p
+every-cell-requires : tie.Need-every-cell-requires
+every-cell-requires c κs = search needs
 
-loop-holds : tie.Need-loop-holds Inv-loop μ-loop
-loop-holds c = (omega arith, λ i l. absurd (omega arith))
+returns : tie.Need-returns
+returns c = every-first (c .before .before .before .before .args .list .now) (sym (c .before .every-cell .ensures) ∙ c .if2 .taken) (c .before .before .before .before .pre)
 
-mul-if1 : tie.Need-mul-if1 Inv-loop μ-loop
-mul-if1 c = omega (arith, c .loop-test .taken, c .before .before .pre)
+search-outside-requires : tie.Need-search-outside-requires
+search-outside-requires c κs = search needs
 
-shared-slice-read-if1 : tie.Need-shared-slice-read-if1 Inv-loop μ-loop
-shared-slice-read-if1 c = omega (arith, c .before .loop-test .taken, c .before .before .before .pre)
-
-cast-if1 : tie.Need-cast-if1 Inv-loop μ-loop
-cast-if1 c = omega (arith, c .shared-slice-known .given (c .before .before .loop .p))
-
-returns : tie.Need-returns Inv-loop μ-loop
-returns c = first-stop (c .before .before .before .loop .inv .1) (c .before .before .before .loop .inv .0) (le-ltb _ _ (c .if1 .taken))
-
-add-p : tie.Need-add-p Inv-loop μ-loop
-add-p c = omega (arith, c .before .before .loop-test .taken, c .before .before .before .before .fits .n)
-
-loop-less : tie.Need-loop-less Inv-loop μ-loop
-loop-less c = omega (arith, c .before .before .loop-test .taken)
-
-loop-again : tie.Need-loop-again Inv-loop μ-loop
-loop-again c = (omega (arith, c .before .before .loop-test .taken), below-more (λ i. ltb (getD (c .before .before .before .before .args .list .now) i 0) (c .before .before .before .before .args .n) ≡ true) (c .before .before .before .loop .p) (c .before .before .before .loop .inv .1) (lt-ltb (getD (c .before .before .before .before .args .list .now) (c .before .before .before .loop .p) 0) (c .before .before .before .before .args .n) (omega (arith, c .if1 .left))))
-
-returns-2 : tie.Need-returns-2 Inv-loop μ-loop
-returns-2 c = let e : c .before .loop .p ≡ c .before .before .args .n = omega (arith, c .before .loop .inv .0, c .loop-test .left) in first-end (rw e at (c .before .loop .inv .1))
+returns-2 : tie.Need-returns-2
+returns-2 c = search needs
 
 pub first-outside-spec : {M : Type 1} → statement M
 first-outside-spec =
     tie.close
-    (tie.spec
-    Inv-loop
-    μ-loop
-    loop-holds
-    mul-if1
-    shared-slice-read-if1
-    cast-if1
-    returns
-    add-p
-    loop-less
-    loop-again
-    returns-2)
+    (tie.spec cast-every-cell every-cell-requires returns search-outside-requires returns-2)

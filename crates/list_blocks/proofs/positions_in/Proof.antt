@@ -1,14 +1,15 @@
 use Prim.Native.Nat.{ℕ, _-_, _≤_}
 use mathlib.Core.Path.{_≡_, refl, _∙_}
+use mathlib.Core.Bool.{false}
 use lib.ListN.{length, length-set}
 use native.Mathlib.Omega.{arith}
-use Rattle.list_blocks.specs.Blocks.{Listed}
+use Rattle.list_blocks.specs.Blocks.{takenAt, Listed}
 use Rattle.list_blocks.proofs.ListedLaws.{listed-none, listed-next}
 use Rattle.list_blocks.proofs.positions_in.Statement.{statement}
 use Rattle.list_blocks.proofs.positions_in.Tie as tie
 
 abbrev Inv-loop : tie.InvT-loop
-Inv-loop list lo from to places₀ k₀ p₀ places k p = (p ≤ to) × (Listed list lo from p places k × (length places ≡ length places₀))
+Inv-loop list lo from to places₀ k₀ p₀ places k p = (p ≤ to) × (Listed list lo from p (takenAt false places from) k × (length places ≡ length places₀))
 
 abbrev μ-loop : tie.MeasureT-loop
 μ-loop list lo from to places₀ k₀ p₀ places k p = to - p
@@ -38,7 +39,7 @@ counted-requires : tie.Need-counted-requires Inv-loop μ-loop
 counted-requires c κs = c .before .before .before .before .before .pre .4
 
 add-k : tie.Need-add-k Inv-loop μ-loop
-add-k c = omega (arith, (listed-next (c .before .before .before .loop .inv .1 .0) (omega (arith, c .before .before .loop-test .taken, c .before .before .before .loop .inv .1 .0 .few, c .before .before .before .loop .inv .1 .1, c .before .before .before .before .before .before .pre .1)) (c .counted .ensures)) .few, c .before .before .loop-test .taken, c .before .before .before .before .before .before .pre .3)
+add-k c = omega (arith, (listed-next (c .before .before .before .loop .places) (c .before .before .before .loop .inv .1 .0) (omega (arith, c .before .before .loop-test .taken, c .before .before .before .loop .inv .1 .0 .few, c .before .before .before .loop .inv .1 .1, c .before .before .before .before .before .before .pre .1)) (c .counted .ensures)) .few, c .before .before .loop-test .taken, c .before .before .before .before .before .before .pre .3)
 
 add-p : tie.Need-add-p Inv-loop μ-loop
 add-p c = omega (arith, c .before .before .loop-test .taken, c .before .before .before .before .before .before .pre .3)
@@ -47,7 +48,7 @@ loop-less : tie.Need-loop-less Inv-loop μ-loop
 loop-less c = omega (arith, c .before .before .loop-test .taken)
 
 loop-again : tie.Need-loop-again Inv-loop μ-loop
-loop-again c = (omega (arith, c .before .before .loop-test .taken), (listed-next (c .before .before .before .loop .inv .1 .0) (omega (arith, c .before .before .loop-test .taken, c .before .before .before .loop .inv .1 .0 .few, c .before .before .before .loop .inv .1 .1, c .before .before .before .before .before .before .pre .1)) (c .counted .ensures), length-set {A = ℕ} (c .before .before .before .loop .places) (c .before .before .before .loop .k) (c .before .before .before .loop .p) ∙ c .before .before .before .loop .inv .1 .1))
+loop-again c = (omega (arith, c .before .before .loop-test .taken), (listed-next (c .before .before .before .loop .places) (c .before .before .before .loop .inv .1 .0) (omega (arith, c .before .before .loop-test .taken, c .before .before .before .loop .inv .1 .0 .few, c .before .before .before .loop .inv .1 .1, c .before .before .before .before .before .before .pre .1)) (c .counted .ensures), length-set {A = ℕ} (c .before .before .before .loop .places) (c .before .before .before .loop .k) (c .before .before .before .loop .p) ∙ c .before .before .before .loop .inv .1 .1))
 
 same-length : tie.Need-same-length Inv-loop μ-loop
 same-length c = c .before .loop .inv .1 .1

@@ -8,16 +8,16 @@ use Rattle.list_marks.proofs.bad_in_stretch.Statement.{statement}
 use Rattle.list_marks.proofs.bad_in_stretch.Tie as tie
 
 sub-i : tie.Need-sub-i
-sub-i c = let p = inside span (c .before .args .lo) (c .before .args .c) (c .before .pre .1) in p .0
+sub-i c = let p = inside span (c .before .args .lo) (c .before .args .c) (c .before .pre .1 .0) in p .0
 
 marked-requires : tie.Need-marked-requires
-marked-requires c κs = let p = inside span (c .before .before .args .lo) (c .before .before .args .c) (c .before .before .pre .1) in omega (arith, p .0, p .1, c .before .before .pre .0)
+marked-requires c κs = let p = inside span (c .before .before .args .lo) (c .before .before .args .c) (c .before .before .pre .1 .0) in omega (arith, p .0, p .1, c .before .before .pre .0)
 
 mark-requires : tie.Need-mark-requires
-mark-requires c κs = let p = inside span (c .before .before .before .before .args .lo) (c .before .before .before .before .args .c) (c .before .before .before .before .pre .1) in omega (arith, p .0, p .1, c .before .before .before .before .pre .0)
+mark-requires c κs = let p = inside span (c .before .before .before .before .args .lo) (c .before .before .before .before .args .c) (c .before .before .before .before .pre .1 .0) in omega (arith, p .0, p .1, c .before .before .before .before .pre .0)
 
 missing-requires : tie.Need-missing-requires
-missing-requires c κs = search needs
+missing-requires c κs = (omega (arith, c .before .before .before .before .before .before .before .before .pre .0, c .before .before .before .mark .kept .0), c .before .before .before .before .before .before .before .before .pre .1 .1)
 
 same-length : tie.Need-same-length
 same-length c = search needs

@@ -3,18 +3,17 @@ use mathlib.Core.Bool.{not}
 use native.Mathlib.Omega.{arith}
 use Rattle.list_marks.specs.Seen.{span}
 use Rattle.list_marks.proofs.SeenLaws.{inside}
-use borrow.Author.Needs.{needs}
 use Rattle.list_marks.proofs.missing.Statement.{statement}
 use Rattle.list_marks.proofs.missing.Tie as tie
 
 in-stretch-requires : tie.Need-in-stretch-requires
-in-stretch-requires c κs = search needs
+in-stretch-requires c κs = c .before .pre .1
 
 sub-marked : tie.Need-sub-marked
 sub-marked c = inside span (c .before .before .before .args .lo) (c .before .before .before .args .r) (sym (c .before .in-stretch .ensures) ∙ c .if1 .taken) .0
 
 marked-requires : tie.Need-marked-requires
-marked-requires c κs = let p = inside span (c .before .before .before .args .lo) (c .before .before .before .args .r) (sym (c .before .in-stretch .ensures) ∙ c .if1 .taken) in omega (arith, p .0, p .1, c .before .before .before .pre)
+marked-requires c κs = let p = inside span (c .before .before .before .args .lo) (c .before .before .before .args .r) (sym (c .before .in-stretch .ensures) ∙ c .if1 .taken) in omega (arith, p .0, p .1, c .before .before .before .pre .0)
 
 returns : tie.Need-returns
 returns c = rw (sym (c .before .before .in-stretch .ensures) ∙ c .before .if1 .taken) (ap not (c .marked .ensures))
