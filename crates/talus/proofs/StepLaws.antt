@@ -1,6 +1,7 @@
 -- One direction of a cell, by the cell m that lies there.
 use Prim.Native.Nat.{ℕ, suc, _+_, _-_, _*_, _≤_, _<_}
-use mathlib.Core.Path.{_≡_, ap, _∙_, subst}
+use mathlib.Core.Path.{_≡_, ap, sym, _∙_, subst}
+use mathlib.Core.Bool.{Bool, true, false, true≢false}
 use mathlib.Core.List.{List}
 use native.Mathlib.Omega.{arith}
 use borrow.Author.Tests.{lt-ltb, le-ltb}
@@ -9,8 +10,10 @@ use Rattle.lists.specs.Loops.{turns}
 use Rattle.lists.proofs.LoopLaws.{Turning, turning-none, turning-more, turning-done}
 use Rattle.grid.specs.Directions.{neighbourOf, neighbourAt}
 use Rattle.grid.proofs.SidesLaws.{cell-lt, column-cell, row-cell}
+use Rattle.inner_cells.specs.Inner.{Inner, offsetsOf}
+use Rattle.inner_cells.proofs.InnerLaws.{inner-below}
 use Rattle.talus.specs.Talus.{shedTo, shedStep, gainTo, gainStep}
-use Rattle.talus.specs.Places.{CellAt}
+use Rattle.talus.specs.Places.{CellAt, InnerIf}
 use Rattle.talus.specs.declared.Shed.{Shed}
 
 module _ {w h n x y c : ℕ} (a : CellAt w h n x y c) where
@@ -23,6 +26,17 @@ module _ {w h n x y c : ℕ} (a : CellAt w h n x y c) where
       let column = column-cell w x y (a .place .column) in
       let row = row-cell w x y (a .place .column) in
       rw (a .cell, column, row)
+
+-- a cell of which nothing is said, and an inner one
+pub any-cell : {w h c : ℕ} {os : List ℕ} → InnerIf false w h c os
+any-cell = record { off-sides = λ e. absurd (true≢false (sym e)); offsets = λ e. absurd (true≢false (sym e)) }
+
+pub inner-one : {w h c : ℕ} {os : List ℕ} → Inner w h c → os ≡ offsetsOf w → InnerIf true w h c os
+inner-one a o = record { off-sides = λ e. a; offsets = λ e. o }
+
+pub inner-in-map : {inner : Bool} {w h c : ℕ} {os : List ℕ} → InnerIf inner w h c os → (d n m : ℕ) → 1 ≤ d → d < 9 → n ≡ w * h → m ≡ neighbourAt w h c d
+    → inner ≡ true → m < n
+inner-in-map a d n m lo hi cells at e = inner-below _ _ _ d lo (omega arith) (a .off-sides e) n m cells at
 
 -- cell m lies in direction d, or no cell does
 module _ (w h n : ℕ) (ts hs : List Float) (c d m : ℕ) (cells : n ≡ w * h) (at : neighbourAt w h c d ≡ m) where

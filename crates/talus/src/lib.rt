@@ -3,13 +3,16 @@
 use floats::max;
 use grid::Sides;
 use grid::neighbour;
+use inner_cells::beside;
 ghost use mathlib.Core.Path.{_≡_};
-ghost use mathlib.Core.Bool.{cond};
-ghost use Prim.Native.Nat.{_+_, _*_, _<_};
+ghost use mathlib.Core.Bool.{true, cond};
+ghost use Prim.Native.Nat.{_+_, _*_, _≤_, _<_};
 ghost use lib.ListN.{length};
+ghost use lib.Dec.{ltb};
 ghost use lib.Ieee.{binary32, ofBits, lt};
+ghost use Rattle.grid.specs.Directions.{neighbourAt};
 ghost use Rattle.talus.specs.Talus.{thresholdsOf, excessOver, shedTo, shedStep, shedOf, gainTo, gainStep, gainsOf, slideCell, slideCells};
-ghost use Rattle.talus.specs.Places.{CellAt, InRow};
+ghost use Rattle.talus.specs.Places.{CellAt, InnerIf, InRow};
 
 // The total of the excesses counted so far, and the greatest of them.
 pub struct Shed {
@@ -44,7 +47,7 @@ pub fn excess(hmap: &[f32], c: usize, m: usize, threshold: f32) -> f32
 }
 
 // The excess of cell c toward cell m in direction d is counted if it is above 0.
-pub fn shed_at(ts: &[f32; 9], hmap: &[f32], c: usize, m: usize, d: usize, s: Shed) -> Shed
+fn shed_at(ts: &[f32; 9], hmap: &[f32], c: usize, m: usize, d: usize, s: Shed) -> Shed
     requires { ⌜ c < length (now hmap) ⌝ }
     requires { ⌜ m < length (now hmap) ⌝ }
     requires { ⌜ d < 9 ⌝ }
@@ -58,7 +61,7 @@ pub fn shed_at(ts: &[f32; 9], hmap: &[f32], c: usize, m: usize, d: usize, s: She
 }
 
 // Cell m's gain, if the excess of cell c toward it is counted.
-pub fn gain_at(
+fn gain_at(
     ts: &[f32; 9],
     hmap: &[f32],
     out: &mut [f32],
@@ -79,7 +82,40 @@ pub fn gain_at(
     out[m] = where_counted(e, old + moved * e / total, old);
 }
 
-// Direction d, on any cell: outside the grid there is no neighbour.
+// The neighbour of cell c in direction d: that of an inner cell lies at an offset.
+fn cell_toward(
+    size: Sides,
+    x: usize,
+    y: usize,
+    c: usize,
+    d: usize,
+    os: &[usize; 9],
+    inner: bool,
+) -> usize
+    requires { ⌜ CellAt (size .w) (size .h) (size .w * size .h) x y c ⌝ }
+    requires { ⌜ InnerIf inner (size .w) (size .h) c (now os) ⌝ }
+    requires { ⌜ 1 ≤ d ⌝ }
+    requires { ⌜ d < 9 ⌝ }
+    ensures { λ r. ⌜ r ≡ neighbourAt (size .w) (size .h) c d ⌝ }
+{
+    if inner {
+        return beside(size, os, c, d);
+    }
+    neighbour(size, x, y, d)
+}
+
+// Whether cell m is one of a map: a neighbour of an inner cell is, and needs no test.
+fn in_map(m: usize, cells: usize, inner: bool) -> bool
+    requires { ⌜ (inner ≡ true → m < cells) ⌝ }
+    ensures { λ r. ⌜ r ≡ ltb m cells ⌝ }
+{
+    if inner {
+        return true;
+    }
+    m < cells
+}
+
+// Direction d: outside the grid there is no neighbour.
 fn shed_toward(
     size: Sides,
     ts: &[f32; 9],
@@ -89,16 +125,20 @@ fn shed_toward(
     c: usize,
     d: usize,
     s: Shed,
+    os: &[usize; 9],
+    inner: bool,
 ) -> Shed
     requires { ⌜ CellAt (size .w) (size .h) (length (now hmap)) x y c ⌝ }
+    requires { ⌜ InnerIf inner (size .w) (size .h) c (now os) ⌝ }
+    requires { ⌜ 1 ≤ d ⌝ }
     requires { ⌜ d < 9 ⌝ }
     ensures { λ r. ⌜ r ≡ shedStep (size .w) (size .h) (now (ts .entry)) (now (hmap .entry)) c d s ⌝ }
 {
-    let m = neighbour(size, x, y, d);
-    if hmap.len() <= m {
-        return s;
+    let m = cell_toward(size, x, y, c, d, os, inner);
+    if in_map(m, hmap.len(), inner) {
+        return shed_at(ts, hmap, c, m, d, s);
     }
-    shed_at(ts, hmap, c, m, d, s)
+    s
 }
 
 // The gain of the neighbour in direction d, if there is one.
@@ -113,21 +153,36 @@ fn gain_toward(
     d: usize,
     moved: f32,
     total: f32,
+    os: &[usize; 9],
+    inner: bool,
 )
     requires { ⌜ CellAt (size .w) (size .h) (length (now hmap)) x y c ⌝ }
     requires { ⌜ length (now out) ≡ length (now hmap) ⌝ }
+    requires { ⌜ InnerIf inner (size .w) (size .h) c (now os) ⌝ }
+    requires { ⌜ 1 ≤ d ⌝ }
     requires { ⌜ d < 9 ⌝ }
     ensures { λ _. ⌜ now (out .exit) ≡ gainStep (size .w) (size .h) (now (ts .entry)) (now (hmap .entry)) c moved total d (now (out .entry)) ⌝ }
 {
-    let m = neighbour(size, x, y, d);
-    if m < hmap.len() {
+    let m = cell_toward(size, x, y, c, d, os, inner);
+    if in_map(m, hmap.len(), inner) {
         gain_at(ts, hmap, out, c, m, d, moved, total);
     }
 }
 
-// The total of the excesses of a cell over its eight directions, and the greatest of them.
-fn shed_around(size: Sides, ts: &[f32; 9], hmap: &[f32], x: usize, y: usize, c: usize) -> Shed
+// The total of the excesses of a cell over its eight directions, and the greatest of them. `inner` is a constant at each call, so that no test of it
+// stays in the loop.
+pub fn shed_around(
+    size: Sides,
+    ts: &[f32; 9],
+    hmap: &[f32],
+    x: usize,
+    y: usize,
+    c: usize,
+    os: &[usize; 9],
+    inner: bool,
+) -> Shed
     requires { ⌜ CellAt (size .w) (size .h) (length (now hmap)) x y c ⌝ }
+    requires { ⌜ InnerIf inner (size .w) (size .h) c (now os) ⌝ }
     ensures { λ r. ⌜ r ≡ shedOf (size .w) (size .h) (now (ts .entry)) (now (hmap .entry)) c ⌝ }
 {
     let mut s = Shed {
@@ -136,14 +191,14 @@ fn shed_around(size: Sides, ts: &[f32; 9], hmap: &[f32], x: usize, y: usize, c: 
     };
     let mut d: usize = 1;
     while d < 9 {
-        s = shed_toward(size, ts, hmap, x, y, c, d, s);
+        s = shed_toward(size, ts, hmap, x, y, c, d, s, os, inner);
         d += 1;
     }
     s
 }
 
 // What the counted neighbours of a cell gain.
-fn gain_around(
+pub fn gain_around(
     size: Sides,
     ts: &[f32; 9],
     hmap: &[f32],
@@ -153,19 +208,22 @@ fn gain_around(
     c: usize,
     moved: f32,
     total: f32,
+    os: &[usize; 9],
+    inner: bool,
 )
     requires { ⌜ CellAt (size .w) (size .h) (length (now hmap)) x y c ⌝ }
     requires { ⌜ length (now out) ≡ length (now hmap) ⌝ }
+    requires { ⌜ InnerIf inner (size .w) (size .h) c (now os) ⌝ }
     ensures { λ _. ⌜ now (out .exit) ≡ gainsOf (size .w) (size .h) (now (ts .entry)) (now (hmap .entry)) c moved total (now (out .entry)) ⌝ }
 {
     let mut d: usize = 1;
     while d < 9 {
-        gain_toward(size, ts, hmap, out, x, y, c, d, moved, total);
+        gain_toward(size, ts, hmap, out, x, y, c, d, moved, total, os, inner);
         d += 1;
     }
 }
 
-// One cell: below the water level, or with no excess, it sheds nothing.
+// One cell, inner or not: below the water level, or with no excess, it sheds nothing.
 fn slide_cell(
     size: Sides,
     ts: &[f32; 9],
@@ -176,6 +234,7 @@ fn slide_cell(
     x: usize,
     y: usize,
     c: usize,
+    os: &[usize; 9],
 )
     requires { ⌜ CellAt (size .w) (size .h) (length (now hmap)) x y c ⌝ }
     requires { ⌜ length (now out) ≡ length (now hmap) ⌝ }
@@ -184,13 +243,13 @@ fn slide_cell(
     if hmap[c] < water {
         return;
     }
-    let s = shed_around(size, ts, hmap, x, y, c);
+    let s = shed_around(size, ts, hmap, x, y, c, os, false);
     if s.total <= 0.0 {
         return;
     }
     let moved = strength * s.greatest;
     out[c] = out[c] - moved;
-    gain_around(size, ts, hmap, out, x, y, c, moved, s.total);
+    gain_around(size, ts, hmap, out, x, y, c, moved, s.total, os, false);
 }
 
 // The n cells of row y from column x on, from the west.
@@ -204,6 +263,7 @@ pub fn slide_cells(
     y: usize,
     x: usize,
     n: usize,
+    os: &[usize; 9],
 )
     requires { ⌜ InRow (size .w) (size .h) (length (now hmap)) y x n ⌝ }
     requires { ⌜ length (now out) ≡ length (now hmap) ⌝ }
@@ -222,6 +282,7 @@ pub fn slide_cells(
             x + i,
             y,
             x + i + y * w,
+            os,
         );
         i += 1;
     }

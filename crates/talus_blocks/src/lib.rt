@@ -1,67 +1,21 @@
 // Blocks of inner cells of a talus pass: first by how much each cell sheds, then where that goes, direction by direction where many of them shed.
 use grid::Sides;
-use inner_cells::beside;
-use talus::Shed;
-use talus::gain_at;
-use talus::shed_at;
+use talus::gain_around;
+use talus::shed_around;
 use talus_directions::slide_directions;
 ghost use mathlib.Core.Path.{_≡_};
 ghost use mathlib.Core.Bool.{cond};
 ghost use Prim.Native.Nat.{_+_, _*_, _<_, _≤_};
 ghost use lib.ListN.{length};
 ghost use lib.Ieee.{binary32, ofBits, lt, le};
-ghost use Rattle.talus.specs.Talus.{shedOf, gainsOf, slideCell, slideCells};
+ghost use Rattle.talus.specs.Talus.{slideCell, slideCells};
+ghost use Rattle.talus.specs.Places.{CellAt};
 ghost use Rattle.inner_cells.specs.Inner.{Inner, offsetsOf};
 ghost use Rattle.talus_directions.specs.Parts.{InnerRow};
 ghost use Rattle.talus_blocks.specs.Blocks.{shedTotal, movedFrom, Sheds, ShedsPut, shedders};
 
 // A block of which fewer cells shed is slid cell by cell, which then takes less time than all directions.
 const FEW: u32 = 12;
-
-// The shed of an inner cell.
-fn shed_inside(size: Sides, os: &[usize; 9], ts: &[f32; 9], hmap: &[f32], c: usize) -> Shed
-    requires { ⌜ Inner (size .w) (size .h) c ⌝ }
-    requires { ⌜ now os ≡ offsetsOf (size .w) ⌝ }
-    requires { ⌜ c < length (now hmap) ⌝ }
-    requires { ⌜ length (now hmap) ≡ size .w * size .h ⌝ }
-    ensures { λ r. ⌜ r ≡ shedOf (size .w) (size .h) (now (ts .entry)) (now (hmap .entry)) c ⌝ }
-{
-    let mut s = Shed {
-        total: 0.0,
-        greatest: 0.0,
-    };
-    let mut d: usize = 1;
-    while d < 9 {
-        s = shed_at(ts, hmap, c, beside(size, os, c, d), d, s);
-        d += 1;
-    }
-    s
-}
-
-// What the counted neighbours of an inner cell gain.
-fn gain_inside(
-    size: Sides,
-    os: &[usize; 9],
-    ts: &[f32; 9],
-    hmap: &[f32],
-    out: &mut [f32],
-    c: usize,
-    moved: f32,
-    total: f32,
-)
-    requires { ⌜ Inner (size .w) (size .h) c ⌝ }
-    requires { ⌜ now os ≡ offsetsOf (size .w) ⌝ }
-    requires { ⌜ c < length (now hmap) ⌝ }
-    requires { ⌜ length (now hmap) ≡ size .w * size .h ⌝ }
-    requires { ⌜ length (now out) ≡ length (now hmap) ⌝ }
-    ensures { λ _. ⌜ now (out .exit) ≡ gainsOf (size .w) (size .h) (now (ts .entry)) (now (hmap .entry)) c moved total (now (out .entry)) ⌝ }
-{
-    let mut d: usize = 1;
-    while d < 9 {
-        gain_at(ts, hmap, out, c, beside(size, os, c, d), d, moved, total);
-        d += 1;
-    }
-}
 
 // One inner cell, as `slide_cell`, whose total and loss are known.
 fn slide_inside(
@@ -72,14 +26,15 @@ fn slide_inside(
     out: &mut [f32],
     strength: f32,
     water: f32,
+    x: usize,
+    y: usize,
     c: usize,
     total: f32,
     moved: f32,
 )
     requires { ⌜ Inner (size .w) (size .h) c ⌝ }
     requires { ⌜ now os ≡ offsetsOf (size .w) ⌝ }
-    requires { ⌜ c < length (now hmap) ⌝ }
-    requires { ⌜ length (now hmap) ≡ size .w * size .h ⌝ }
+    requires { ⌜ CellAt (size .w) (size .h) (length (now hmap)) x y c ⌝ }
     requires { ⌜ length (now out) ≡ length (now hmap) ⌝ }
     requires { ⌜ total ≡ shedTotal (size .w) (size .h) (now ts) (now hmap) water c ⌝ }
     requires { ⌜ moved ≡ movedFrom (size .w) (size .h) (now ts) (now hmap) strength c ⌝ }
@@ -89,7 +44,7 @@ fn slide_inside(
         return;
     }
     out[c] = out[c] - moved;
-    gain_inside(size, os, ts, hmap, out, c, moved, total);
+    gain_around(size, ts, hmap, out, x, y, c, moved, total, os, true);
 }
 
 // The total of a cell of that height: nothing below the water level.
@@ -124,7 +79,7 @@ fn shed_block(
     let mut i: usize = 0;
     while i < n {
         let c = x + i + y * w;
-        let s = shed_inside(size, os, ts, hmap, c);
+        let s = shed_around(size, ts, hmap, x + i, y, c, os, true);
         totals[i] = dry_total(hmap[c], water, s.total);
         moved[i] = strength * s.greatest;
         i += 1;
@@ -186,6 +141,8 @@ fn slide_few(
             out,
             strength,
             water,
+            x + i,
+            y,
             c,
             totals[i],
             moved[i],

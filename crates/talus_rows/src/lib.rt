@@ -63,7 +63,18 @@ pub fn slide_row(
     let w = size.w;
     let n = inner_cells(size, y);
     let os = offsets(w);
-    slide_cells(size, ts, hmap, out, strength, water, y, 0, 1);
+    slide_cells(size, ts, hmap, out, strength, water, y, 0, 1, &os);
     slide_inner_cells(size, &os, ts, hmap, out, strength, water, y, n);
-    slide_cells(size, ts, hmap, out, strength, water, y, 1 + n, w - (1 + n));
+    slide_cells(
+        size,
+        ts,
+        hmap,
+        out,
+        strength,
+        water,
+        y,
+        1 + n,
+        w - (1 + n),
+        &os,
+    );
 }

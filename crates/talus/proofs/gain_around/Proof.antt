@@ -8,16 +8,16 @@ use Rattle.talus.proofs.gain_around.Statement.{statement}
 use Rattle.talus.proofs.gain_around.Tie as tie
 
 abbrev Inv-loop : tie.InvT-loop
-Inv-loop size ts hmap out₀ x y c moved total d₀ out d = Around (gainStep (size .w) (size .h) ts hmap c moved total) out₀ d out × (length out ≡ length out₀)
+Inv-loop size ts hmap out₀ x y c moved total os inner d₀ out d = Around (gainStep (size .w) (size .h) ts hmap c moved total) out₀ d out × (length out ≡ length out₀)
 
 abbrev μ-loop : tie.MeasureT-loop
-μ-loop size ts hmap out₀ x y c moved total d₀ out d = 9 - d
+μ-loop size ts hmap out₀ x y c moved total os inner d₀ out d = 9 - d
 
 loop-holds : tie.Need-loop-holds Inv-loop μ-loop
 loop-holds c = (around-none _ _, refl)
 
 gain-toward-requires : tie.Need-gain-toward-requires Inv-loop μ-loop
-gain-toward-requires c κs = (c .before .before .before .before .before .pre .0, (c .before .before .loop .inv .1 ∙ c .before .before .before .before .before .pre .1, c .before .loop-test .taken))
+gain-toward-requires c κs = (c .before .before .before .before .before .pre .0, (c .before .before .loop .inv .1 ∙ c .before .before .before .before .before .pre .1 .0, (c .before .before .before .before .before .pre .1 .1, (c .before .before .loop .inv .0 .first, c .before .loop-test .taken))))
 
 add-d : tie.Need-add-d Inv-loop μ-loop
 add-d c = search needs

@@ -7,16 +7,16 @@ use Rattle.talus.proofs.shed_around.Statement.{statement}
 use Rattle.talus.proofs.shed_around.Tie as tie
 
 abbrev Inv-loop : tie.InvT-loop
-Inv-loop size ts hmap x y c s₀ d₀ s d = Around (shedStep (size .w) (size .h) ts hmap c) (record { total = ofBits binary32 0; greatest = ofBits binary32 0 }) d s
+Inv-loop size ts hmap x y c os inner s₀ d₀ s d = Around (shedStep (size .w) (size .h) ts hmap c) (record { total = ofBits binary32 0; greatest = ofBits binary32 0 }) d s
 
 abbrev μ-loop : tie.MeasureT-loop
-μ-loop size ts hmap x y c s₀ d₀ s d = 9 - d
+μ-loop size ts hmap x y c os inner s₀ d₀ s d = 9 - d
 
 loop-holds : tie.Need-loop-holds Inv-loop μ-loop
 loop-holds c = around-none _ _
 
 shed-toward-requires : tie.Need-shed-toward-requires Inv-loop μ-loop
-shed-toward-requires c κs = (c .before .before .before .pre, c .loop-test .taken)
+shed-toward-requires c κs = (c .before .before .before .pre .0, (c .before .before .before .pre .1, (c .before .loop .inv .first, c .loop-test .taken)))
 
 add-d : tie.Need-add-d Inv-loop μ-loop
 add-d c = search needs

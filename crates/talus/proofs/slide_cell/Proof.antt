@@ -1,7 +1,7 @@
 use mathlib.Core.Path.{_∙_}
 use native.Mathlib.Omega.{arith}
 use lib.ListN.{length-set}
-use Rattle.talus.proofs.StepLaws.{cell-below}
+use Rattle.talus.proofs.StepLaws.{cell-below, any-cell}
 use Rattle.talus.proofs.CellLaws.{slide-under, slide-still, slide-moved}
 use borrow.Author.Needs.{needs}
 use Rattle.talus.proofs.slide_cell.Statement.{statement}
@@ -17,7 +17,7 @@ returns : tie.Need-returns
 returns c = slide-under _ _ _ _ _ _ _ _ (c .if1 .taken)
 
 shed-around-requires : tie.Need-shed-around-requires
-shed-around-requires c κs = search needs
+shed-around-requires c κs = (c .before .before .before .before .pre .0, any-cell)
 
 returns-2 : tie.Need-returns-2
 returns-2 c = slide-still _ _ _ _ _ _ _ _ _ (c .before .before .shed-around .ensures) (c .before .before .before .if1 .left) (c .if2 .taken)
@@ -35,7 +35,7 @@ slice-write-out : tie.Need-slice-write-out
 slice-write-out c = omega (arith, cell-below (c .before .before .before .before .before .before .before .before .before .pre .0))
 
 gain-around-requires : tie.Need-gain-around-requires
-gain-around-requires c κs = search needs
+gain-around-requires c κs = (c .before .before .before .before .before .before .before .before .before .before .pre .0, (simp length-set (c .before .before .before .before .before .before .before .before .before .before .pre .1), any-cell))
 
 same-length : tie.Need-same-length
 same-length c = c .before .before .gain-around .kept .1 .1 .1 .0 ∙ simp length-set

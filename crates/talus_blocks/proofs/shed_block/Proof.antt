@@ -7,7 +7,8 @@ use lib.ListN.{length, getD}
 use lib.Ieee.{nan, binary32, ofBits, mul, lt}
 use Rattle.lists.proofs.FillLaws.{Filling, filling-none, filling-more, stored}
 use Rattle.talus.specs.declared.Shed.{Shed}
-use Rattle.talus.proofs.RowLaws.{row-cell-below}
+use Rattle.talus.proofs.StepLaws.{inner-one}
+use Rattle.talus.proofs.RowLaws.{row-cell-at, row-cell-below}
 use Rattle.talus_directions.proofs.PassLaws.{inner-column}
 use Rattle.talus_blocks.specs.Blocks.{shedTotal, movedFrom}
 use Rattle.talus_blocks.proofs.shed_block.Statement.{statement}
@@ -38,8 +39,11 @@ mul-c c = omega (arith, below c)
 add-c-2 : tie.Need-add-c-2 Inv-loop μ-loop
 add-c-2 c = omega (arith, below c)
 
-shed-inside-requires : tie.Need-shed-inside-requires Inv-loop μ-loop
-shed-inside-requires c κs = (inner-column (c .before .before .before .pre .0) (c .before .loop .i) (c .loop-test .taken), (c .before .before .before .pre .1 .0, (below c, c .before .before .before .pre .0 .row .size)))
+add-shed-around : tie.Need-add-shed-around Inv-loop μ-loop
+add-shed-around c = omega (arith, below c)
+
+shed-around-requires : tie.Need-shed-around-requires Inv-loop μ-loop
+shed-around-requires c κs = (row-cell-at (c .before .loop .i) (c .before .before .before .pre .0 .row) (c .loop-test .taken), inner-one (inner-column (c .before .before .before .pre .0) (c .before .loop .i) (c .loop-test .taken)) (c .before .before .before .pre .1 .0))
 
 mul-dry-total : tie.Need-mul-dry-total Inv-loop μ-loop
 mul-dry-total c = omega (arith, below (c .before))
@@ -69,7 +73,7 @@ loop-less : tie.Need-loop-less Inv-loop μ-loop
 loop-less c = omega (arith, c .before .before .before .before .loop-test .taken)
 
 loop-again : tie.Need-loop-again Inv-loop μ-loop
-loop-again c = (omega (arith, c .before .before .before .before .loop-test .taken), (filling-more (c .before .before .before .before .before .loop .inv .1 .0) (c .before .dry-total .ensures ∙ ap (λ (s : Shed). cond (lt (getD (c .before .before .before .before .before .before .before .args .hmap .now) (c .before .before .before .before .before .before .before .args .x + c .before .before .before .before .before .loop .i + c .before .before .before .before .before .before .before .args .y * c .before .before .before .before .before .before .before .args .size .w) nan) (c .before .before .before .before .before .before .before .args .water)) (ofBits binary32 0) (s .total)) (c .before .before .before .shed-inside .ensures)) (omega (arith, few (c .before .before .before .before), c .before .before .before .before .before .before .before .pre .1 .1 .1 .0)), filling-more (c .before .before .before .before .before .loop .inv .1 .1) (ap (λ (s : Shed). mul binary32 (c .before .before .before .before .before .before .before .args .strength) (s .greatest)) (c .before .before .before .shed-inside .ensures)) (omega (arith, few (c .before .before .before .before), c .before .before .before .before .before .before .before .pre .1 .1 .1 .1))))
+loop-again c = (omega (arith, c .before .before .before .before .loop-test .taken), (filling-more (c .before .before .before .before .before .loop .inv .1 .0) (c .before .dry-total .ensures ∙ ap (λ (s : Shed). cond (lt (getD (c .before .before .before .before .before .before .before .args .hmap .now) (c .before .before .before .before .before .before .before .args .x + c .before .before .before .before .before .loop .i + c .before .before .before .before .before .before .before .args .y * c .before .before .before .before .before .before .before .args .size .w) nan) (c .before .before .before .before .before .before .before .args .water)) (ofBits binary32 0) (s .total)) (c .before .before .before .shed-around .ensures)) (omega (arith, few (c .before .before .before .before), c .before .before .before .before .before .before .before .pre .1 .1 .1 .0)), filling-more (c .before .before .before .before .before .loop .inv .1 .1) (ap (λ (s : Shed). mul binary32 (c .before .before .before .before .before .before .before .args .strength) (s .greatest)) (c .before .before .before .shed-around .ensures)) (omega (arith, few (c .before .before .before .before), c .before .before .before .before .before .before .before .pre .1 .1 .1 .1))))
 
 returns : tie.Need-returns Inv-loop μ-loop
 returns c = let i = c .before .loop .inv in record { total = stored (i .1 .0) (i .0) (c .loop-test .left); loss = stored (i .1 .1) (i .0) (c .loop-test .left) }
@@ -84,7 +88,8 @@ shed-block-spec =
     add-c
     mul-c
     add-c-2
-    shed-inside-requires
+    add-shed-around
+    shed-around-requires
     mul-dry-total
     shared-slice-read-dry-total
     dry-total-requires

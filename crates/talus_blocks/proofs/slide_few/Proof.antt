@@ -3,7 +3,7 @@ use mathlib.Core.Path.{_∙_}
 use native.Mathlib.Omega.{arith}
 use lib.ListN.{length}
 use Rattle.talus.specs.Talus.{slideCell, slideCells}
-use Rattle.talus.proofs.RowLaws.{row-cell-below, Passing, passing-none, passing-more, passing-done}
+use Rattle.talus.proofs.RowLaws.{row-cell-at, row-cell-below, Passing, passing-none, passing-more, passing-done}
 use Rattle.talus_directions.proofs.PassLaws.{inner-column}
 use Rattle.talus_blocks.proofs.slide_few.Statement.{statement}
 use Rattle.talus_blocks.proofs.slide_few.Tie as tie
@@ -33,6 +33,9 @@ mul-c c = omega (arith, below c)
 add-c-2 : tie.Need-add-c-2 Inv-loop μ-loop
 add-c-2 c = omega (arith, below c)
 
+add-slide-inside : tie.Need-add-slide-inside Inv-loop μ-loop
+add-slide-inside c = omega (arith, below (c .before))
+
 mul-slide-inside : tie.Need-mul-slide-inside Inv-loop μ-loop
 mul-slide-inside c = omega (arith, few (c .before))
 
@@ -46,7 +49,7 @@ element-copy-out-slide-inside-2 : tie.Need-element-copy-out-slide-inside-2 Inv-l
 element-copy-out-slide-inside-2 c = few (c .before .before)
 
 slide-inside-requires : tie.Need-slide-inside-requires Inv-loop μ-loop
-slide-inside-requires c κs = (inner-column (c .before .before .before .before .before .before .before .pre .0) (c .before .before .before .before .loop .i) (c .before .before .before .loop-test .taken), (c .before .before .before .before .before .before .before .pre .1 .0, (below (c .before .before .before), (c .before .before .before .before .before .before .before .pre .0 .row .size, (c .before .before .before .before .loop .inv .long ∙ c .before .before .before .before .before .before .before .pre .1 .1 .0, (c .before .before .before .before .before .before .before .pre .1 .1 .1 .1 .total (c .before .before .before .before .loop .i) (c .before .before .before .loop-test .taken), c .before .before .before .before .before .before .before .pre .1 .1 .1 .1 .loss (c .before .before .before .before .loop .i) (c .before .before .before .loop-test .taken)))))))
+slide-inside-requires c κs = (inner-column (c .before .before .before .before .before .before .before .pre .0) (c .before .before .before .before .loop .i) (c .before .before .before .loop-test .taken), (c .before .before .before .before .before .before .before .pre .1 .0, (row-cell-at (c .before .before .before .before .loop .i) (c .before .before .before .before .before .before .before .pre .0 .row) (c .before .before .before .loop-test .taken), (c .before .before .before .before .loop .inv .long ∙ c .before .before .before .before .before .before .before .pre .1 .1 .0, (c .before .before .before .before .before .before .before .pre .1 .1 .1 .1 .total (c .before .before .before .before .loop .i) (c .before .before .before .loop-test .taken), c .before .before .before .before .before .before .before .pre .1 .1 .1 .1 .loss (c .before .before .before .before .loop .i) (c .before .before .before .loop-test .taken))))))
 
 add-i : tie.Need-add-i Inv-loop μ-loop
 add-i c = omega (arith, few (c .before .before .before .before .before .before))
@@ -74,6 +77,7 @@ slide-few-spec =
     add-c
     mul-c
     add-c-2
+    add-slide-inside
     mul-slide-inside
     element-copy-out-slide-inside
     mul-slide-inside-2
