@@ -3,7 +3,6 @@ use native.Mathlib.Omega.{arith}
 use lib.ListN.{length-set}
 use Rattle.talus.proofs.StepLaws.{cell-below, any-cell}
 use Rattle.talus.proofs.CellLaws.{slide-under, slide-still, slide-moved}
-use borrow.Author.Needs.{needs}
 use Rattle.talus.proofs.slide_cell.Statement.{statement}
 use Rattle.talus.proofs.slide_cell.Tie as tie
 
