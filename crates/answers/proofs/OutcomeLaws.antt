@@ -7,10 +7,10 @@ use Rattle.lists.proofs.TestLaws.{clash, not-first, not-second}
 use Rattle.answers.specs.Outcome.{Outcome, gives, refused, refusedAt, refusalOf, answerOf, given, numberOf, placeOf}
 use Rattle.answers.specs.declared.Answer.{Answer}
 use Rattle.answers.specs.declared.Refusal.{Refusal}
-use Rattle.answers.specs.declared.Refusal.the-variants.{Side, ReducedSide, Length, Setting, Height, Receiver, List, Stream, Cells, Stopped, RunOff}
+use Rattle.answers.specs.declared.Refusal.the-variants.{Side, ReducedSide, Length, Setting, Height, Receiver, List, Stream, Cells, Stopped, RunOff, Row, Spacings, NoCell, NoBase, Metres, Tiles}
 
 -- what holds of the outcomes refused by a number alone and of those that carry a place, whatever they would give, holds of every refusal, with its number and place
-pub refusal-by : (P : ((A : Type 0) → Outcome A) → ℕ → ℕ → Type 0) → ((n : ℕ) → n < 23 → P (λ A. refused n) n 0) → ((n p : ℕ) → n < 23 → P (λ A. refusedAt n p) n p)
+pub refusal-by : (P : ((A : Type 0) → Outcome A) → ℕ → ℕ → Type 0) → ((n : ℕ) → n < 37 → P (λ A. refused n) n 0) → ((n p : ℕ) → n < 37 → P (λ A. refusedAt n p) n p)
     → (r : Refusal) → P (λ A. refusalOf r) (numberOf r) (placeOf r)
 refusal-by P alone at Side = alone 1 (omega arith)
 refusal-by P alone at ReducedSide = alone 2 (omega arith)
@@ -23,6 +23,12 @@ refusal-by P alone at Stream = alone 8 (omega arith)
 refusal-by P alone at Cells = alone 9 (omega arith)
 refusal-by P alone at Stopped = alone 21 (omega arith)
 refusal-by P alone at RunOff = alone 22 (omega arith)
+refusal-by P alone at Row = alone 31 (omega arith)
+refusal-by P alone at Spacings = alone 32 (omega arith)
+refusal-by P alone at NoCell = alone 33 (omega arith)
+refusal-by P alone at NoBase = alone 34 (omega arith)
+refusal-by P alone at (Metres c) = at 35 c (omega arith)
+refusal-by P alone at Tiles = alone 36 (omega arith)
 
 refusal-given : (r : Refusal) → given (refusalOf {A = Unit {0}} r) ≡ false
 refusal-given = refusal-by (λ o n p. given (o (Unit {0})) ≡ false) (λ n l. refl) (λ n p l. refl)

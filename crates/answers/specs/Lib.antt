@@ -1,2 +1,2 @@
--- What an answer means, in document 01's numbers.
+-- What an answer means, in the numbers of documents 01 and 02.
 pub mod Outcome

@@ -1,4 +1,4 @@
-// What every public call answers: a value, or one of document 01's refusals. specs/Outcome.antt gives each case document 01's
+// What every public call answers: a value, or one of the refusals of documents 01 and 02. specs/Outcome.antt gives each case its
 // number and the values that it carries.
 ghost use mathlib.Core.Path.{_≡_};
 ghost use Rattle.answers.specs.Outcome.{outsideOf, numberIn, placeIn, numberOf, placeOf, answerOf};
@@ -16,6 +16,12 @@ pub enum Refusal {
     Cells,
     Stopped,
     RunOff,
+    Row,
+    Spacings,
+    NoCell,
+    NoBase,
+    Metres(usize),
+    Tiles,
 }
 
 // The answer of a call that gives no value of its own.
@@ -40,7 +46,7 @@ pub fn outside(x: f32, lo: f32, hi: f32) -> bool
     true
 }
 
-// Document 01's number of a refusal.
+// The number of a refusal.
 pub fn number(r: Refusal) -> u32
     ensures { λ n. ⌜ n ≡ numberOf r ⌝ }
 {
@@ -56,6 +62,12 @@ pub fn number(r: Refusal) -> u32
         Refusal::Cells => 9,
         Refusal::Stopped => 21,
         Refusal::RunOff => 22,
+        Refusal::Row => 31,
+        Refusal::Spacings => 32,
+        Refusal::NoCell => 33,
+        Refusal::NoBase => 34,
+        Refusal::Metres(_) => 35,
+        Refusal::Tiles => 36,
     }
 }
 
@@ -75,6 +87,12 @@ pub fn place(r: Refusal) -> usize
         Refusal::Cells => 0,
         Refusal::Stopped => 0,
         Refusal::RunOff => 0,
+        Refusal::Row => 0,
+        Refusal::Spacings => 0,
+        Refusal::NoCell => 0,
+        Refusal::NoBase => 0,
+        Refusal::Metres(c) => c,
+        Refusal::Tiles => 0,
     }
 }
 

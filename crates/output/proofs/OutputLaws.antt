@@ -22,10 +22,10 @@ use Rattle.words.proofs.WordLaws.{words-length}
 use Rattle.stream_bytes.proofs.PutLaws.{sets-next, Putting, putting-none, putting-more}
 use Rattle.output.specs.Output.{gridRecord, heightBytes, rowRecord, rowRecords, endRecord, forInput}
 
--- every number of document 01 is small
+-- every number of documents 01 and 02 is small
 pub number-fits : (a : Answer) (n : ℕ) → n ≡ numberIn (answerOf a) → Fits w16 n
 number-fits Answer.Done n e = record { fits = omega arith }
-number-fits (Answer.Refused r) n e = record { fits = omega (arith, e, refusal-by (λ o n p. n < 23) (λ n l. l) (λ n p l. l) r) }
+number-fits (Answer.Refused r) n e = record { fits = omega (arith, e, refusal-by (λ o n p. n < 37) (λ n l. l) (λ n p l. l) r) }
 
 pub input-none : (n : ℕ) → n ≡ 0 → false ≡ forInput n
 input-none n e = sym (rw (le-ltb 0 n (omega arith)))
