@@ -1,0 +1,9 @@
+-- Square cells have the source's distances, by computation.
+use mathlib.Core.Path.{refl}
+use lib.Ieee.{ofBits, round, add, mul}
+use Rattle.square_root.specs.Root.{rootOf, nearestRoot, wholeRoot, digits}
+use Rattle.spacing.specs.Distances.{SquareDistances}
+
+pub square-distances : SquareDistances
+unfolding ofBits round add mul rootOf nearestRoot wholeRoot digits
+square-distances = refl

@@ -1,0 +1,2 @@
+-- Distances to neighbours.
+pub mod Distances
