@@ -1,14 +1,16 @@
--- Base level: the border by the ends of the two sides, and a base cell that every grid has.
+-- Base level: the border by the ends of the two sides, four open sides, and a base cell of a map that is open to the north.
 use Prim.Native.Nat.{ℕ, _-_, _<_}
-use mathlib.Core.Path.{_≡_, refl}
+use mathlib.Core.Path.{_≡_, refl, sym, ap}
 use mathlib.Core.Bool.{Bool, true, false, _||_}
 use mathlib.Core.List.{List}
-use native.Mathlib.Nat.{zero-mod}
+use native.Mathlib.Nat.{zero-div}
 use lib.Dec.{eqb}
 use lib.ListN.{getD}
 use lib.Ieee.{Float, nan, le}
-use Rattle.grid.specs.Sides.{cellOf}
-use Rattle.grid.specs.Base.{onBorder, baseOf}
+use borrow.Author.Tests.{eq-eqb}
+use Rattle.grid.specs.Sides.{cellOf, columnOf, rowOf}
+use Rattle.grid.specs.Base.{onBorder, openEnd, baseAt, baseOn, AllOpen}
+use Rattle.grid.specs.declared.OpenSides.{OpenSides}
 use Rattle.grid.proofs.SidesLaws.{column-cell, row-cell}
 
 or-swap : (a b c d : Bool) → (a || b || c || d) ≡ (a || c || (b || d))
@@ -21,10 +23,17 @@ or-swap false false false d = refl
 pub border-ends : (w h x y : ℕ) → onBorder w h x y ≡ (eqb x 0 || eqb x (w - 1) || (eqb y 0 || eqb y (h - 1)))
 border-ends w h x y = or-swap (eqb x 0) (eqb y 0) (eqb x (w - 1)) (eqb y (h - 1))
 
--- cell 0 is a corner
-pub base-first : (w h : ℕ) (water : Float) (hs : List Float) → baseOf w h water hs 0 ≡ true
-base-first w h water hs = rw (zero-mod w)
+pub all-open : AllOpen
+all-open w h water hs c = ap (λ (b : Bool). b || le (getD hs c nan) water) (sym (border-ends w h (columnOf w c) (rowOf w c)))
+
+-- cell 0 lies on the north side
+pub base-first : (w h : ℕ) (o : OpenSides) (water : Float) (hs : List Float) → o .north ≡ true → baseOn w h o water hs 0 ≡ true
+base-first w h o water hs e = rw (e, zero-div w, eq-eqb 0 0 refl) (second (openEnd (o .west) (o .east) w (columnOf w 0)) (le (getD hs 0 nan) water))
+  where
+    second : (a b : Bool) → (a || true || b) ≡ true
+    second true b = refl
+    second false b = refl
 
 -- base level of a cell from its column and row, as `is_base` has it
-pub base-cell : (w h x y : ℕ) (water : Float) (hs : List Float) → x < w → (onBorder w h x y || le (getD hs (cellOf w x y) nan) water) ≡ baseOf w h water hs (cellOf w x y)
-base-cell w h x y water hs l = rw (column-cell w x y l, row-cell w x y l)
+pub base-cell : (w h x y : ℕ) (o : OpenSides) (water : Float) (hs : List Float) → x < w → baseAt w h o water x y (getD hs (cellOf w x y) nan) ≡ baseOn w h o water hs (cellOf w x y)
+base-cell w h x y o water hs l = rw (column-cell w x y l, row-cell w x y l)

@@ -1,11 +1,14 @@
--- Document 01, 'Network': base level is every border cell and every cell with height ≤ the water level.
+-- Base level: every cell on an open side, and every cell with height ≤ the water level. With four open sides that is document 01's, 'Network':
+-- every border cell and every cell with height ≤ the water level.
 use Prim.Native.Nat.{ℕ, _-_}
-use mathlib.Core.Bool.{Bool, _||_}
+use mathlib.Core.Path.{_≡_}
+use mathlib.Core.Bool.{Bool, true, _&&_, _||_}
 use mathlib.Core.List.{List}
 use lib.ListN.{getD}
 use lib.Dec.{eqb}
 use lib.Ieee.{Float, nan, le}
 use Rattle.grid.specs.Sides.{columnOf, rowOf}
+use Rattle.grid.specs.declared.OpenSides.{OpenSides}
 
 -- column x, row y lies on a side of the grid
 abbrev pub onBorder : ℕ → ℕ → ℕ → ℕ → Bool
@@ -14,10 +17,25 @@ onBorder w h x y = eqb x 0 || eqb y 0 || eqb x (w - 1) || eqb y (h - 1)
 abbrev pub borderAt : ℕ → ℕ → ℕ → Bool
 borderAt w h c = onBorder w h (columnOf w c) (rowOf w c)
 
--- base level, with the cells that are base whatever their height as an argument
-abbrev pub baseBy : (ℕ → Bool) → Float → List Float → ℕ → Bool
-baseBy edge water hs c = edge c || le (getD hs c nan) water
+-- x is the first place of its side, and that end is open, or the last, and that one is
+abbrev pub openEnd : Bool → Bool → ℕ → ℕ → Bool
+openEnd first last side x = (first && eqb x 0) || (last && eqb x (side - 1))
 
--- base level of document 01: the edge is the border
-abbrev pub baseOf : ℕ → ℕ → Float → List Float → ℕ → Bool
-baseOf w h = baseBy (borderAt w h)
+-- column x, row y lies on at least one open side
+abbrev pub onOpen : OpenSides → ℕ → ℕ → ℕ → ℕ → Bool
+onOpen o w h x y = openEnd (o .west) (o .east) w x || openEnd (o .north) (o .south) h y
+
+-- base level, of column x, row y with a height
+abbrev pub baseAt : ℕ → ℕ → OpenSides → Float → ℕ → ℕ → Float → Bool
+baseAt w h o water x y height = onOpen o w h x y || le height water
+
+-- base level, of a cell of a map with heights hs
+abbrev pub baseOn : ℕ → ℕ → OpenSides → Float → List Float → ℕ → Bool
+baseOn w h o water hs c = baseAt w h o water (columnOf w c) (rowOf w c) (getD hs c nan)
+
+abbrev pub allOpen : OpenSides
+allOpen = record { north = true; east = true; south = true; west = true }
+
+-- With four open sides base level is every border cell and every cell with height ≤ the water level.
+abbrev pub AllOpen : Type 0
+AllOpen = (w h : ℕ) (water : Float) (hs : List Float) (c : ℕ) → baseOn w h allOpen water hs c ≡ (borderAt w h c || le (getD hs c nan) water)

@@ -1,20 +1,27 @@
 // The grid that every call works on: sides, cells, the eight neighbours, base level, the first height that is not finite, and a copy of heights.
 use floats::is_finite;
 ghost use mathlib.Core.Path.{_≡_};
-ghost use mathlib.Core.Bool.{_||_};
+ghost use mathlib.Core.Bool.{_&&_, _||_};
 ghost use Prim.Native.Nat.{_-_, _*_, _<_, max, min};
 ghost use lib.Dec.{eqb};
 ghost use lib.ListN.{length};
-ghost use lib.Ieee.{le};
 ghost use Rattle.grid.specs.Sides.{badSide, badSides};
 ghost use Rattle.grid.specs.Directions.{Steps, Place, shiftedOf, neighbourOf};
-ghost use Rattle.grid.specs.Base.{onBorder};
+ghost use Rattle.grid.specs.Base.{openEnd, baseAt, allOpen};
 ghost use Rattle.grid.specs.Heights.{firstNotFinite, allFinite};
 
 // A grid of w columns and h rows.
 pub struct Sides {
     pub w: usize,
     pub h: usize,
+}
+
+// Which sides of a map are open: the cells on an open side are base level.
+pub struct OpenSides {
+    pub north: bool,
+    pub east: bool,
+    pub south: bool,
+    pub west: bool,
 }
 
 // Column and row of each direction: none, NW, N, NE, W, E, SW, S, SE.
@@ -104,14 +111,48 @@ pub fn at_end(x: usize, side: usize) -> bool
     x == side - 1
 }
 
-// Base level: a border cell, or one that is not above the water.
-pub fn is_base(g: Sides, x: usize, y: usize, height: f32, water: f32) -> bool
-    ensures { λ r. ⌜ r ≡ (onBorder (g .w) (g .h) x y || le height water) ⌝ }
+// Four open sides: every border cell is base level.
+pub fn all_open() -> OpenSides
+    ensures { λ r. ⌜ r ≡ allOpen ⌝ }
 {
-    if at_end(x, g.w) {
+    OpenSides {
+        north: true,
+        east: true,
+        south: true,
+        west: true,
+    }
+}
+
+// Whether x is an end of its side that is open.
+fn at_open(is_open: bool, x: usize, end: usize) -> bool
+    ensures { λ r. ⌜ r ≡ («is_open» && eqb x end) ⌝ }
+{
+    if is_open {
+        return x == end;
+    }
+    false
+}
+
+// Whether x is the first place of its side, and that end is open, or the last, and that one is.
+fn open_end(first: bool, last: bool, side: usize, x: usize) -> bool
+    requires { ⌜ 0 < side ⌝ }
+    ensures { λ r. ⌜ r ≡ openEnd first last side x ⌝ }
+{
+    if at_open(first, x, 0) {
         return true;
     }
-    if at_end(y, g.h) {
+    at_open(last, x, side - 1)
+}
+
+// Base level: a cell on an open side, or one that is not above the water.
+pub fn is_base(g: Sides, sides: OpenSides, water: f32, x: usize, y: usize, height: f32) -> bool
+    requires { ⌜ (0 < g .w) × (0 < g .h) ⌝ }
+    ensures { λ r. ⌜ r ≡ baseAt (g .w) (g .h) sides water x y height ⌝ }
+{
+    if open_end(sides.west, sides.east, g.w, x) {
+        return true;
+    }
+    if open_end(sides.north, sides.south, g.h, y) {
         return true;
     }
     height <= water

@@ -1,29 +1,23 @@
-use borrow.Author.Needs.{needs}
 use mathlib.Core.Path.{sym, _∙_}
-use Rattle.grid.proofs.BaseLaws.{border-ends}
+use borrow.Author.Needs.{needs}
 use Rattle.grid.proofs.is_base.Statement.{statement}
 use Rattle.grid.proofs.is_base.Tie as tie
 
-at-end-requires : tie.Need-at-end-requires
-at-end-requires c κs = search needs
+open-end-requires : tie.Need-open-end-requires
+open-end-requires c κs = search needs
 
 returns : tie.Need-returns
-returns c =
-    let a = c .before .before .args in
-    rw (border-ends (a .g .w) (a .g .h) (a .x) (a .y), sym (c .before .at-end .ensures) ∙ c .if1 .taken)
+returns c = rw (sym (c .before .open-end .ensures) ∙ c .if1 .taken)
 
-at-end-requires-2 : tie.Need-at-end-requires-2
-at-end-requires-2 c κs = search needs
+open-end-requires-2 : tie.Need-open-end-requires-2
+open-end-requires-2 c κs = search needs
 
 returns-2 : tie.Need-returns-2
-returns-2 c =
-    let a = c .before .before .before .before .args in
-    rw (border-ends (a .g .w) (a .g .h) (a .x) (a .y), sym (c .before .before .before .at-end .ensures) ∙ c .before .before .if1 .left, sym (c .before .at-end2 .ensures) ∙ c .if2 .taken)
+returns-2 c = rw (sym (c .before .before .before .open-end .ensures) ∙ c .before .before .if1 .left, sym (c .before .open-end2 .ensures) ∙ c .if2 .taken)
 
 returns-3 : tie.Need-returns-3
-returns-3 c =
-    let a = c .before .before .before .before .args in
-    rw (border-ends (a .g .w) (a .g .h) (a .x) (a .y), sym (c .before .before .before .at-end .ensures) ∙ c .before .before .if1 .left, sym (c .before .at-end2 .ensures) ∙ c .if2 .left)
+returns-3 c = rw (sym (c .before .before .before .open-end .ensures) ∙ c .before .before .if1 .left, sym (c .before .open-end2 .ensures) ∙ c .if2 .left)
 
 pub is-base-spec : {M : Type 1} → statement M
-is-base-spec = tie.close (tie.spec at-end-requires returns at-end-requires-2 returns-2 returns-3)
+is-base-spec =
+    tie.close (tie.spec open-end-requires returns open-end-requires-2 returns-2 returns-3)
