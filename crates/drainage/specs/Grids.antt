@@ -1,7 +1,7 @@
 -- The theorems' premises for the grids that document 01 accepts: sides 1 to 4,096 and finite binary32 heights. Heights compare as their ranks.
 use Prim.Native.Nat.{ℕ, _*_}
 use mathlib.Core.Path.{_≡_}
-use mathlib.Core.Bool.{true}
+use mathlib.Core.Bool.{true, false}
 use mathlib.Core.List.{List}
 use lib.Dec.{T}
 use lib.ListN.{length}
@@ -11,7 +11,8 @@ use Rattle.float_order.specs.Order.{rank}
 use Rattle.float_order.specs.Fit.{Fit}
 use Rattle.grid.specs.Sides.{InRange}
 use Rattle.grid.specs.Heights.{allFinite}
-use Rattle.drainage.specs.Ground.{floats, gridGround}
+use Rattle.drainage.specs.Ground.{floats, gridGround, noBase}
+use Rattle.drainage.specs.declared.Land.{Land}
 use Rattle.drainage.specs.Theorems.{Network}
 
 -- a height that document 01 accepts
@@ -19,6 +20,7 @@ pub record Height (x : Float) : Type 0 where
   pub fit : T (fits binary32 x)
   pub real : T (finite x)
 
--- Every routing that document 01 accepts is a network.
+-- Every routing that is accepted, of whatever sides and distances, is a network where some cell is base level.
 abbrev pub GridNetworks : Type 0
-GridNetworks = (w h : ℕ) (water : Float) (hs : List Float) → InRange w h → length hs ≡ w * h → Fit hs → allFinite hs ≡ true → Network floats (gridGround w h water hs) hs rank
+GridNetworks = (w h : ℕ) (land : Land) (hs : List Float) → InRange w h → length hs ≡ w * h → Fit hs → allFinite hs ≡ true → noBase (gridGround w h land hs) ≡ false
+    → Network floats (gridGround w h land hs) hs rank

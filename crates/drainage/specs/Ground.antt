@@ -1,14 +1,21 @@
 -- What a routing stands on: the cells with their neighbours, which of them are base level, the distance of each direction, and how heights of
 -- a kind compare. Other base cells, other distances and other kinds of heights are other values of these two records.
-use Prim.Native.Nat.{ℕ, _*_}
-use mathlib.Core.Bool.{Bool}
-use mathlib.Core.List.{List, [], _∷_}
-use lib.ListN.{getD}
-use lib.Ieee.{Float, nan, binary32, ofBits, lt, sub, div}
+use Prim.Native.Nat.{ℕ, zero, suc, _*_}
+use mathlib.Core.Bool.{Bool, false, not, _||_}
+use mathlib.Core.List.{List}
+use lib.Ieee.{Float, nan, binary32, lt, sub, div}
 use Rattle.floats.specs.Stand.{maxOf}
 use Rattle.floats.specs.Key.{keyOf}
 use Rattle.grid.specs.Directions.{neighbourAt}
-use Rattle.grid.specs.Base.{baseOf}
+use Rattle.grid.specs.Base.{baseOn, allOpen}
+use Rattle.spacing.specs.Distances.{distanceIn, squareDistances}
+use Rattle.spacing.specs.declared.Distances.{Distances}
+use Rattle.drainage.specs.declared.Land.{Land}
+
+-- whether a test holds of some cell below m
+unfoldable pub someBelow : ℕ → (ℕ → Bool) → Bool
+someBelow zero p = false
+someBelow (suc m) p = p m || someBelow m p
 
 pub record Ground : Type 0 where
   -- the number of cells; cells are 0 … cells - 1
@@ -37,14 +44,18 @@ pub record Kind (H : Type 0) : Type 0 where
 abbrev pub floats : Kind Float
 floats = record { key = keyOf; raised = maxOf; lower = lt; slope = λ a b d. div binary32 (sub binary32 a b) d; absent = nan }
 
--- 1 to the sides, `SQRT_2` to the corners
-abbrev pub distances : List Float
-distances =
-    let one = ofBits binary32 0x3f80_0000 in
-    let diagonal = ofBits binary32 0x3fb5_04f3 in
-    one ∷ diagonal ∷ one ∷ diagonal ∷ one ∷ one ∷ diagonal ∷ one ∷ diagonal ∷ []
+-- a grid of w × h cells with eight neighbours, by the distances to them and the cells that are base level
+abbrev pub groundBy : ℕ → ℕ → Distances → (ℕ → Bool) → Ground
+groundBy w h distances base = record { cells = w * h; near = neighbourAt w h; base = base; distance = distanceIn distances }
 
--- the grid of document 01: w × h cells, eight neighbours, its border and every cell at or below the water level base
-abbrev pub gridGround : ℕ → ℕ → Float → List Float → Ground
-gridGround w h water hs =
-    record { cells = w * h; near = neighbourAt w h; base = baseOf w h water hs; distance = λ d. getD distances d nan }
+-- the grid of heights hs on a land: every cell on an open side and every cell at or below the water level is base
+abbrev pub gridGround : ℕ → ℕ → Land → List Float → Ground
+gridGround w h land hs = groundBy w h (land .distances) (baseOn w h (land .sides) (land .«water_level») hs)
+
+-- document 01's land: four open sides and square cells
+abbrev pub squareLand : Float → Land
+squareLand water = record { «water_level» = water; sides = allOpen; distances = squareDistances }
+
+-- no cell is base level
+abbrev pub noBase : Ground → Bool
+noBase g = not (someBelow (g .cells) (g .base))

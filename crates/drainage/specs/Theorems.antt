@@ -16,7 +16,7 @@ use Rattle.drainage.specs.Chains.{Near, LeastCrest}
 
 -- Neighbours are other cells and mutual, steps to neighbours join any two cells, and some cell is base level.
 pub record Joined (g : Ground) : Type 1 where
-  pub few : g .cells ≤ 2 ^ 24
+  pub few : g .cells ≤ 2 ^ 32
   pub other : (c m : ℕ) → c < g .cells → Near g c m → c ≡ m → ⊥
   pub both-ways : (c m : ℕ) → c < g .cells → Near g c m → Near g m c
   pub joins : (P : ℕ → Type 0) → ((c m : ℕ) → c < g .cells → Near g c m → P c → P m) → (a : ℕ) → a < g .cells → P a → (b : ℕ) → b < g .cells → P b

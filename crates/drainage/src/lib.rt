@@ -1,2 +1,26 @@
 // The drainage network of a height grid, as definitions and theorems: the flood, receivers, ways down, drainage areas, work lists and least crests.
-// No function stands here; flow and the crates below it compute what specs/ defines.
+// flow and the crates below it compute what specs/ defines; what a routing stands on is here, as definitions and code share it.
+use grid::OpenSides;
+use grid::all_open;
+use spacing::Distances;
+use spacing::square_distances;
+ghost use mathlib.Core.Path.{_≡_};
+ghost use Rattle.drainage.specs.Ground.{squareLand};
+
+// What a routing stands on besides its heights: the water level, the sides that drain, and the distances to neighbours.
+pub struct Land {
+    pub water_level: f32,
+    pub sides: OpenSides,
+    pub distances: Distances,
+}
+
+// The land of document 01: four open sides and square cells.
+pub fn square_land(water_level: f32) -> Land
+    ensures { λ r. ⌜ r ≡ squareLand «water_level» ⌝ }
+{
+    Land {
+        water_level: water_level,
+        sides: all_open(),
+        distances: square_distances(),
+    }
+}
