@@ -2,11 +2,12 @@
 use Prim.Native.Nat.{ℕ, _*_, _<_}
 use mathlib.Core.Path.{_≡_}
 use mathlib.Core.List.{List}
-use mathlib.Core.Bool.{_&&_, cond}
+use mathlib.Core.Bool.{Bool, _&&_, cond}
 use lib.ListN.{getD}
 use lib.Ieee.{Float, nan, binary32, lt, sub, div}
 use Rattle.grid.specs.Directions.{Adjacent}
-use Rattle.drainage.specs.Ground.{floats, gridGround, distances}
+use Rattle.spacing.specs.declared.Distances.{Distances}
+use Rattle.drainage.specs.Ground.{floats, groundBy}
 use Rattle.drainage.specs.Receivers.{Steepest, compared, receiverOf}
 use Rattle.network.specs.declared.Best.{Best}
 
@@ -18,19 +19,19 @@ abbrev pub slopeDown : List Float → ℕ → ℕ → Float → Float
 slopeDown spill c m distance = div binary32 (sub binary32 (getD spill c nan) (getD spill m nan)) distance
 
 -- cell m, in direction d of cell c, against the receiver so far; `cell` stands for it
-abbrev pub comparedAs : List Float → ℕ → ℕ → ℕ → ℕ → Best → Best
-comparedAs spill c d m cell best =
-    let slope = slopeDown spill c m (getD distances d nan) in
+abbrev pub comparedAs : List Float → List Float → ℕ → ℕ → ℕ → ℕ → Best → Best
+comparedAs by-direction spill c d m cell best =
+    let slope = slopeDown spill c m (getD by-direction d nan) in
     cond (lt (getD spill m nan) (getD spill c nan) && lt (best .slope) slope) (record { cell = cell; slope = slope }) best
 
--- whatever water level and heights made the ground
-pub record Compared (w h : ℕ) (spill : List Float) (c d m : ℕ) (best r : Best) : Type 0 where
-  pub is : (water : Float) (hs : List Float) → steepestAs r ≡ compared floats (gridGround w h water hs) spill c d m (steepestAs best)
+-- whatever cells are base level
+pub record Compared (ds : Distances) (w h : ℕ) (spill : List Float) (c d m : ℕ) (best r : Best) : Type 0 where
+  pub is : (base : ℕ → Bool) → steepestAs r ≡ compared floats (groundBy w h ds base) spill c d m (steepestAs best)
   pub inside : best .cell < w * h → r .cell < w * h
 
 -- the receiver of c, whose finder is f: c itself, f or another cell
-pub record Received (w h : ℕ) (spill : List Float) (c f r : ℕ) : Type 0 where
-  pub is : (water : Float) (hs : List Float) → r ≡ receiverOf floats (gridGround w h water hs) spill c f
+pub record Received (ds : Distances) (w h : ℕ) (spill : List Float) (c f r : ℕ) : Type 0 where
+  pub is : (base : ℕ → Bool) → r ≡ receiverOf floats (groundBy w h ds base) spill c f
   pub inside : r < w * h
 
 -- every finder is the cell itself or a neighbour

@@ -1,6 +1,7 @@
 // The receiver of one cell, after flow.rs: its finder, or the neighbour of a strictly lower spill height down to which the slope is the greatest.
 use grid::Sides;
 use grid::neighbour;
+use spacing::Distances;
 use ways::receiver_distance;
 ghost use Prim.Native.Nat.{_*_, _^_, _≤_, _<_};
 ghost use mathlib.Core.Path.{_≡_};
@@ -8,20 +9,8 @@ ghost use mathlib.Core.Bool.{cond};
 ghost use lib.ListN.{length};
 ghost use Rattle.grid.specs.Sides.{cellOf};
 ghost use Rattle.grid.specs.Directions.{Place, Adjacent};
+ghost use Rattle.spacing.specs.Distances.{nineOf};
 ghost use Rattle.network.specs.Passes.{comparedAs, Compared, Received};
-
-// The distance of each direction in cells; entry 0 is that of a cell to itself.
-const DISTANCE: [f32; 9] = [
-    1.0,
-    1.41421356,
-    1.0,
-    1.41421356,
-    1.0,
-    1.0,
-    1.41421356,
-    1.0,
-    1.41421356,
-];
 
 // The receiver of a cell so far, or what stands for it, and the slope to it.
 pub struct Best {
@@ -44,15 +33,23 @@ fn slope_where(first: bool, a: f32, b: f32) -> f32
 
 // Neighbour m of cell c, in direction d, against the receiver so far: with a strictly lower spill height and a strictly greater slope it takes the
 // place, as `cell`.
-pub fn compare(spill: &[f32], c: usize, d: usize, m: usize, cell: u32, best: Best) -> Best
+pub fn compare(
+    by_direction: &[f32; 9],
+    spill: &[f32],
+    c: usize,
+    d: usize,
+    m: usize,
+    cell: u32,
+    best: Best,
+) -> Best
     requires { ⌜ c < length (now spill) ⌝ }
     requires { ⌜ m < length (now spill) ⌝ }
     requires { ⌜ d < 9 ⌝ }
-    ensures { λ r. ⌜ r ≡ comparedAs (now (spill .entry)) c d m cell best ⌝ }
+    ensures { λ r. ⌜ r ≡ comparedAs (now («by_direction» .entry)) (now (spill .entry)) c d m cell best ⌝ }
 {
     let from = spill[c];
     let to = spill[m];
-    let slope = (from - to) / DISTANCE[d];
+    let slope = (from - to) / by_direction[d];
     let steeper = (to < from) & (slope > best.slope);
     Best {
         cell: cell_where(steeper, cell, best.cell),
@@ -61,25 +58,44 @@ pub fn compare(spill: &[f32], c: usize, d: usize, m: usize, cell: u32, best: Bes
 }
 
 // The same of any cell: outside the grid there is no neighbour.
-fn compare_toward(g: Sides, spill: &[f32], c: usize, d: usize, m: usize, best: Best) -> Best
+fn compare_toward(
+    g: Sides,
+    ds: Distances,
+    by_direction: &[f32; 9],
+    spill: &[f32],
+    c: usize,
+    d: usize,
+    m: usize,
+    best: Best,
+) -> Best
+    requires { ⌜ now «by_direction» ≡ nineOf ds ⌝ }
     requires { ⌜ length (now spill) ≡ g .w * g .h ⌝ }
     requires { ⌜ g .w * g .h ≤ 2 ^ 24 ⌝ }
     requires { ⌜ c < g .w * g .h ⌝ }
     requires { ⌜ d < 9 ⌝ }
-    ensures { λ r. ⌜ Compared (g .w) (g .h) (now (spill .entry)) c d m best r ⌝ }
+    ensures { λ r. ⌜ Compared ds (g .w) (g .h) (now (spill .entry)) c d m best r ⌝ }
 {
     if spill.len() <= m {
         return best;
     }
-    compare(spill, c, d, m, m as u32, best)
+    compare(by_direction, spill, c, d, m, m as u32, best)
 }
 
 // The receiver of column x, row y, whose finder is f: the steepest strictly lower neighbour, or the finder; a base cell's is the cell itself.
-pub fn receiver(g: Sides, spill: &[f32], x: usize, y: usize, f: u32) -> u32
+pub fn receiver(
+    g: Sides,
+    ds: Distances,
+    by_direction: &[f32; 9],
+    spill: &[f32],
+    x: usize,
+    y: usize,
+    f: u32,
+) -> u32
+    requires { ⌜ now «by_direction» ≡ nineOf ds ⌝ }
     requires { ⌜ Place (g .w) (g .h) x y ⌝ }
     requires { ⌜ length (now spill) ≡ g .w * g .h ⌝ }
     requires { ⌜ ((f ≡ cellOf (g .w) x y → ⊥) → Adjacent (g .w) (g .h) (cellOf (g .w) x y) f) ⌝ }
-    ensures { λ r. ⌜ Received (g .w) (g .h) (now (spill .entry)) (cellOf (g .w) x y) f r ⌝ }
+    ensures { λ r. ⌜ Received ds (g .w) (g .h) (now (spill .entry)) (cellOf (g .w) x y) f r ⌝ }
 {
     let w = g.w;
     let c = x + y * w;
@@ -89,12 +105,12 @@ pub fn receiver(g: Sides, spill: &[f32], x: usize, y: usize, f: u32) -> u32
     }
     let mut best = Best {
         cell: f,
-        slope: (spill[c] - spill[found]) / receiver_distance(c, found, w),
+        slope: (spill[c] - spill[found]) / receiver_distance(c, found, w, ds),
     };
     let mut d: usize = 0;
     while d < 8 {
         let m = neighbour(g, x, y, d + 1);
-        best = compare_toward(g, spill, c, d + 1, m, best);
+        best = compare_toward(g, ds, by_direction, spill, c, d + 1, m, best);
         d += 1;
     }
     best.cell

@@ -18,9 +18,10 @@ use Rattle.grid.specs.Directions.{neighbourAt, Adjacent}
 use Rattle.grid.proofs.SidesLaws.{cell-lt, cell-back, cells-bound}
 use Rattle.inner_cells.specs.Inner.{Inner, offsetOf, offsetsOf}
 use Rattle.inner_cells.proofs.InnerLaws.{inner-cell, inner-offset, offset-fits, offset-read}
-use Rattle.drainage.specs.Ground.{distances}
+use Rattle.spacing.specs.Distances.{nineOf, distanceIn}
+use Rattle.spacing.specs.declared.Distances.{Distances}
 use Rattle.ways.specs.Apart.{apart}
-use Rattle.steps.specs.Step.{Near, distanceTable, placeOf}
+use Rattle.steps.specs.Step.{Near, placeDistances, placeOf}
 use Rattle.steps.proofs.PlaceLaws.{near-of, gap-bound, place-read}
 use Rattle.network.specs.declared.Best.{Best}
 use Rattle.network.specs.Passes.{slopeDown, comparedAs, Received}
@@ -52,10 +53,10 @@ module _ {w h c : ℕ} (a : Inner w h c) where
 
 -- the slope down to a finder, as the code works it out
 pub slope-read :
-    (w : ℕ) (spill : List Float) (c f : ℕ) → Near w c f → 3 ≤ w → (ds : List Float) (place : ℕ) → ds ≡ distanceTable → place ≡ placeOf w c f
-    → slopeDown spill c f (getD ds place nan) ≡ slopeDown spill c f (apart w c f)
-slope-read w spill c f near wide ds place e p =
-    ap (slopeDown spill c f) (place-read near wide ds place e p)
+    (ds : Distances) (w : ℕ) (spill : List Float) (c f : ℕ) → Near w c f → 3 ≤ w → (by-place : List Float) (place : ℕ) → by-place ≡ placeDistances ds
+    → place ≡ placeOf w c f
+    → slopeDown spill c f (getD by-place place nan) ≡ slopeDown spill c f (apart ds w c f)
+slope-read ds w spill c f near wide by-place place e p = ap (slopeDown spill c f) (place-read near ds wide by-place place e p)
 
 -- the offsets in fewer bits
 pub offsets-long : (w : ℕ) (os : List ℕ) → os ≡ offsetsOf w → 9 ≡ length os
@@ -76,71 +77,71 @@ offset-where true m o s p e = record { cell = e; slope = refl }
 offset-where false m o s p e = p
 
 -- the best of the finder f and the first d neighbours of cell c, by its offset
-pub record Following (w h : ℕ) (spill : List Float) (c f d : ℕ) (best : Best) : Type 0 where
+pub record Following (ds : Distances) (w h : ℕ) (spill : List Float) (c f d : ℕ) (best : Best) : Type 0 where
   pub lead : Best
-  pub leads : Leading w h spill c f d lead
+  pub leads : Leading ds w h spill c f d lead
   pub same : Offset w c lead best
 
-module _ (w h : ℕ) (spill : List Float) (c f : ℕ) (long : length spill ≡ w * h) (a : Inner w h c) (n : (f ≡ c) ⊎ Adjacent w h c f) where
-  following-none : Following w h spill c f 0 (finderAs w spill c f)
+module _ (ds : Distances) (w h : ℕ) (spill : List Float) (c f : ℕ) (long : length spill ≡ w * h) (a : Inner w h c) (n : (f ≡ c) ⊎ Adjacent w h c f) where
+  following-none : Following ds w h spill c f 0 (finderAs ds w spill c f)
   following-none = record {
-    lead = record { cell = f; slope = slopeDown spill c f (apart w c f) };
-    leads = leading-none w h spill c f (inner-inside a) n (apart w c f) refl;
+    lead = record { cell = f; slope = slopeDown spill c f (apart ds w c f) };
+    leads = leading-none ds w h spill c f (inner-inside a) n (apart ds w c f) refl;
     same = record { cell = omega (arith, finder-back a n); slope = refl };
   }
 
   following-more :
-      (d : ℕ) (b : Best) → d < 8 → Following w h spill c f d b
-      → Following w h spill c f (d + 1) (comparedAs spill c (d + 1) (neighbourAt w h c (d + 1)) (offsetOf w (d + 1)) b)
+      (d : ℕ) (b : Best) → d < 8 → Following ds w h spill c f d b
+      → Following ds w h spill c f (d + 1) (comparedAs (nineOf ds) spill c (d + 1) (neighbourAt w h c (d + 1)) (offsetOf w (d + 1)) b)
   following-more d b l p =
       let m : ℕ = neighbourAt w h c (d + 1) in
       let inside = inner-cell w h c (d + 1) (omega arith) (omega arith) a in
       record {
-        lead = comparedAs spill c (d + 1) m m (p .lead);
+        lead = comparedAs (nineOf ds) spill c (d + 1) m m (p .lead);
         leads =
-            leading-more w h spill c f d m (p .lead) _ (p .leads) refl
-            (compared-inside w h spill c (d + 1) m (p .lead) long _ (omega (arith, inside, long)) refl);
+            leading-more ds w h spill c f d m (p .lead) _ (p .leads) refl
+            (compared-inside ds w h spill c (d + 1) m (p .lead) long _ (omega (arith, inside, long)) refl refl);
         same =
             subst
             (λ (x : Float).
-            Offset w c (comparedAs spill c (d + 1) m m (p .lead))
-            (cond (lt (getD spill m nan) (getD spill c nan) && lt x (slopeDown spill c m (getD distances (d + 1) nan)))
-            (record { cell = offsetOf w (d + 1); slope = slopeDown spill c m (getD distances (d + 1) nan) }) b))
+            Offset w c (comparedAs (nineOf ds) spill c (d + 1) m m (p .lead))
+            (cond (lt (getD spill m nan) (getD spill c nan) && lt x (slopeDown spill c m (distanceIn ds (d + 1))))
+            (record { cell = offsetOf w (d + 1); slope = slopeDown spill c m (distanceIn ds (d + 1)) }) b))
             (sym (p .same .slope))
-            (offset-where (lt (getD spill m nan) (getD spill c nan) && lt (p .lead .slope) (slopeDown spill c m (getD distances (d + 1) nan))) m _ _ (p .same)
+            (offset-where (lt (getD spill m nan) (getD spill c nan) && lt (p .lead .slope) (slopeDown spill c m (distanceIn ds (d + 1)))) m _ _ (p .same)
             (sym (inner-offset w h c (d + 1) (omega arith) (omega arith) a)));
       }
 
-  pub following-all : Following w h spill c f 8 (steepestFrom w h spill c (finderAs w spill c f))
+  pub following-all : Following ds w h spill c f 8 (steepestFrom (nineOf ds) w h spill c (finderAs ds w spill c f))
   unfolding steepestFrom
   following-all =
-      turns-hold (λ i. comparedAs spill c (i + 1) (neighbourAt w h c (i + 1)) (offsetOf w (i + 1))) (Following w h spill c f) (finderAs w spill c f) 8 following-none
-      (λ i t l p. subst (λ (k : ℕ). Following w h spill c f k (comparedAs spill c (i + 1) (neighbourAt w h c (i + 1)) (offsetOf w (i + 1)) t)) (add-one i) (following-more i t l p))
+      turns-hold (λ i. comparedAs (nineOf ds) spill c (i + 1) (neighbourAt w h c (i + 1)) (offsetOf w (i + 1))) (Following ds w h spill c f) (finderAs ds w spill c f) 8 following-none
+      (λ i t l p. subst (λ (k : ℕ). Following ds w h spill c f k (comparedAs (nineOf ds) spill c (i + 1) (neighbourAt w h c (i + 1)) (offsetOf w (i + 1)) t)) (add-one i) (following-more i t l p))
 
   -- the offset that the fold leaves: it leads to a cell, the receiver
-  pub offset-enough : w + 1 ≤ c + steepestFrom w h spill c (finderAs w spill c f) .cell
+  pub offset-enough : w + 1 ≤ c + steepestFrom (nineOf ds) w h spill c (finderAs ds w spill c f) .cell
   offset-enough = let p = following-all in omega (arith, p .same .cell)
 
-  pub offset-below : c + steepestFrom w h spill c (finderAs w spill c f) .cell ≤ 2 ^ 25
+  pub offset-below : c + steepestFrom (nineOf ds) w h spill c (finderAs ds w spill c f) .cell ≤ 2 ^ 25
   offset-below =
       let p = following-all in
       omega (arith, p .same .cell, p .leads .inside, inner-few a, a .wide)
 
   pub offset-received :
-      (r : ℕ) → r ≡ cond (eqb f c) f (c + steepestFrom w h spill c (finderAs w spill c f) .cell - (w + 1)) → Received w h spill c f r
+      (r : ℕ) → r ≡ cond (eqb f c) f (c + steepestFrom (nineOf ds) w h spill c (finderAs ds w spill c f) .cell - (w + 1)) → Received ds w h spill c f r
   offset-received r e = go (ℕ-discrete f c)
     where
-      go : Dec (f ≡ c) → Received w h spill c f r
-      go (yes own) = subst (Received w h spill c f) (sym (e ∙ rw (eq-eqb f c own))) (received-own w h spill c f own (inner-inside a))
+      go : Dec (f ≡ c) → Received ds w h spill c f r
+      go (yes own) = subst (Received ds w h spill c f) (sym (e ∙ rw (eq-eqb f c own))) (received-own ds w h spill c f own (inner-inside a))
       go (no other) =
           let p = following-all in
-          let back : p .lead .cell ≡ c + steepestFrom w h spill c (finderAs w spill c f) .cell - (w + 1) = omega (arith, p .same .cell) in
-          subst (Received w h spill c f) (sym (e ∙ rw (ne-eqb f c other) (sym back))) (leading-done w h spill c f 8 (p .lead) other (omega arith) (omega arith) (p .leads))
+          let back : p .lead .cell ≡ c + steepestFrom (nineOf ds) w h spill c (finderAs ds w spill c f) .cell - (w + 1) = omega (arith, p .same .cell) in
+          subst (Received ds w h spill c f) (sym (e ∙ rw (ne-eqb f c other) (sym back))) (leading-done ds w h spill c f 8 (p .lead) other (omega arith) (omega arith) (p .leads))
 
 -- the loop over the directions: the neighbour in direction i + 1 against the best so far, as the code works it out
-module _ (w h : ℕ) (spill : List Float) (c : ℕ) where
+module _ (by-direction : List Float) (w h : ℕ) (spill : List Float) (c : ℕ) where
   abbrev pub against : ℕ → Best → Best
-  against i = comparedAs spill c (i + 1) (neighbourAt w h c (i + 1)) (offsetOf w (i + 1))
+  against i = comparedAs by-direction spill c (i + 1) (neighbourAt w h c (i + 1)) (offsetOf w (i + 1))
 
-  pub against-is : (d m o : ℕ) (best r : Best) → m ≡ neighbourAt w h c (d + 1) → o ≡ offsetOf w (d + 1) → r ≡ comparedAs spill c (d + 1) m o best → r ≡ against d best
-  against-is d m o best r e f g = g ∙ ap₂ (λ (m o : ℕ). comparedAs spill c (d + 1) m o best) e f
+  pub against-is : (d m o : ℕ) (best r : Best) → m ≡ neighbourAt w h c (d + 1) → o ≡ offsetOf w (d + 1) → r ≡ comparedAs by-direction spill c (d + 1) m o best → r ≡ against d best
+  against-is d m o best r e f g = g ∙ ap₂ (λ (m o : ℕ). comparedAs by-direction spill c (d + 1) m o best) e f

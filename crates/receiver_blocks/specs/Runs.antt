@@ -1,46 +1,64 @@
 -- Receivers in the place of finders, in runs of cells that follow each other in number.
-use Prim.Native.Nat.{ℕ, _+_, _-_, _≤_, _<_}
+use Prim.Native.Nat.{ℕ, _+_, _-_, _^_, _≤_, _<_}
 use mathlib.Core.Path.{_≡_}
+use mathlib.Core.Bool.{Bool, cond}
 use mathlib.Core.Logic.{_⊎_}
 use mathlib.Core.List.{List, _++_}
 use lib.ListN.{length, getD, drop}
+use lib.Dec.{eqb}
 use lib.Ieee.{Float, nan}
 use Rattle.lists.specs.Loops.{turns, tabulate}
 use Rattle.grid.specs.Directions.{neighbourAt, Adjacent}
 use Rattle.inner_cells.specs.Inner.{offsetOf}
-use Rattle.drainage.specs.Ground.{floats, gridGround}
+use Rattle.spacing.specs.declared.Distances.{Distances}
+use Rattle.drainage.specs.Ground.{floats, groundBy}
 use Rattle.drainage.specs.Receivers.{receiverOf}
 use Rattle.ways.specs.Apart.{apart}
 use Rattle.network.specs.declared.Best.{Best}
 use Rattle.network.specs.Passes.{slopeDown, comparedAs}
 
 -- the finder f of cell c and the slope down to it. The offset o of a cell from c is such that the cell is c + o - (w + 1).
-abbrev pub finderAs : ℕ → List Float → ℕ → ℕ → Best
-finderAs w spill c f = record { cell = f + (w + 1) - c; slope = slopeDown spill c f (apart w c f) }
+abbrev pub finderAs : Distances → ℕ → List Float → ℕ → ℕ → Best
+finderAs ds w spill c f = record { cell = f + (w + 1) - c; slope = slopeDown spill c f (apart ds w c f) }
 
 -- the neighbours of inner cell c, in their order, against the receiver so far, each by its offset
-unfoldable pub steepestFrom : ℕ → ℕ → List Float → ℕ → Best → Best
+unfoldable pub steepestFrom : List Float → ℕ → ℕ → List Float → ℕ → Best → Best
 unfolding turns
-steepestFrom w h spill c = turns 8 (λ i. comparedAs spill c (i + 1) (neighbourAt w h c (i + 1)) (offsetOf w (i + 1)))
+steepestFrom by-direction w h spill c = turns 8 (λ i. comparedAs by-direction spill c (i + 1) (neighbourAt w h c (i + 1)) (offsetOf w (i + 1)))
 
 -- the offset of the steepest of cell c + i, the offsets and slopes of the receivers so far in two lists
-abbrev pub steepestAt : ℕ → ℕ → List Float → ℕ → List ℕ → List Float → ℕ → ℕ
-steepestAt w h spill c cells slopes i = steepestFrom w h spill (c + i) (record { cell = getD cells i 0; slope = getD slopes i nan }) .cell
+abbrev pub steepestAt : List Float → ℕ → ℕ → List Float → ℕ → List ℕ → List Float → ℕ → ℕ
+steepestAt by-direction w h spill c cells slopes i = steepestFrom by-direction w h spill (c + i) (record { cell = getD cells i 0; slope = getD slopes i nan }) .cell
 
 -- each cell from `from` to below `to` is its own finder, or a neighbour is
 pub record NearFinders (w h from to : ℕ) (recv : List ℕ) : Type 0 where
   pub near : (c : ℕ) → from ≤ c → c < to → (getD recv c 0 ≡ c) ⊎ Adjacent w h c (getD recv c 0)
 
 -- the finders of the n cells from cell c on, at the front of two lists
-pub record Begun (w : ℕ) (spill : List Float) (recv : List ℕ) (c n : ℕ) (cells : List ℕ) (slopes : List Float) (cells′ : List ℕ) (slopes′ : List Float) : Type 0 where
-  pub offsets : cells′ ≡ tabulate n (λ i. finderAs w spill (c + i) (getD recv (c + i) 0) .cell) ++ drop n cells
-  pub downs : slopes′ ≡ tabulate n (λ i. finderAs w spill (c + i) (getD recv (c + i) 0) .slope) ++ drop n slopes
+pub record Begun (ds : Distances) (w : ℕ) (spill : List Float) (recv : List ℕ) (c n : ℕ) (cells : List ℕ) (slopes : List Float) (cells′ : List ℕ) (slopes′ : List Float) : Type 0 where
+  pub offsets : cells′ ≡ tabulate n (λ i. finderAs ds w spill (c + i) (getD recv (c + i) 0) .cell) ++ drop n cells
+  pub downs : slopes′ ≡ tabulate n (λ i. finderAs ds w spill (c + i) (getD recv (c + i) 0) .slope) ++ drop n slopes
+
+-- the offset of each of the n cells from cell c on leads to a number that is not below 0, and not too great
+pub record Leads (w c n : ℕ) (cells : List ℕ) : Type 0 where
+  pub enough : (i : ℕ) → i < n → w + 1 ≤ c + i + getD cells i 0
+  pub below : (i : ℕ) → i < n → c + i + getD cells i 0 ≤ 2 ^ 25
+
+-- each of the n cells from cell c on has the cell at its offset in the place of its finder, if that is another cell;
+-- the other cells are as they were
+pub record Stored (w c n : ℕ) (cells recv recv′ : List ℕ) : Type 0 where
+  pub done :
+      (i : ℕ) → i < n
+      → getD recv′ (c + i) 0 ≡ cond (eqb (getD recv (c + i) 0) (c + i)) (getD recv (c + i) 0) (c + i + getD cells i 0 - (w + 1))
+  pub earlier : (k : ℕ) → k < c → getD recv′ k 0 ≡ getD recv k 0
+  pub later : (k : ℕ) → c + n ≤ k → getD recv′ k 0 ≡ getD recv k 0
+  pub long : length recv′ ≡ length recv
 
 -- the cells from `from` to below `to` have their receivers in the place of their finders, the others are as they were
-pub record RunReceived (w h : ℕ) (spill : List Float) (from to : ℕ) (recv recv′ : List ℕ) : Type 0 where
+pub record RunReceived (ds : Distances) (w h : ℕ) (spill : List Float) (from to : ℕ) (recv recv′ : List ℕ) : Type 0 where
   pub done :
-      (water : Float) (hs : List Float) (c : ℕ) → from ≤ c → c < to
-      → getD recv′ c 0 ≡ receiverOf floats (gridGround w h water hs) spill c (getD recv c 0)
+      (base : ℕ → Bool) (c : ℕ) → from ≤ c → c < to
+      → getD recv′ c 0 ≡ receiverOf floats (groundBy w h ds base) spill c (getD recv c 0)
   pub earlier : (c : ℕ) → c < from → getD recv′ c 0 ≡ getD recv c 0
   pub later : (c : ℕ) → to ≤ c → getD recv′ c 0 ≡ getD recv c 0
   pub long : length recv′ ≡ length recv

@@ -4,6 +4,7 @@ use grid::Sides;
 use inner_cells::beside;
 use network::Best;
 use network::compare;
+use spacing::Distances;
 use steps::step_place;
 ghost use Prim.Native.Nat.{_+_, _-_, _*_, _^_, _≤_, _<_};
 ghost use mathlib.Core.Path.{_≡_};
@@ -13,8 +14,9 @@ ghost use lib.Dec.{eqb};
 ghost use lib.ListN.{length, drop};
 ghost use Rattle.lists.specs.Loops.{tabulate};
 ghost use Rattle.inner_cells.specs.Inner.{Inner, InnerRun, offsetsOf};
-ghost use Rattle.steps.specs.Step.{distanceTable, Near};
-ghost use Rattle.receiver_blocks.specs.Runs.{finderAs, steepestFrom, steepestAt, NearFinders, Begun, RunReceived};
+ghost use Rattle.steps.specs.Step.{placeDistances, Near};
+ghost use Rattle.spacing.specs.Distances.{nineOf};
+ghost use Rattle.receiver_blocks.specs.Runs.{finderAs, steepestFrom, steepestAt, NearFinders, Begun, Leads, Stored, RunReceived};
 
 // The offsets as u32: a receiver so far has its offset beside its slope in as many bits, so that as many are chosen at a time.
 pub fn narrow(os: &[usize; 9], width: usize) -> [u32; 9]
@@ -32,22 +34,30 @@ pub fn narrow(os: &[usize; 9], width: usize) -> [u32; 9]
 }
 
 // The slope from cell c down to its finder f.
-fn finder_slope(width: usize, ds: &[f32; 5], spill: &[f32], c: usize, f: usize) -> f32
+fn finder_slope(
+    width: usize,
+    ds: Distances,
+    by_place: &[f32; 5],
+    spill: &[f32],
+    c: usize,
+    f: usize,
+) -> f32
     requires { ⌜ Near width c f ⌝ }
     requires { ⌜ 3 ≤ width ⌝ }
-    requires { ⌜ now ds ≡ distanceTable ⌝ }
+    requires { ⌜ now «by_place» ≡ placeDistances ds ⌝ }
     requires { ⌜ c < length (now spill) ⌝ }
     requires { ⌜ f < length (now spill) ⌝ }
-    ensures { λ r. ⌜ r ≡ finderAs width (now (spill .entry)) c f .slope ⌝ }
+    ensures { λ r. ⌜ r ≡ finderAs ds width (now (spill .entry)) c f .slope ⌝ }
 {
     let place = step_place(c, f, width);
-    (spill[c] - spill[f]) / ds[place]
+    (spill[c] - spill[f]) / by_place[place]
 }
 
 // The finders of n inner cells from cell c on, by their offsets, and the slopes down to them.
 fn finder_block(
     size: Sides,
-    ds: &[f32; 5],
+    ds: Distances,
+    by_place: &[f32; 5],
     spill: &[f32],
     recv: &[u32],
     c: usize,
@@ -57,19 +67,19 @@ fn finder_block(
 )
     requires { ⌜ InnerRun (size .w) (size .h) c n ⌝ }
     requires { ⌜ NearFinders (size .w) (size .h) c (c + n) (now recv) ⌝ }
-    requires { ⌜ now ds ≡ distanceTable ⌝ }
+    requires { ⌜ now «by_place» ≡ placeDistances ds ⌝ }
     requires { ⌜ length (now spill) ≡ size .w * size .h ⌝ }
     requires { ⌜ length (now recv) ≡ size .w * size .h ⌝ }
     requires { ⌜ n ≤ 64 ⌝ }
     requires { ⌜ length (now cells) ≡ 64 ⌝ }
     requires { ⌜ length (now slopes) ≡ 64 ⌝ }
-    ensures { λ _. ⌜ Begun (size .w) (now (spill .entry)) (now (recv .entry)) c n (now (cells .entry)) (now (slopes .entry)) (now (cells .exit)) (now (slopes .exit)) ⌝ }
+    ensures { λ _. ⌜ Begun ds (size .w) (now (spill .entry)) (now (recv .entry)) c n (now (cells .entry)) (now (slopes .entry)) (now (cells .exit)) (now (slopes .exit)) ⌝ }
 {
     let w = size.w;
     let mut i: usize = 0;
     while i < n {
         let f = recv[c + i] as usize;
-        slopes[i] = finder_slope(w, ds, spill, c + i, f);
+        slopes[i] = finder_slope(w, ds, by_place, spill, c + i, f);
         cells[i] = (f + (w + 1) - (c + i)) as u32;
         i += 1;
     }
@@ -80,6 +90,7 @@ fn steepest_inside(
     size: Sides,
     os: &[usize; 9],
     short: &[u32; 9],
+    by_direction: &[f32; 9],
     spill: &[f32],
     c: usize,
     best: Best,
@@ -88,13 +99,13 @@ fn steepest_inside(
     requires { ⌜ now os ≡ offsetsOf (size .w) ⌝ }
     requires { ⌜ now short ≡ offsetsOf (size .w) ⌝ }
     requires { ⌜ length (now spill) ≡ size .w * size .h ⌝ }
-    ensures { λ r. ⌜ r ≡ steepestFrom (size .w) (size .h) (now (spill .entry)) c best .cell ⌝ }
+    ensures { λ r. ⌜ r ≡ steepestFrom (now («by_direction» .entry)) (size .w) (size .h) (now (spill .entry)) c best .cell ⌝ }
 {
     let mut b = best;
     let mut d: usize = 0;
     while d < 8 {
         let m = beside(size, os, c, d + 1);
-        b = compare(spill, c, d + 1, m, short[d + 1], b);
+        b = compare(by_direction, spill, c, d + 1, m, short[d + 1], b);
         d += 1;
     }
     b.cell
@@ -105,6 +116,7 @@ fn steepest_block(
     size: Sides,
     os: &[usize; 9],
     short: &[u32; 9],
+    by_direction: &[f32; 9],
     spill: &[f32],
     c: usize,
     n: usize,
@@ -117,7 +129,7 @@ fn steepest_block(
     requires { ⌜ length (now spill) ≡ size .w * size .h ⌝ }
     requires { ⌜ n ≤ 64 ⌝ }
     requires { ⌜ length (now cells) ≡ 64 ⌝ }
-    ensures { λ _. ⌜ now (cells .exit) ≡ tabulate n (steepestAt (size .w) (size .h) (now (spill .entry)) c (now (cells .entry)) (now (slopes .entry))) ++ drop n (now (cells .entry)) ⌝ }
+    ensures { λ _. ⌜ now (cells .exit) ≡ tabulate n (steepestAt (now («by_direction» .entry)) (size .w) (size .h) (now (spill .entry)) c (now (cells .entry)) (now (slopes .entry))) ++ drop n (now (cells .entry)) ⌝ }
 {
     let mut i: usize = 0;
     while i < n {
@@ -125,7 +137,7 @@ fn steepest_block(
             cell: cells[i],
             slope: slopes[i],
         };
-        cells[i] = steepest_inside(size, os, short, spill, c + i, best);
+        cells[i] = steepest_inside(size, os, short, by_direction, spill, c + i, best);
         i += 1;
     }
 }
@@ -142,12 +154,29 @@ fn receiver_inside(size: Sides, c: usize, f: u32, offset: u32) -> u32
     (c + offset as usize - (size.w + 1)) as u32
 }
 
+// The receivers of n inner cells from cell c on in the place of their finders, by the offsets in `cells`.
+fn store_block(size: Sides, recv: &mut [u32], c: usize, n: usize, cells: &[u32; 64])
+    requires { ⌜ InnerRun (size .w) (size .h) c n ⌝ }
+    requires { ⌜ length (now recv) ≡ size .w * size .h ⌝ }
+    requires { ⌜ n ≤ 64 ⌝ }
+    requires { ⌜ Leads (size .w) c n (now cells) ⌝ }
+    ensures { λ _. ⌜ Stored (size .w) c n (now (cells .entry)) (now (recv .entry)) (now (recv .exit)) ⌝ }
+{
+    let mut i: usize = 0;
+    while i < n {
+        recv[c + i] = receiver_inside(size, c + i, recv[c + i], cells[i]);
+        i += 1;
+    }
+}
+
 // The receivers of n inner cells from cell c on.
 pub fn receive_block(
     size: Sides,
+    ds: Distances,
     os: &[usize; 9],
     short: &[u32; 9],
-    ds: &[f32; 5],
+    by_place: &[f32; 5],
+    by_direction: &[f32; 9],
     spill: &[f32],
     recv: &mut [u32],
     c: usize,
@@ -157,19 +186,36 @@ pub fn receive_block(
     requires { ⌜ NearFinders (size .w) (size .h) c (c + n) (now recv) ⌝ }
     requires { ⌜ now os ≡ offsetsOf (size .w) ⌝ }
     requires { ⌜ now short ≡ offsetsOf (size .w) ⌝ }
-    requires { ⌜ now ds ≡ distanceTable ⌝ }
+    requires { ⌜ now «by_place» ≡ placeDistances ds ⌝ }
     requires { ⌜ length (now spill) ≡ size .w * size .h ⌝ }
     requires { ⌜ length (now recv) ≡ size .w * size .h ⌝ }
     requires { ⌜ n ≤ 64 ⌝ }
-    ensures { λ _. ⌜ RunReceived (size .w) (size .h) (now (spill .entry)) c (c + n) (now (recv .entry)) (now (recv .exit)) ⌝ }
+    requires { ⌜ now «by_direction» ≡ nineOf ds ⌝ }
+    ensures { λ _. ⌜ RunReceived ds (size .w) (size .h) (now (spill .entry)) c (c + n) (now (recv .entry)) (now (recv .exit)) ⌝ }
 {
     let mut cells: [u32; 64] = [0; 64];
     let mut slopes: [f32; 64] = [0.0; 64];
-    finder_block(size, ds, spill, recv, c, n, &mut cells, &mut slopes);
-    steepest_block(size, os, short, spill, c, n, &mut cells, &slopes);
-    let mut i: usize = 0;
-    while i < n {
-        recv[c + i] = receiver_inside(size, c + i, recv[c + i], cells[i]);
-        i += 1;
-    }
+    finder_block(
+        size,
+        ds,
+        by_place,
+        spill,
+        recv,
+        c,
+        n,
+        &mut cells,
+        &mut slopes,
+    );
+    steepest_block(
+        size,
+        os,
+        short,
+        by_direction,
+        spill,
+        c,
+        n,
+        &mut cells,
+        &slopes,
+    );
+    store_block(size, recv, c, n, &cells);
 }

@@ -2,6 +2,7 @@
 use Prim.Native.Nat.{ℕ, _*_, _≤_, _<_}
 use mathlib.Core.Path.{_≡_, sym, _∙_, subst}
 use mathlib.Core.Logic.{_⊎_, inl, inr}
+use mathlib.Core.Bool.{Bool}
 use mathlib.Core.List.{List}
 use native.Mathlib.Omega.{arith}
 use native.Mathlib.Decide.{ℕ-discrete}
@@ -10,30 +11,31 @@ use lib.Seq.{ext-getD}
 use lib.Ieee.{Float}
 use Rattle.lists.proofs.TableLaws.{length-tabulate, getD-tabulate}
 use Rattle.grid.specs.Directions.{Adjacent}
-use Rattle.drainage.specs.Ground.{floats, gridGround}
+use Rattle.spacing.specs.declared.Distances.{Distances}
+use Rattle.drainage.specs.Ground.{floats, groundBy}
 use Rattle.drainage.specs.Receivers.{receiverOf, receivers}
 use Rattle.network.specs.Passes.{Finders}
 use Rattle.receiver_blocks.specs.Runs.{NearFinders, RunReceived}
 
-module _ (w h : ℕ) (spill : List Float) where
+module _ (ds : Distances) (w h : ℕ) (spill : List Float) where
   pub near-at :
-      {a b from to : ℕ} {r s : List ℕ} → NearFinders w h from to r → RunReceived w h spill a b r s → (c : ℕ) → from ≤ c → b ≤ c → c < to
+      {a b from to : ℕ} {r s : List ℕ} → NearFinders w h from to r → RunReceived ds w h spill a b r s → (c : ℕ) → from ≤ c → b ≤ c → c < to
       → (getD s c 0 ≡ c) ⊎ Adjacent w h c (getD s c 0)
   near-at n p c l m k = subst (λ (f : ℕ). (f ≡ c) ⊎ Adjacent w h c f) (sym (p .later c m)) (n .near c l k)
 
-  pub near-after : {a b from to : ℕ} {r s : List ℕ} (b′ d : ℕ) → NearFinders w h from to r → RunReceived w h spill a b r s → from ≤ b′ → b ≤ b′ → d ≤ to → NearFinders w h b′ d s
+  pub near-after : {a b from to : ℕ} {r s : List ℕ} (b′ d : ℕ) → NearFinders w h from to r → RunReceived ds w h spill a b r s → from ≤ b′ → b ≤ b′ → d ≤ to → NearFinders w h b′ d s
   near-after b′ d n p l m k = record { near = λ c lo hi. near-at n p c (omega arith) (omega arith) (omega arith) }
 
   -- all cells
   pub run-all :
-      {n : ℕ} {r s : List ℕ} → RunReceived w h spill 0 n r s → n ≡ w * h → length r ≡ w * h
-      → (water : Float) (hs : List Float) → s ≡ receivers floats (gridGround w h water hs) spill r
+      {n : ℕ} {r s : List ℕ} → RunReceived ds w h spill 0 n r s → n ≡ w * h → length r ≡ w * h
+      → (base : ℕ → Bool) → s ≡ receivers floats (groundBy w h ds base) spill r
   unfolding receivers
-  run-all {n} {r} {s} p e l water hs =
-      ext-getD 0 s _ (p .long ∙ l ∙ sym (length-tabulate (λ c. receiverOf floats (gridGround w h water hs) spill c (getD r c 0)) (w * h)))
+  run-all {n} {r} {s} p e l base =
+      ext-getD 0 s _ (p .long ∙ l ∙ sym (length-tabulate (λ c. receiverOf floats (groundBy w h ds base) spill c (getD r c 0)) (w * h)))
       (λ c m.
       let k : c < w * h = omega (arith, m, p .long, l) in
-      p .done water hs c (omega arith) (omega arith) ∙ sym (getD-tabulate (λ c. receiverOf floats (gridGround w h water hs) spill c (getD r c 0)) (w * h) c 0 k))
+      p .done base c (omega arith) (omega arith) ∙ sym (getD-tabulate (λ c. receiverOf floats (groundBy w h ds base) spill c (getD r c 0)) (w * h) c 0 k))
 
 module _ {w h : ℕ} {r : List ℕ} where
   -- fewer of them

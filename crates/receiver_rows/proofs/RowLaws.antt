@@ -7,6 +7,7 @@ use native.Mathlib.Omega.{arith}
 use lib.Ieee.{Float}
 use Rattle.lists.proofs.LoopLaws.{at-end}
 use Rattle.inner_cells.specs.Inner.{InnerRun}
+use Rattle.spacing.specs.declared.Distances.{Distances}
 use Rattle.receiver_blocks.specs.Runs.{RunReceived}
 use Rattle.receiver_blocks.proofs.OffsetLaws.{inner-inside, inner-few}
 use Rattle.receiver_blocks.proofs.RunLaws.{run-join}
@@ -19,15 +20,15 @@ run-few w h c (suc n) i m a l lo hi = omega (arith, inner-inside (a .inner n (om
 pub rows-end : (w h y : ℕ) → y ≤ h → h ≤ y → y * w ≡ w * h
 rows-end w h y a b = at-end (λ (k : ℕ). k * w) refl a b ∙ mul-comm h w
 
-module _ (w h : ℕ) (spill : List Float) (y n : ℕ) (most : 1 + n ≤ w) {r t : List ℕ} where
+module _ (ds : Distances) (w h : ℕ) (spill : List Float) (y n : ℕ) (most : 1 + n ≤ w) {r t : List ℕ} where
   -- the first cell and the inner ones
   pub row-two :
-      {s : List ℕ} → RunReceived w h spill (0 + y * w) (0 + 1 + y * w) r s → RunReceived w h spill (1 + y * w) (1 + y * w + n) s t → RunReceived w h spill (y * w) (1 + n + y * w) r t
+      {s : List ℕ} → RunReceived ds w h spill (0 + y * w) (0 + 1 + y * w) r s → RunReceived ds w h spill (1 + y * w) (1 + y * w + n) s t → RunReceived ds w h spill (y * w) (1 + n + y * w) r t
   row-two p q =
       let z : 0 + y * w ≡ y * w = omega arith in
-      subst (λ (a : ℕ). RunReceived w h spill a (1 + n + y * w) r t) z (run-join w h spill p q (omega arith) (omega arith) (omega arith) (omega arith))
+      subst (λ (a : ℕ). RunReceived ds w h spill a (1 + n + y * w) r t) z (run-join ds w h spill p q (omega arith) (omega arith) (omega arith) (omega arith))
 
   -- and the rest
-  pub row-whole : {u : List ℕ} → RunReceived w h spill (y * w) (1 + n + y * w) r t → RunReceived w h spill (1 + n + y * w) (1 + n + (w - (1 + n)) + y * w) t u
-      → RunReceived w h spill (y * w) (w + y * w) r u
-  row-whole p q = run-join w h spill p q refl (omega arith) (omega arith) (omega arith)
+  pub row-whole : {u : List ℕ} → RunReceived ds w h spill (y * w) (1 + n + y * w) r t → RunReceived ds w h spill (1 + n + y * w) (1 + n + (w - (1 + n)) + y * w) t u
+      → RunReceived ds w h spill (y * w) (w + y * w) r u
+  row-whole p q = run-join ds w h spill p q refl (omega arith) (omega arith) (omega arith)

@@ -1,5 +1,5 @@
 -- The distance that stands at a step's place is that of the step.
-use Prim.Native.Nat.{ℕ, zero, suc, _+_, _-_, _*_, _≤_, _<_}
+use Prim.Native.Nat.{ℕ, suc, _+_, _-_, _*_, _≤_, _<_}
 use native.Mathlib.Omega.{arith}
 use native.Mathlib.Nat.{suc-mul}
 use native.Mathlib.Decide.{ℕ-discrete, decLe}
@@ -9,22 +9,24 @@ use mathlib.Core.Bool.{cond}
 use mathlib.Core.List.{List}
 use lib.ListN.{getD, take, drop}
 use lib.Seq.{split-at}
-use lib.Dec.{eqb, ltb}
-use lib.Ieee.{Float, nan, binary32, ofBits}
+use lib.Dec.{ltb}
+use lib.Ieee.{Float, nan}
 use borrow.Author.Tests.{lt-ltb, le-ltb, eq-eqb, ne-eqb}
-use Rattle.lists.proofs.TestLaws.{either}
 use Rattle.grid.specs.Sides.{cellOf, columnOf, rowOf}
 use Rattle.grid.specs.Directions.{Adjacent}
 use Rattle.grid.proofs.SidesLaws.{cell-back}
 use Rattle.grid.proofs.NeighbourLaws.{stepX, stepY, inside-beside, small-steps, close-step}
+use Rattle.spacing.specs.declared.Distances.{Distances}
 use Rattle.drainage.specs.Ways.{WorkList}
 use Rattle.drainage.proofs.WorkListLaws.{entry-lt}
 use Rattle.ways.specs.Apart.{apart, Along}
-use Rattle.steps.specs.Step.{distanceTable, gap, placeOf, Near, Steps}
+use Rattle.steps.specs.Step.{placeDistances, gap, placeOf, Near, Steps}
 
 -- the numbers of two cells of neighbouring columns and rows, on three columns or more
 record Wide (w x y nx ny g : ℕ) : Type 0 where
   level : ny ≡ y → g < 2
+  itself : ny ≡ y → nx ≡ x → g ≡ 0
+  beside : ny ≡ y → nx ≢ x → g ≡ 1
   other : ny ≢ y → 2 ≤ g
   bound : g ≤ w + 1
   straight : ny ≢ y → nx ≡ x → g + 3 - w ≡ 3
@@ -41,17 +43,19 @@ wide-below w x y nx ny wide west east north south = go (ℕ-discrete ny y)
     go : Dec (ny ≡ y) → Wide w x y nx ny (gap (x + y * w) (nx + ny * w))
     go (yes e) =
         let m : ny * w ≡ y * w = ap (λ (k : ℕ). k * w) e in
-        record { level = λ q. omega (arith, m); other = λ q. absurd (q e); bound = omega (arith, m); straight = λ q. absurd (q e); aslant = λ q. absurd (q e) }
+        record { level = λ q. omega (arith, m); itself = λ q s. omega (arith, m); beside = λ q s. omega (arith, m, s); other = λ q. absurd (q e); bound = omega (arith, m); straight = λ q. absurd (q e); aslant = λ q. absurd (q e) }
     go (no e) =
         let b : ny ≡ suc y = omega arith in
         let m : ny * w ≡ y * w + w = ap (λ (k : ℕ). k * w) b ∙ suc-mul y w in
-        record { level = λ q. absurd (e q); other = λ q. omega (arith, m); bound = omega (arith, m); straight = λ q s. omega (arith, m); aslant = λ q s. side (ℕ-discrete nx (suc x)) s m }
+        record { level = λ q. absurd (e q); itself = λ q s. absurd (e q); beside = λ q s. absurd (e q); other = λ q. omega (arith, m); bound = omega (arith, m); straight = λ q s. omega (arith, m); aslant = λ q s. side (ℕ-discrete nx (suc x)) s m }
 
 -- from the other of the two cells
 wide-turned : {w x y nx ny g : ℕ} → Wide w nx ny x y g → Wide w x y nx ny g
 wide-turned s =
     record {
       level = λ e. s .level (sym e);
+      itself = λ e f. s .itself (sym e) (sym f);
+      beside = λ e f. s .beside (sym e) (λ q. f (sym q));
       other = λ e. s .other (λ q. e (sym q));
       bound = s .bound;
       straight = λ e f. s .straight (λ q. e (sym q)) (sym f);
@@ -68,18 +72,12 @@ wide-gap w x y nx ny wide west east north south = go (decLe y ny)
     go (yes l) = wide-below w x y nx ny wide west east l south
     go (no l) = subst (Wide w x y nx ny) (gap-turned (nx + ny * w) (x + y * w)) (wide-turned (wide-below w nx ny x y wide east west (omega arith) north))
 
-abbrev one : Float
-one = ofBits binary32 0x3f80_0000
-
-abbrev diagonal : Float
-diagonal = ofBits binary32 0x3fb5_04f3
-
 -- a place of the table, and the distance there
-abbrev Holds : ℕ → Float → Type 0
-Holds p d = (p < 5) × (getD distanceTable p nan ≡ d)
+abbrev Holds : Distances → ℕ → Float → Type 0
+Holds ds p d = (p < 5) × (getD (placeDistances ds) p nan ≡ d)
 
-holds-at : {p : ℕ} (q : ℕ) {d : Float} → p ≡ q → Holds q d → Holds p d
-holds-at q e h = rw e h
+holds-at : (ds : Distances) {p : ℕ} (q : ℕ) {d : Float} → p ≡ q → Holds ds q d → Holds ds p d
+holds-at ds q e h = rw e h
 
 module _ {w i r : ℕ} (near : Near w i r) where
   gap-wide : 3 ≤ w → Wide w (columnOf w i) (rowOf w i) (columnOf w r) (rowOf w r) (gap i r)
@@ -104,33 +102,31 @@ module _ {w i r : ℕ} (near : Near w i r) where
       go (no e) (yes c) s = omega (arith, s .straight e c)
       go (no e) (no c) s = more (s .aslant e c)
 
-  wide : 3 ≤ w → Wide w (columnOf w i) (rowOf w i) (columnOf w r) (rowOf w r) (gap i r) → Holds (cond (ltb (gap i r) 2) (gap i r) (gap i r + 3 - w)) (apart w i r)
-  wide l s = go (ℕ-discrete (rowOf w r) (rowOf w i)) (ℕ-discrete (columnOf w r) (columnOf w i))
-    where
-      same-row : (g : ℕ) → g < 2 → Holds g one
-      same-row zero k = (omega arith, refl)
-      same-row (suc zero) k = (omega arith, refl)
-      same-row (suc (suc g)) k = absurd (omega arith)
+  module _ (ds : Distances) where
+    wide : 3 ≤ w → Wide w (columnOf w i) (rowOf w i) (columnOf w r) (rowOf w r) (gap i r) → Holds ds (cond (ltb (gap i r) 2) (gap i r) (gap i r + 3 - w)) (apart ds w i r)
+    wide l s = go (ℕ-discrete (rowOf w r) (rowOf w i)) (ℕ-discrete (columnOf w r) (columnOf w i))
+      where
+        go : Dec (rowOf w r ≡ rowOf w i) → Dec (columnOf w r ≡ columnOf w i) → Holds ds (cond (ltb (gap i r) 2) (gap i r) (gap i r + 3 - w)) (apart ds w i r)
+        go (yes e) (yes c) =
+            rw (lt-ltb (gap i r) 2 (s .level e), eq-eqb (rowOf w i) (rowOf w r) (sym e), eq-eqb (columnOf w i) (columnOf w r) (sym c)) (holds-at ds 0 (s .itself e c) (omega arith, refl))
+        go (yes e) (no c) =
+            rw (lt-ltb (gap i r) 2 (s .level e), eq-eqb (rowOf w i) (rowOf w r) (sym e), ne-eqb (columnOf w i) (columnOf w r) (λ q. c (sym q))) (holds-at ds 1 (s .beside e c) (omega arith, refl))
+        go (no e) (yes c) =
+            rw (le-ltb (gap i r) 2 (s .other e), ne-eqb (rowOf w i) (rowOf w r) (λ q. e (sym q)), eq-eqb (columnOf w i) (columnOf w r) (sym c)) (holds-at ds 3 (s .straight e c) (omega arith, refl))
+        go (no e) (no c) =
+            rw (le-ltb (gap i r) 2 (s .other e), ne-eqb (columnOf w i) (columnOf w r) (λ q. c (sym q)), ne-eqb (rowOf w i) (rowOf w r) (λ q. e (sym q))) (aslant (s .aslant e c))
+          where
+            aslant : (gap i r + 3 - w ≡ 2) ⊎ (gap i r + 3 - w ≡ 4) → Holds ds (gap i r + 3 - w) (ds .diagonal)
+            aslant (inl q) = holds-at ds 2 q (omega arith, refl)
+            aslant (inr q) = holds-at ds 4 q (omega arith, refl)
 
-      go : Dec (rowOf w r ≡ rowOf w i) → Dec (columnOf w r ≡ columnOf w i) → Holds (cond (ltb (gap i r) 2) (gap i r) (gap i r + 3 - w)) (apart w i r)
-      go (yes e) c =
-          let h : Holds (gap i r) one = same-row (gap i r) (s .level e) in
-          rw (lt-ltb (gap i r) 2 (s .level e), eq-eqb (rowOf w i) (rowOf w r) (sym e)) (either (Holds (gap i r)) (eqb (columnOf w i) (columnOf w r)) one one h h)
-      go (no e) (yes c) = rw (le-ltb (gap i r) 2 (s .other e), eq-eqb (columnOf w i) (columnOf w r) (sym c)) (holds-at 3 (s .straight e c) (omega arith, refl))
-      go (no e) (no c) =
-          rw (le-ltb (gap i r) 2 (s .other e), ne-eqb (columnOf w i) (columnOf w r) (λ q. c (sym q)), ne-eqb (rowOf w i) (rowOf w r) (λ q. e (sym q))) (aslant (s .aslant e c))
-        where
-          aslant : (gap i r + 3 - w ≡ 2) ⊎ (gap i r + 3 - w ≡ 4) → Holds (gap i r + 3 - w) diagonal
-          aslant (inl q) = holds-at 2 q (omega arith, refl)
-          aslant (inr q) = holds-at 4 q (omega arith, refl)
+    pub place-holds : 3 ≤ w → Holds ds (placeOf w i r) (apart ds w i r)
+    unfolding placeOf
+    place-holds l = wide l (gap-wide l)
 
-  pub place-holds : 3 ≤ w → Holds (placeOf w i r) (apart w i r)
-  unfolding placeOf
-  place-holds l = wide l (gap-wide l)
-
-  -- as the code reads it
-  pub place-read : 3 ≤ w → (ds : List Float) (place : ℕ) → ds ≡ distanceTable → place ≡ placeOf w i r → getD ds place nan ≡ apart w i r
-  place-read l ds place e p = ap (λ (t : List Float). getD t place nan) e ∙ ap (λ (k : ℕ). getD distanceTable k nan) p ∙ place-holds l .1
+    -- as the code reads it
+    pub place-read : 3 ≤ w → (by-place : List Float) (place : ℕ) → by-place ≡ placeDistances ds → place ≡ placeOf w i r → getD by-place place nan ≡ apart ds w i r
+    place-read l by-place place e p = ap (λ (t : List Float). getD t place nan) e ∙ ap (λ (k : ℕ). getD (placeDistances ds) k nan) p ∙ place-holds l .1
 
 -- ---- the two ends of `step_place`
 module _ (w i r g : ℕ) (e : g ≡ gap i r) where

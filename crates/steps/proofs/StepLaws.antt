@@ -8,11 +8,13 @@ use mathlib.Core.Bool.{cond}
 use mathlib.Core.List.{List}
 use lib.ListN.{getD}
 use lib.Dec.{eqb, ltb}
-use lib.Ieee.{nan, binary32, ofBits}
+use lib.Ieee.{nan}
 use borrow.Author.Tests.{lt-ltb, le-ltb, eq-eqb, ne-eqb}
 use Rattle.lists.proofs.TableLaws.{getD-tabulate}
 use Rattle.grid.specs.Sides.{cellOf, columnOf, rowOf}
 use Rattle.grid.proofs.SidesLaws.{cell-back}
+use Rattle.spacing.specs.Distances.{one}
+use Rattle.spacing.specs.declared.Distances.{Distances}
 use Rattle.ways.specs.Apart.{apart}
 use Rattle.steps.specs.Step.{stepOf, steppedTo, stepOffsets, stepDistances, Near}
 
@@ -60,18 +62,18 @@ by-places w x y nx ny dx wide ex lx north south = go (ℕ-discrete ny y) (ℕ-di
         rw (lt-ltb p w (omega arith)) (record { step = record { north = omega (arith, m); small = omega arith; past = omega (arith, t, m); back = omega (arith, t, m) }; is = omega arith })
 
 -- the distance that stands at the number of a step
-distance-at : (x y nx ny s : ℕ) → s ≡ nx + 1 - x + 4 * (ny + 1 - y) → x ≤ nx + 1 → nx ≤ x + 1 → y ≤ ny + 1 → ny ≤ y + 1
-    → getD stepDistances s nan ≡ cond (eqb x nx) (ofBits binary32 0x3f80_0000) (cond (eqb y ny) (ofBits binary32 0x3f80_0000) (ofBits binary32 0x3fb5_04f3))
-distance-at x y nx ny s is west east north south = go (ℕ-discrete x nx) (ℕ-discrete y ny) (ℕ-discrete nx (suc x)) (ℕ-discrete ny (suc y))
+distance-at : (ds : Distances) (x y nx ny s : ℕ) → s ≡ nx + 1 - x + 4 * (ny + 1 - y) → x ≤ nx + 1 → nx ≤ x + 1 → y ≤ ny + 1 → ny ≤ y + 1
+    → getD (stepDistances ds) s nan ≡ cond (eqb x nx) (cond (eqb y ny) one (ds .row)) (cond (eqb y ny) (ds .column) (ds .diagonal))
+distance-at ds x y nx ny s is west east north south = go (ℕ-discrete x nx) (ℕ-discrete y ny) (ℕ-discrete nx (suc x)) (ℕ-discrete ny (suc y))
   where
-    at : (k : ℕ) → s ≡ k → getD stepDistances s nan ≡ getD stepDistances k nan
-    at k e = ap (λ (j : ℕ). getD stepDistances j nan) e
+    at : (k : ℕ) → s ≡ k → getD (stepDistances ds) s nan ≡ getD (stepDistances ds) k nan
+    at k e = ap (λ (j : ℕ). getD (stepDistances ds) j nan) e
 
     go : Dec (x ≡ nx) → Dec (y ≡ ny) → Dec (nx ≡ suc x) → Dec (ny ≡ suc y)
-        → getD stepDistances s nan ≡ cond (eqb x nx) (ofBits binary32 0x3f80_0000) (cond (eqb y ny) (ofBits binary32 0x3f80_0000) (ofBits binary32 0x3fb5_04f3))
-    go (yes e) (yes f) a b = rw (eq-eqb x nx e) (at 5 (omega arith))
-    go (yes e) (no f) a (yes b) = rw (eq-eqb x nx e) (at 9 (omega arith))
-    go (yes e) (no f) a (no b) = rw (eq-eqb x nx e) (at 1 (omega arith))
+        → getD (stepDistances ds) s nan ≡ cond (eqb x nx) (cond (eqb y ny) one (ds .row)) (cond (eqb y ny) (ds .column) (ds .diagonal))
+    go (yes e) (yes f) a b = rw (eq-eqb x nx e, eq-eqb y ny f) (at 5 (omega arith))
+    go (yes e) (no f) a (yes b) = rw (eq-eqb x nx e, ne-eqb y ny f) (at 9 (omega arith))
+    go (yes e) (no f) a (no b) = rw (eq-eqb x nx e, ne-eqb y ny f) (at 1 (omega arith))
     go (no e) (yes f) (yes a) b = rw (ne-eqb x nx e, eq-eqb y ny f) (at 6 (omega arith))
     go (no e) (yes f) (no a) b = rw (ne-eqb x nx e, eq-eqb y ny f) (at 4 (omega arith))
     go (no e) (no f) (yes a) (yes b) = rw (ne-eqb x nx e, ne-eqb y ny f) (at 10 (omega arith))
@@ -93,8 +95,8 @@ module _ {w i r : ℕ} (near : Near w i r) (wide : 3 ≤ w) where
   pub step-proper : stepOf w i r ≤ 10
   step-proper = omega (arith, placed .is, near .east, near .south)
 
-  pub step-distance : getD stepDistances (stepOf w i r) nan ≡ apart w i r
-  step-distance = distance-at (columnOf w i) (rowOf w i) (columnOf w r) (rowOf w r) (stepOf w i r) (placed .is) (near .west) (near .east) (near .north) (near .south)
+  pub step-distance : (ds : Distances) → getD (stepDistances ds) (stepOf w i r) nan ≡ apart ds w i r
+  step-distance ds = distance-at ds (columnOf w i) (rowOf w i) (columnOf w r) (rowOf w r) (stepOf w i r) (placed .is) (near .west) (near .east) (near .north) (near .south)
 
 -- ---- the table of offsets
 pub rows : (w s : ℕ) → w ≤ 4096 → s < 16 → s / 4 * w ≤ 3 * 4096

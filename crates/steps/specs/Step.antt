@@ -5,16 +5,15 @@ use mathlib.Core.Bool.{cond}
 use mathlib.Core.List.{List, [], _∷_}
 use lib.ListN.{length, getD}
 use lib.Dec.{ltb}
-use lib.Ieee.{Float, binary32, ofBits}
+use lib.Ieee.{Float}
 use Rattle.lists.specs.Loops.{tabulate}
 use Rattle.grid.specs.Sides.{columnOf, rowOf}
+use Rattle.spacing.specs.Distances.{one}
+use Rattle.spacing.specs.declared.Distances.{Distances}
 
--- the distances by their place: 1 where the numbers of two cells differ by 0 or 1, then `SQRT_2`, 1 and `SQRT_2` where by w - 1, w and w + 1
-abbrev pub distanceTable : List Float
-distanceTable =
-    let one = ofBits binary32 0x3f80_0000 in
-    let diagonal = ofBits binary32 0x3fb5_04f3 in
-    one ∷ one ∷ diagonal ∷ one ∷ diagonal ∷ []
+-- the distances by their place: where the numbers of two cells differ by 0 and by 1, then where by w - 1, w and w + 1
+abbrev pub placeDistances : Distances → List Float
+placeDistances ds = one ∷ ds .column ∷ ds .diagonal ∷ ds .row ∷ ds .diagonal ∷ []
 
 -- by how much two numbers differ
 abbrev pub gap : ℕ → ℕ → ℕ
@@ -39,12 +38,10 @@ unfoldable pub stepOffsets : ℕ → List ℕ
 unfolding tabulate
 stepOffsets w = tabulate 16 (λ s. s % 4 + s / 4 * w)
 
--- the distances by the step: `SQRT_2` to the four corners; what is no step has 1
-abbrev pub stepDistances : List Float
-stepDistances =
-    let one = ofBits binary32 0x3f80_0000 in
-    let diagonal = ofBits binary32 0x3fb5_04f3 in
-    diagonal ∷ one ∷ diagonal ∷ one ∷ one ∷ one ∷ one ∷ one ∷ diagonal ∷ one ∷ diagonal ∷ one ∷ one ∷ one ∷ one ∷ one ∷ []
+-- the distances by the step; what is no step has 1
+abbrev pub stepDistances : Distances → List Float
+stepDistances ds =
+    ds .diagonal ∷ ds .row ∷ ds .diagonal ∷ one ∷ ds .column ∷ one ∷ ds .column ∷ one ∷ ds .diagonal ∷ ds .row ∷ ds .diagonal ∷ one ∷ one ∷ one ∷ one ∷ one ∷ []
 
 -- cell r is cell i or one of its 8 neighbours, on a grid of w columns
 pub record Near (w i r : ℕ) : Type 0 where

@@ -1,16 +1,26 @@
 // The step from a cell to its receiver, where the grid has three columns or more: its number, and its distance, which stands in a table by the
 // difference of the cells or by the step. Finding either takes no division.
+use spacing::Distances;
 ghost use mathlib.Core.Path.{_≡_};
 ghost use Prim.Native.Nat.{_+_, _-_, _*_, _/_, _%_, _≤_, _<_};
-ghost use Rattle.steps.specs.Step.{distanceTable, stepDistances, stepOffsets, gap, placeOf, stepOf, steppedTo, Near};
-
-const SQRT_2: f32 = 1.41421356;
+ghost use Rattle.spacing.specs.Distances.{nineOf};
+ghost use Rattle.steps.specs.Step.{placeDistances, stepDistances, stepOffsets, gap, placeOf, stepOf, steppedTo, Near};
 
 // The distances by their place: cells whose numbers differ by 0, by 1, and by w - 1, w and w + 1.
-pub fn distances() -> [f32; 5]
-    ensures { λ r. ⌜ r ≡ distanceTable ⌝ }
+pub fn place_distances(ds: Distances) -> [f32; 5]
+    ensures { λ r. ⌜ r ≡ placeDistances ds ⌝ }
 {
-    [1.0, 1.0, SQRT_2, 1.0, SQRT_2]
+    [1.0, ds.column, ds.diagonal, ds.row, ds.diagonal]
+}
+
+// The distances by the direction; the first is that of a cell to itself.
+pub fn direction_distances(ds: Distances) -> [f32; 9]
+    ensures { λ r. ⌜ r ≡ nineOf ds ⌝ }
+{
+    let c = ds.column;
+    let r = ds.row;
+    let d = ds.diagonal;
+    [1.0, d, r, d, c, c, d, r, d]
 }
 
 // By how much two numbers differ.
@@ -74,21 +84,24 @@ pub fn stepped_to(offsets: &[usize; 16], c: usize, step: usize, width: usize) ->
 }
 
 // The distances by the step.
-pub fn step_distances() -> [f32; 16]
-    ensures { λ r. ⌜ r ≡ stepDistances ⌝ }
+pub fn step_distances(ds: Distances) -> [f32; 16]
+    ensures { λ r. ⌜ r ≡ stepDistances ds ⌝ }
 {
+    let column = ds.column;
+    let row = ds.row;
+    let corner = ds.diagonal;
     [
-        SQRT_2,
+        corner,
+        row,
+        corner,
         1.0,
-        SQRT_2,
+        column,
         1.0,
+        column,
         1.0,
-        1.0,
-        1.0,
-        1.0,
-        SQRT_2,
-        1.0,
-        SQRT_2,
+        corner,
+        row,
+        corner,
         1.0,
         1.0,
         1.0,

@@ -5,14 +5,16 @@ use mathlib.Core.Bool.{cond}
 use mathlib.Core.List.{List}
 use lib.ListN.{length, getD, set}
 use lib.Dec.{eqb}
-use lib.Ieee.{Float, nan, binary32, ofBits, add}
+use lib.Ieee.{Float, nan, binary32, add}
 use Rattle.grid.specs.Sides.{columnOf, rowOf}
+use Rattle.spacing.specs.Distances.{one}
+use Rattle.spacing.specs.declared.Distances.{Distances}
 
--- 1 for two cells in one column or in one row, else `SQRT_2`
-abbrev pub apart : ℕ → ℕ → ℕ → Float
-apart w i r =
-    let one = ofBits binary32 0x3f80_0000 in
-    cond (eqb (columnOf w i) (columnOf w r)) one (cond (eqb (rowOf w i) (rowOf w r)) one (ofBits binary32 0x3fb5_04f3))
+-- 1 for a cell itself, the row spacing for two cells in one column, the column spacing for two in one row, else the diagonal
+abbrev pub apart : Distances → ℕ → ℕ → ℕ → Float
+apart ds w i r =
+    cond (eqb (columnOf w i) (columnOf w r)) (cond (eqb (rowOf w i) (rowOf w r)) one (ds .row))
+    (cond (eqb (rowOf w i) (rowOf w r)) (ds .column) (ds .diagonal))
 
 -- a cell's area added to its receiver's, if that is another cell
 abbrev pub addedDown : ℕ → ℕ → List Float → List Float

@@ -1,24 +1,37 @@
 // Of the source's flow.rs what routing and incision share: the distance to a receiver, and areas added along a list.
+use spacing::Distances;
 ghost use mathlib.Core.Path.{_≡_};
+ghost use mathlib.Core.Bool.{cond};
 ghost use Prim.Native.Nat.{_<_};
 ghost use lib.ListN.{length, replicate};
 ghost use Rattle.drainage.specs.Ways.{areasAlong};
 ghost use Rattle.ways.specs.Apart.{apart, addedDown, Along};
+ghost use Rattle.spacing.specs.Distances.{one};
 
-const SQRT_2: f32 = 1.41421356;
-
-// Distance in cells between a cell and one of its 8 neighbours.
-pub fn receiver_distance(i: usize, r: usize, width: usize) -> f32
-    requires { ⌜ 0 < width ⌝ }
-    ensures { λ d. ⌜ d ≡ apart width i r ⌝ }
+// The distance between two cells of one column: that of the rows, or 1 for the cell itself.
+fn along_column(same: bool, ds: Distances) -> f32
+    ensures { λ d. ⌜ d ≡ cond same one (ds .row) ⌝ }
 {
+    if same { 1.0 } else { ds.row }
+}
+
+// And of two columns: that of the columns, or the diagonal.
+fn across_columns(same: bool, ds: Distances) -> f32
+    ensures { λ d. ⌜ d ≡ cond same (ds .column) (ds .diagonal) ⌝ }
+{
+    if same { ds.column } else { ds.diagonal }
+}
+
+// Distance in reference cells between a cell and itself or one of its 8 neighbours.
+pub fn receiver_distance(i: usize, r: usize, width: usize, ds: Distances) -> f32
+    requires { ⌜ 0 < width ⌝ }
+    ensures { λ d. ⌜ d ≡ apart ds width i r ⌝ }
+{
+    let same = i / width == r / width;
     if i % width == r % width {
-        return 1.0;
+        return along_column(same, ds);
     }
-    if i / width == r / width {
-        return 1.0;
-    }
-    SQRT_2
+    across_columns(same, ds)
 }
 
 // Adds the area of cell c, whose receiver is r, to that of r, if r is another cell.

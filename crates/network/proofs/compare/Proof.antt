@@ -18,8 +18,8 @@ shared-slice-read-to c = search needs
 mul-slope : tie.Need-mul-slope
 mul-slope c = search needs
 
-array-read-slope : tie.Need-array-read-slope
-array-read-slope c = search needs
+element-copy-out-slope : tie.Need-element-copy-out-slope
+element-copy-out-slope c = search needs
 
 cell-where-requires : tie.Need-cell-where-requires
 cell-where-requires c κs = search needs
@@ -28,7 +28,7 @@ slope-where-requires : tie.Need-slope-where-requires
 slope-where-requires c κs = search needs
 
 returns : tie.Need-returns
-returns c = compared-parts (c .before .before .before .before .before .before .args .spill .now) (c .before .before .before .before .before .before .args .c) (c .before .before .before .before .before .before .args .d) (c .before .before .before .before .before .before .args .m) (c .before .before .before .before .before .before .args .cell) (c .before .before .before .before .before .before .args .best) (c .before .cell-where .ensures) (c .slope-where .ensures)
+returns c = compared-parts (c .before .before .before .before .before .before .before .args .by-direction .now) (c .before .before .before .before .before .before .before .args .spill .now) (c .before .before .before .before .before .before .before .args .c) (c .before .before .before .before .before .before .before .args .d) (c .before .before .before .before .before .before .before .args .m) (c .before .before .before .before .before .before .before .args .cell) (c .before .before .before .before .before .before .before .args .best) (c .before .cell-where .ensures) (c .slope-where .ensures)
 
 pub compare-spec : {M : Type 1} → statement M
 compare-spec =
@@ -39,7 +39,7 @@ compare-spec =
     mul-to
     shared-slice-read-to
     mul-slope
-    array-read-slope
+    element-copy-out-slope
     cell-where-requires
     slope-where-requires
     returns)

@@ -13,19 +13,19 @@ use Rattle.network.proofs.receiver.Tie as tie
 
 -- After d directions `best` is the best of these and the finder.
 abbrev Inv-loop : tie.InvT-loop
-Inv-loop g spill x y f w c found best₀ d₀ best d = (d ≤ 8) × Leading (g .w) (g .h) spill (cellOf (g .w) x y) f d best
+Inv-loop g ds by-direction spill x y f w c found best₀ d₀ best d = (d ≤ 8) × Leading ds (g .w) (g .h) spill (cellOf (g .w) x y) f d best
 
 abbrev μ-loop : tie.MeasureT-loop
-μ-loop g spill x y f w c found best₀ d₀ best d = 8 - d
+μ-loop g ds by-direction spill x y f w c found best₀ d₀ best d = 8 - d
 
 inside : (c : tie.After-shared-slice-known Inv-loop μ-loop) → cellOf (c .before .args .g .w) (c .before .args .x) (c .before .args .y) < c .before .args .g .w * c .before .args .g .h
-inside c = let p = c .before .pre .0 in cell-lt _ _ _ (p .column) _ (p .row)
+inside c = let p = c .before .pre .1 .0 in cell-lt _ _ _ (p .column) _ (p .row)
 
 small : (c : tie.After-shared-slice-known Inv-loop μ-loop) → c .before .args .g .w * c .before .args .g .h ≤ 2 ^ 24
-small c = let p = c .before .pre .0 in cells-bound _ _ (p .wide) (p .high)
+small c = let p = c .before .pre .1 .0 in cells-bound _ _ (p .wide) (p .high)
 
 near : (c : tie.Else1 Inv-loop μ-loop) → Adjacent (c .before .before .args .g .w) (c .before .before .args .g .h) (cellOf (c .before .before .args .g .w) (c .before .before .args .x) (c .before .before .args .y)) (c .before .before .args .f)
-near c = c .before .before .pre .1 .1 (c .if1 .left)
+near c = c .before .before .pre .1 .1 .1 (c .if1 .left)
 
 mul-c : tie.Need-mul-c Inv-loop μ-loop
 mul-c c = omega (arith, inside c, small c)
@@ -34,37 +34,37 @@ add-c : tie.Need-add-c Inv-loop μ-loop
 add-c c = omega (arith, inside c, small c)
 
 returns : tie.Need-returns Inv-loop μ-loop
-returns c = received-own _ _ _ _ _ (c .if1 .taken) (inside (c .before))
+returns c = received-own _ _ _ _ _ _ (c .if1 .taken) (inside (c .before))
 
-mul-t12 : tie.Need-mul-t12 Inv-loop μ-loop
-mul-t12 c = omega (arith, inside (c .before), small (c .before))
+mul-t14 : tie.Need-mul-t14 Inv-loop μ-loop
+mul-t14 c = omega (arith, inside (c .before), small (c .before))
 
-shared-slice-read-t15 : tie.Need-shared-slice-read-t15 Inv-loop μ-loop
-shared-slice-read-t15 c = omega (arith, inside (c .before .before), c .before .before .before .pre .1 .0)
+shared-slice-read-t17 : tie.Need-shared-slice-read-t17 Inv-loop μ-loop
+shared-slice-read-t17 c = omega (arith, inside (c .before .before), c .before .before .before .pre .1 .1 .0)
 
-mul-t16 : tie.Need-mul-t16 Inv-loop μ-loop
-mul-t16 c = omega (arith, near (c .before), small (c .before .before))
+mul-t18 : tie.Need-mul-t18 Inv-loop μ-loop
+mul-t18 c = omega (arith, near (c .before), small (c .before .before))
 
-shared-slice-read-t18 : tie.Need-shared-slice-read-t18 Inv-loop μ-loop
-shared-slice-read-t18 c = omega (arith, near (c .before .before), c .before .before .before .before .pre .1 .0)
+shared-slice-read-t20 : tie.Need-shared-slice-read-t20 Inv-loop μ-loop
+shared-slice-read-t20 c = omega (arith, near (c .before .before), c .before .before .before .before .pre .1 .1 .0)
 
 receiver-distance-requires : tie.Need-receiver-distance-requires Inv-loop μ-loop
-receiver-distance-requires c κs = omega (arith, c .before .before .before .before .pre .0 .column)
+receiver-distance-requires c κs = omega (arith, c .before .before .before .before .pre .1 .0 .column)
 
 loop-holds : tie.Need-loop-holds Inv-loop μ-loop
-loop-holds c = (omega arith, leading-none _ _ _ _ _ (inside (c .before .before .before .before)) (inr (near (c .before .before .before))) _ (c .receiver-distance .ensures))
+loop-holds c = (omega arith, leading-none _ _ _ _ _ _ (inside (c .before .before .before .before)) (inr (near (c .before .before .before))) _ (c .receiver-distance .ensures))
 
 add-neighbour : tie.Need-add-neighbour Inv-loop μ-loop
 add-neighbour c = omega arith
 
 neighbour-requires : tie.Need-neighbour-requires Inv-loop μ-loop
-neighbour-requires c κs = (c .before .before .before .before .before .before .before .pre .0, omega arith)
+neighbour-requires c κs = (c .before .before .before .before .before .before .before .pre .1 .0, omega arith)
 
 add-compare-toward : tie.Need-add-compare-toward Inv-loop μ-loop
 add-compare-toward c = omega arith
 
 compare-toward-requires : tie.Need-compare-toward-requires Inv-loop μ-loop
-compare-toward-requires c κs = (c .before .before .before .before .before .before .before .before .pre .1 .0, (small (c .before .before .before .before .before .before .before), (inside (c .before .before .before .before .before .before .before), omega arith)))
+compare-toward-requires c κs = (c .before .before .before .before .before .before .before .before .pre .0, (c .before .before .before .before .before .before .before .before .pre .1 .1 .0, (small (c .before .before .before .before .before .before .before), (inside (c .before .before .before .before .before .before .before), omega arith))))
 
 add-d : tie.Need-add-d Inv-loop μ-loop
 add-d c = omega arith
@@ -73,10 +73,10 @@ loop-less : tie.Need-loop-less Inv-loop μ-loop
 loop-less c = omega arith
 
 loop-again : tie.Need-loop-again Inv-loop μ-loop
-loop-again c = (omega arith, leading-more _ _ _ _ _ _ _ _ _ (c .before .before .before .loop .inv .1) (c .before .neighbour .ensures ∙ neighbour-cell _ _ _ _ _ (c .before .before .before .before .before .before .before .before .before .pre .0 .column)) (c .compare-toward .ensures))
+loop-again c = (omega arith, leading-more _ _ _ _ _ _ _ _ _ _ (c .before .before .before .loop .inv .1) (c .before .neighbour .ensures ∙ neighbour-cell _ _ _ _ _ (c .before .before .before .before .before .before .before .before .before .pre .1 .0 .column)) (c .compare-toward .ensures))
 
 returns-2 : tie.Need-returns-2 Inv-loop μ-loop
-returns-2 c = leading-done _ _ _ _ _ _ _ (c .before .before .before .before .before .if1 .left) (c .before .loop .inv .0) (c .loop-test .left) (c .before .loop .inv .1)
+returns-2 c = leading-done _ _ _ _ _ _ _ _ (c .before .before .before .before .before .if1 .left) (c .before .loop .inv .0) (c .loop-test .left) (c .before .loop .inv .1)
 
 pub receiver-spec : {M : Type 1} → statement M
 receiver-spec =
@@ -87,10 +87,10 @@ receiver-spec =
     mul-c
     add-c
     returns
-    mul-t12
-    shared-slice-read-t15
-    mul-t16
-    shared-slice-read-t18
+    mul-t14
+    shared-slice-read-t17
+    mul-t18
+    shared-slice-read-t20
     receiver-distance-requires
     loop-holds
     add-neighbour

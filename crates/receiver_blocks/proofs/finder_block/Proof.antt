@@ -13,10 +13,10 @@ use Rattle.receiver_blocks.proofs.finder_block.Statement.{statement}
 use Rattle.receiver_blocks.proofs.finder_block.Tie as tie
 
 abbrev Inv-loop : tie.InvT-loop
-Inv-loop ds spill recv c n cells₀ slopes₀ w i₀ cells slopes i = (i ≤ n) × (Filling (λ k. finderAs w spill (c + k) (getD recv (c + k) 0) .cell) i cells₀ cells × Filling (λ k. finderAs w spill (c + k) (getD recv (c + k) 0) .slope) i slopes₀ slopes)
+Inv-loop ds by-place spill recv c n cells₀ slopes₀ w i₀ cells slopes i = (i ≤ n) × (Filling (λ k. finderAs ds w spill (c + k) (getD recv (c + k) 0) .cell) i cells₀ cells × Filling (λ k. finderAs ds w spill (c + k) (getD recv (c + k) 0) .slope) i slopes₀ slopes)
 
 abbrev μ-loop : tie.MeasureT-loop
-μ-loop ds spill recv c n cells₀ slopes₀ w i₀ cells slopes i = n - i
+μ-loop ds by-place spill recv c n cells₀ slopes₀ w i₀ cells slopes i = n - i
 
 -- the cell of this turn is an inner one, and its finder is near
 cell : (c : tie.In-loop Inv-loop μ-loop) → Inner (c .before .before .before .before .args .size .w) (c .before .before .before .before .args .size .h) (c .before .before .before .before .args .c + c .before .loop .i)

@@ -21,13 +21,13 @@ shared-slice-read-result-2 : tie.Need-shared-slice-read-result-2
 shared-slice-read-result-2 c = search needs
 
 mul-result-3 : tie.Need-mul-result-3
-mul-result-3 c = omega (arith, c .before .before .step-place .ensures, place-holds (c .before .before .before .before .pre .0) (c .before .before .before .before .pre .1 .0) .0)
+mul-result-3 c = omega (arith, c .before .before .step-place .ensures, place-holds (c .before .before .before .before .pre .0) (c .before .before .before .before .args .ds) (c .before .before .before .before .pre .1 .0) .0)
 
 element-copy-out-result : tie.Need-element-copy-out-result
-element-copy-out-result c = omega (arith, c .before .before .step-place .ensures, place-holds (c .before .before .before .before .pre .0) (c .before .before .before .before .pre .1 .0) .0)
+element-copy-out-result c = omega (arith, c .before .before .step-place .ensures, place-holds (c .before .before .before .before .pre .0) (c .before .before .before .before .args .ds) (c .before .before .before .before .pre .1 .0) .0)
 
 returns : tie.Need-returns
-returns c = slope-read _ (c .before .before .before .before .before .args .spill .now) _ _ (c .before .before .before .before .before .pre .0) (c .before .before .before .before .before .pre .1 .0) _ _ (c .before .before .before .before .before .pre .1 .1 .0) (c .before .before .before .step-place .ensures)
+returns c = slope-read _ _ (c .before .before .before .before .before .args .spill .now) _ _ (c .before .before .before .before .before .pre .0) (c .before .before .before .before .before .pre .1 .0) _ _ (c .before .before .before .before .before .pre .1 .1 .0) (c .before .before .before .step-place .ensures)
 
 pub finder-slope-spec : {M : Type 1} → statement M
 finder-slope-spec =

@@ -10,10 +10,10 @@ use Rattle.receiver_blocks.proofs.steepest_inside.Statement.{statement}
 use Rattle.receiver_blocks.proofs.steepest_inside.Tie as tie
 
 abbrev Inv-loop : tie.InvT-loop
-Inv-loop size os short spill c b₀ d₀ b d = Turning (against (size .w) (size .h) spill c) 8 d b₀ b
+Inv-loop size os short by-direction spill c b₀ d₀ b d = Turning (against by-direction (size .w) (size .h) spill c) 8 d b₀ b
 
 abbrev μ-loop : tie.MeasureT-loop
-μ-loop size os short spill c b₀ d₀ b d = 8 - d
+μ-loop size os short by-direction spill c b₀ d₀ b d = 8 - d
 
 loop-holds : tie.Need-loop-holds Inv-loop μ-loop
 loop-holds c = turning-none
@@ -46,7 +46,7 @@ loop-less : tie.Need-loop-less Inv-loop μ-loop
 loop-less c = omega (arith, c .before .before .before .loop-test .taken)
 
 loop-again : tie.Need-loop-again Inv-loop μ-loop
-loop-again c = turning-more (c .before .before .before .before .loop .inv) (c .before .before .before .loop-test .taken) (against-is _ _ (c .before .before .before .before .before .before .args .spill .now) _ (c .before .before .before .before .loop .d) _ _ (c .before .before .before .before .loop .b) _ (c .before .before .beside .ensures) (offset-read _ _ (c .before .before .before .before .before .before .pre .1 .1 .0) (c .before .before .before .before .loop .d + 1) (omega (arith, c .before .before .before .loop-test .taken))) (c .compare .ensures))
+loop-again c = turning-more (c .before .before .before .before .loop .inv) (c .before .before .before .loop-test .taken) (against-is (c .before .before .before .before .before .before .args .by-direction .now) _ _ (c .before .before .before .before .before .before .args .spill .now) _ (c .before .before .before .before .loop .d) _ _ (c .before .before .before .before .loop .b) _ (c .before .before .beside .ensures) (offset-read _ _ (c .before .before .before .before .before .before .pre .1 .1 .0) (c .before .before .before .before .loop .d + 1) (omega (arith, c .before .before .before .loop-test .taken))) (c .compare .ensures))
 
 returns : tie.Need-returns Inv-loop μ-loop
 unfolding steepestFrom

@@ -8,10 +8,10 @@ use Rattle.receiver_rows.proofs.receive_cells.Statement.{statement}
 use Rattle.receiver_rows.proofs.receive_cells.Tie as tie
 
 abbrev Inv-loop : tie.InvT-loop
-Inv-loop size spill recv₀ y x n w i₀ recv i = (i ≤ n) × RunReceived (size .w) (size .h) spill (x + y * size .w) (x + i + y * size .w) recv₀ recv
+Inv-loop size ds by-direction spill recv₀ y x n w i₀ recv i = (i ≤ n) × RunReceived ds (size .w) (size .h) spill (x + y * size .w) (x + i + y * size .w) recv₀ recv
 
 abbrev μ-loop : tie.MeasureT-loop
-μ-loop size spill recv₀ y x n w i₀ recv i = n - i
+μ-loop size ds by-direction spill recv₀ y x n w i₀ recv i = n - i
 
 -- the cell of this turn
 inside : (c : tie.In-loop Inv-loop μ-loop) → c .before .before .before .before .args .x + c .before .loop .i + c .before .before .before .before .args .y * c .before .before .before .before .args .size .w < c .before .before .before .before .args .size .w * c .before .before .before .before .args .size .h
@@ -21,7 +21,7 @@ small : (c : tie.In-loop Inv-loop μ-loop) → c .before .before .before .before
 small c = let p = c .before .before .before .before .pre .0 in cells-bound _ _ (p .wide) (p .high)
 
 loop-holds : tie.Need-loop-holds Inv-loop μ-loop
-loop-holds c = (omega arith, run-end _ _ _ (run-none _ _ _ _ _) (omega arith))
+loop-holds c = (omega arith, run-end _ _ _ _ (run-none _ _ _ _ _ _) (omega arith))
 
 add-c : tie.Need-add-c Inv-loop μ-loop
 add-c c = omega (arith, inside c, small c)
@@ -39,16 +39,16 @@ mul-receiver : tie.Need-mul-receiver Inv-loop μ-loop
 mul-receiver c = omega (arith, inside c, small c)
 
 slice-read-receiver : tie.Need-slice-read-receiver Inv-loop μ-loop
-slice-read-receiver c = omega (arith, inside (c .before), c .before .before .loop .inv .1 .long, c .before .before .before .before .before .pre .1 .1 .1 .1 .1)
+slice-read-receiver c = omega (arith, inside (c .before), c .before .before .loop .inv .1 .long, c .before .before .before .before .before .pre .1 .1 .1 .1 .1 .0)
 
 receiver-requires : tie.Need-receiver-requires Inv-loop μ-loop
-receiver-requires c κs = let p = c .before .before .before .before .before .pre in (record { column = omega (arith, p .1 .1 .0, c .before .loop-test .taken); row = p .1 .0; wide = p .0 .wide; high = p .0 .high }, (p .1 .1 .1 .1 .0, near-other (near-at _ _ _ (p .1 .1 .1 .0) (c .before .before .loop .inv .1) (c .before .before .before .before .before .args .x + c .before .before .loop .i + c .before .before .before .before .before .args .y * c .before .before .before .before .before .args .size .w) (omega arith) (omega arith) (omega (arith, c .before .loop-test .taken)))))
+receiver-requires c κs = let p = c .before .before .before .before .before .pre in (p .1 .1 .1 .1 .1 .1, (record { column = omega (arith, p .1 .1 .0, c .before .loop-test .taken); row = p .1 .0; wide = p .0 .wide; high = p .0 .high }, (p .1 .1 .1 .1 .0, near-other (near-at _ _ _ _ (p .1 .1 .1 .0) (c .before .before .loop .inv .1) (c .before .before .before .before .before .args .x + c .before .before .loop .i + c .before .before .before .before .before .args .y * c .before .before .before .before .before .args .size .w) (omega arith) (omega arith) (omega (arith, c .before .loop-test .taken))))))
 
 mul-recv : tie.Need-mul-recv Inv-loop μ-loop
 mul-recv c = omega (arith, inside (c .before .before), small (c .before .before))
 
 slice-write-recv : tie.Need-slice-write-recv Inv-loop μ-loop
-slice-write-recv c = omega (arith, inside (c .before .before), c .before .before .before .loop .inv .1 .long, c .before .before .before .before .before .before .pre .1 .1 .1 .1 .1)
+slice-write-recv c = omega (arith, inside (c .before .before), c .before .before .before .loop .inv .1 .long, c .before .before .before .before .before .before .pre .1 .1 .1 .1 .1 .0)
 
 add-i : tie.Need-add-i Inv-loop μ-loop
 add-i c = omega (arith, c .before .before .loop-test .taken)
@@ -57,13 +57,13 @@ loop-less : tie.Need-loop-less Inv-loop μ-loop
 loop-less c = omega (arith, c .before .before .loop-test .taken)
 
 loop-again : tie.Need-loop-again Inv-loop μ-loop
-loop-again c = (omega (arith, c .before .before .loop-test .taken), run-more _ _ _ (c .before .before .before .loop .inv .1) (omega arith) (omega (arith, inside (c .before .before), c .before .before .before .before .before .before .pre .1 .1 .1 .1 .1)) (c .receiver .ensures) (omega arith))
+loop-again c = (omega (arith, c .before .before .loop-test .taken), run-more _ _ _ _ (c .before .before .before .loop .inv .1) (omega arith) (omega (arith, inside (c .before .before), c .before .before .before .before .before .before .pre .1 .1 .1 .1 .1 .0)) (c .receiver .ensures) (omega arith))
 
 same-length : tie.Need-same-length Inv-loop μ-loop
 same-length c = c .before .loop .inv .1 .long
 
 returns : tie.Need-returns Inv-loop μ-loop
-returns c = run-end _ _ _ (c .before .loop .inv .1) (omega (arith, c .before .loop .inv .0, c .loop-test .left))
+returns c = run-end _ _ _ _ (c .before .loop .inv .1) (omega (arith, c .before .loop .inv .0, c .loop-test .left))
 
 pub receive-cells-spec : {M : Type 1} → statement M
 receive-cells-spec =

@@ -3,27 +3,39 @@ use borrow.Author.Needs.{needs}
 use Rattle.ways.proofs.receiver_distance.Statement.{statement}
 use Rattle.ways.proofs.receiver_distance.Tie as tie
 
+div-same : tie.Need-div-same
+div-same c = search needs
+
+div-same-2 : tie.Need-div-same-2
+div-same-2 c = search needs
+
 rem-if1 : tie.Need-rem-if1
 rem-if1 c = search needs
 
 rem-if1-2 : tie.Need-rem-if1-2
 rem-if1-2 c = search needs
 
+along-column-requires : tie.Need-along-column-requires
+along-column-requires c κs = search needs
+
 returns : tie.Need-returns
-returns c = rw (eq-eqb _ _ (c .if1 .taken))
+returns c = rw (eq-eqb _ _ (c .before .if1 .taken)) (c .along-column .ensures)
 
-div-if2 : tie.Need-div-if2
-div-if2 c = search needs
-
-div-if2-2 : tie.Need-div-if2-2
-div-if2-2 c = search needs
+across-columns-requires : tie.Need-across-columns-requires
+across-columns-requires c κs = search needs
 
 returns-2 : tie.Need-returns-2
-returns-2 c = rw (ne-eqb _ _ (c .before .if1 .left), eq-eqb _ _ (c .if2 .taken))
-
-returns-3 : tie.Need-returns-3
-returns-3 c = rw (ne-eqb _ _ (c .before .if1 .left), ne-eqb _ _ (c .if2 .left))
+returns-2 c = rw (ne-eqb _ _ (c .before .if1 .left)) (c .across-columns .ensures)
 
 pub receiver-distance-spec : {M : Type 1} → statement M
 receiver-distance-spec =
-    tie.close (tie.spec rem-if1 rem-if1-2 returns div-if2 div-if2-2 returns-2 returns-3)
+    tie.close
+    (tie.spec
+    div-same
+    div-same-2
+    rem-if1
+    rem-if1-2
+    along-column-requires
+    returns
+    across-columns-requires
+    returns-2)
