@@ -2,7 +2,7 @@
 -- waiting cells.
 use Prim.Native.Nat.{ℕ, _+_, _-_, _*_, _^_, _≤_, _<_}
 use mathlib.Core.Path.{_≡_, refl, sym, ap, _∙_, subst}
-use mathlib.Core.Bool.{cond}
+use mathlib.Core.Bool.{false, cond}
 use mathlib.Core.List.{List, [], _∷_, _++_}
 use native.Mathlib.Decide.{decLt}
 use native.Mathlib.Numerals.{add-one}
@@ -15,10 +15,11 @@ use borrow.Author.Tests.{eq-eqb, ne-eqb, eqb-true, lt-ltb, le-ltb}
 use Rattle.float_order.specs.Fit.{Fit}
 use Rattle.lists.proofs.LoopLaws.{at-end}
 use Rattle.grid.proofs.SidesLaws.{cells-bound}
-use Rattle.drainage.specs.Ground.{floats, gridGround}
+use Rattle.drainage.specs.Ground.{floats, gridGround, noBase}
 use Rattle.drainage.specs.Grids.{Height}
 use Rattle.drainage.specs.Flood.{Flood, leastWaiting, step, floodAfter, flooded}
 use Rattle.drainage.specs.Ways.{countBelow}
+use Rattle.drainage.specs.declared.Land.{Land}
 use Rattle.drainage.proofs.TallyLaws.{count-more, count-apart}
 use Rattle.drainage.proofs.FloodLaws.{step-leaves, leastWaiting-is, leastWaiting-found, floodAfter-none, floodAfter-more}
 use Rattle.drainage.proofs.GroundLaws.{grid-stage, grid-stands, grid-heights}
@@ -31,8 +32,8 @@ use Rattle.flood.specs.Steps.{Leaver, Onward}
 use Rattle.scan_queue.proofs.ListedLaws.{under-limit, listed-set}
 use Rattle.scan_queue.proofs.ScanLaws.{leaver-level}
 
-pub record Running (w h : ℕ) (water : Float) (hs : List Float) (i : ℕ) (s : Scan) (status : List ℕ) (spill : List Float) (recv order queue : List ℕ) : Type 0 where
-  pub state : stateOf status spill recv (take i order) ≡ floodAfter floats (gridGround w h water hs) hs i
+pub record Running (w h : ℕ) (land : Land) (hs : List Float) (i : ℕ) (s : Scan) (status : List ℕ) (spill : List Float) (recv order queue : List ℕ) : Type 0 where
+  pub state : stateOf status spill recv (take i order) ≡ floodAfter floats (gridGround w h land hs) hs i
   pub begun : Begun hs order status spill s queue
 
 module _ (w h : ℕ) (hs : List Float) (i : ℕ) (s : Scan) (order status : List ℕ) (spill : List Float) (recv queue : List ℕ) where
@@ -59,13 +60,13 @@ module _ (w h : ℕ) (hs : List Float) (i : ℕ) (s : Scan) (order status : List
 abbrev pub after : Scan → ℕ → Scan
 after s len = record { head = s .head; limit = s .limit; len = len; cell = s .cell }
 
-module _ (w h : ℕ) (water : Float) (hs : List Float) where
+module _ (w h : ℕ) (land : Land) (hs : List Float) where
   pub running-none :
-      (s : Scan) (status : List ℕ) (spill : List Float) (recv order queue : List ℕ) → Started w h water hs status spill recv
-      → Begun hs order status spill s queue → Running w h water hs 0 s status spill recv order queue
-  running-none s status spill recv order queue t b = record { state = t .state ∙ sym (floodAfter-none floats (gridGround w h water hs) hs); begun = b }
+      (s : Scan) (status : List ℕ) (spill : List Float) (recv order queue : List ℕ) → Started w h land hs status spill recv
+      → Begun hs order status spill s queue → Running w h land hs 0 s status spill recv order queue
+  running-none s status spill recv order queue t b = record { state = t .state ∙ sym (floodAfter-none floats (gridGround w h land hs) hs); begun = b }
 
-  module _ (i : ℕ) (s : Scan) (status : List ℕ) (spill : List Float) (recv order queue : List ℕ) (r : Running w h water hs i s status spill recv order queue)
+  module _ (i : ℕ) (s : Scan) (status : List ℕ) (spill : List Float) (recv order queue : List ℕ) (r : Running w h land hs i s status spill recv order queue)
       (a : Accepted w h hs) where
     abbrev now-state : Flood Float
     now-state = stateOf status spill recv (take i order)
@@ -74,25 +75,25 @@ module _ (w h : ℕ) (water : Float) (hs : List Float) where
     few = omega (arith, a .cells, cells-bound w h (a .sides .wide) (a .sides .high))
 
     -- while some cell has not left, one waits
-    pub some-waits : Fit hs → i < w * h → Waits status
-    some-waits fit l = record { cell = next; waits = eqb-true (getD status next 0) 1 (leastWaiting-found floats (gridGround w h water hs) hs now-state .one-waits inside) }
+    pub some-waits : noBase (gridGround w h land hs) ≡ false → Fit hs → i < w * h → Waits status
+    some-waits some fit l = record { cell = next; waits = eqb-true (getD status next 0) 1 (leastWaiting-found floats (gridGround w h land hs) hs now-state .one-waits inside) }
       where
         next : ℕ
-        next = leastWaiting floats (gridGround w h water hs) hs now-state
+        next = leastWaiting floats (gridGround w h land hs) hs now-state
 
         inside : next < w * h
         inside =
-            subst (λ s. leastWaiting floats (gridGround w h water hs) hs s < w * h) (sym (r .state))
-            (grid-stage w h water hs (a .sides) (a .cells) fit (a .finites) i (omega arith) .next l)
+            subst (λ s. leastWaiting floats (gridGround w h land hs) hs s < w * h) (sym (r .state))
+            (grid-stage w h land hs (a .sides) (a .cells) fit (a .finites) some i (omega arith) .next l)
 
     -- as many cells have left as stand in the order
-    left-count : Fit hs → i ≤ w * h → countBelow (w * h) (λ c. eqb (getD status c 0) 2) ≡ i
-    left-count fit l =
-        let stands = grid-stands w h water hs (a .sides) (a .cells) fit (a .finites) i l in
+    left-count : noBase (gridGround w h land hs) ≡ false → Fit hs → i ≤ w * h → countBelow (w * h) (λ c. eqb (getD status c 0) 2) ≡ i
+    left-count some fit l =
+        let stands = grid-stands w h land hs (a .sides) (a .cells) fit (a .finites) some i l in
         ap (λ (t : Flood Float). countBelow (w * h) (λ c. eqb (getD (t .status) c 0) 2)) (r .state) ∙ stands .holds .flooding .count ∙ stands .left
 
-    module _ (fit : Fit hs) (l : i < w * h) (t : Scan) (status′ queue′ : List ℕ) (turned : Turned hs order (s .head) status spill t status′ queue′)
-        (sized : length status ≡ w * h) where
+    module _ (some : noBase (gridGround w h land hs) ≡ false) (fit : Fit hs) (l : i < w * h) (t : Scan) (status′ queue′ : List ℕ)
+        (turned : Turned hs order (s .head) status spill t status′ queue′) (sized : length status ≡ w * h) where
       module _ (m : t .cell < length hs) where
         abbrev c : ℕ
         c = t .cell
@@ -114,7 +115,7 @@ module _ (w h : ℕ) (water : Float) (hs : List Float) where
         leaver-room =
             omega (
               arith,
-              left-count fit (omega arith),
+              left-count some fit (omega arith),
               count-more (λ b. eqb (getD status b 0) 2) (λ b. eqb (getD status′ b 0) 2) (w * h) c inside
                   (ne-eqb (getD status c 0) 2 (λ z. omega (arith, v .waited))) (eq-eqb (getD status′ c 0) 2 left-now) (λ b d. ap (λ z. eqb z 2) (sym (other b d))),
               count-apart (λ b. eqb (getD status′ b 0) 2) (atLimit hs (t .limit)) (w * h)
@@ -134,33 +135,33 @@ module _ (w h : ℕ) (water : Float) (hs : List Float) where
             good : Height (getD spill c nan)
             good =
                 subst (λ (z : Flood Float). Height (getD (z .spill) c nan)) (sym (r .state))
-                (grid-stage w h water hs (a .sides) (a .cells) fit (a .finites) i (omega arith) .good c inside)
+                (grid-stage w h land hs (a .sides) (a .cells) fit (a .finites) some i (omega arith) .good c inside)
 
-        leaves-next : leastWaiting floats (gridGround w h water hs) hs now-state ≡ c
+        leaves-next : leastWaiting floats (gridGround w h land hs) hs now-state ≡ c
         leaves-next =
-            leastWaiting-is floats (gridGround w h water hs) hs now-state (omega (arith, few, a .cells)) c inside (eq-eqb (getD status c 0) 1 (v .waited))
+            leastWaiting-is floats (gridGround w h land hs) hs now-state (omega (arith, few, a .cells)) c inside (eq-eqb (getD status c 0) 1 (v .waited))
             (λ b k e. v .least b (eqb-true (getD status b 0) 1 e))
 
         running-leaves :
             (len′ : ℕ) (status″ : List ℕ) (spill″ : List Float) (recv″ order″ queue″ : List ℕ) → length order ≡ w * h → order″ ≡ set order i c
             → ReachedAll w h hs (t .limit) c status′ spill recv len′ status″ spill″ recv″ queue″
-            → Running w h water hs (i + 1) (after t len′) status″ spill″ recv″ order″ queue″
+            → Running w h land hs (i + 1) (after t len′) status″ spill″ recv″ order″ queue″
         running-leaves len′ status″ spill″ recv″ order″ queue″ n e x = record {
           state =
               ap (stateOf status″ spill″ recv″) (ap (take (i + 1)) e ∙ ap (λ n. take n (set order i c)) (add-one i) ∙ take-suc-set order i c (omega arith))
-              ∙ x .state water (take i order ++ (c ∷ []))
-              ∙ ap (λ z. Rattle.drainage.specs.Flood.pushAll floats (gridGround w h water hs) hs c (stateOf z spill recv (take i order ++ (c ∷ [])))) (v .marked)
-              ∙ sym (step-leaves floats (gridGround w h water hs) hs now-state c leaves-next inside)
-              ∙ ap (step floats (gridGround w h water hs) hs) (r .state)
-              ∙ sym (floodAfter-more floats (gridGround w h water hs) hs i)
-              ∙ ap (floodAfter floats (gridGround w h water hs) hs) (sym (add-one i));
+              ∙ x .state (land .distances) _ (take i order ++ (c ∷ []))
+              ∙ ap (λ z. Rattle.drainage.specs.Flood.pushAll floats (gridGround w h land hs) hs c (stateOf z spill recv (take i order ++ (c ∷ [])))) (v .marked)
+              ∙ sym (step-leaves floats (gridGround w h land hs) hs now-state c leaves-next inside)
+              ∙ ap (step floats (gridGround w h land hs) hs) (r .state)
+              ∙ sym (floodAfter-more floats (gridGround w h land hs) hs i)
+              ∙ ap (floodAfter floats (gridGround w h land hs) hs) (sym (add-one i));
           begun = record { listed = listed-set hs (t .head) (t .limit) order order″ (turned .listed) i c leaver-room e; queued = x .queued };
         }
 
       running-passes :
           length hs ≤ t .cell → (len′ : ℕ) (status″ : List ℕ) (spill″ : List Float) (recv″ order″ queue″ : List ℕ)
           → stateOf status″ spill″ recv″ order″ ≡ stateOf status′ spill recv order → Queued hs (t .limit) status″ spill″ len′ queue″
-          → Running w h water hs i (after t len′) status″ spill″ recv″ order″ queue″
+          → Running w h land hs i (after t len′) status″ spill″ recv″ order″ queue″
       running-passes m len′ status″ spill″ recv″ order″ queue″ e q = record {
         state =
             ap (λ (z : Flood Float). stateOf (z .status) (z .spill) (z .finder) (take i (z .order))) e
@@ -175,13 +176,13 @@ module _ (w h : ℕ) (water : Float) (hs : List Float) where
       pub running-more :
           length order ≡ w * h → (len′ k : ℕ) (status″ : List ℕ) (spill″ : List Float) (recv″ order″ queue″ : List ℕ)
           → Onward w h hs i t order status′ spill recv len′ order″ status″ spill″ recv″ queue″ → k ≡ cond (ltb (t .cell) (length hs)) 1 0
-          → Running w h water hs (i + k) (after t len′) status″ spill″ recv″ order″ queue″
+          → Running w h land hs (i + k) (after t len′) status″ spill″ recv″ order″ queue″
       running-more n len′ k status″ spill″ recv″ order″ queue″ o e = elim (decLt (t .cell) (length hs)) [
         | yes m ↦
-            subst (λ j. Running w h water hs j (after t len′) status″ spill″ recv″ order″ queue″) (one-more m)
+            subst (λ j. Running w h land hs j (after t len′) status″ spill″ recv″ order″ queue″) (one-more m)
             (running-leaves m len′ status″ spill″ recv″ order″ queue″ n (o .joins m) (o .reached m))
         | no m ↦
-            subst (λ j. Running w h water hs j (after t len′) status″ spill″ recv″ order″ queue″) (no-more (omega arith))
+            subst (λ j. Running w h land hs j (after t len′) status″ spill″ recv″ order″ queue″) (no-more (omega arith))
             (running-passes (omega arith) len′ status″ spill″ recv″ order″ queue″ (o .stays (omega arith)) (o .queued))
       ]
         where
@@ -202,12 +203,12 @@ module _ (w h : ℕ) (water : Float) (hs : List Float) where
             (omega arith, omega (arith, turned .passes (omega arith), turned .listed .few, turned .listed .long, a .cells))
       ]
 
-    pub running-done : i ≤ w * h → w * h ≤ i → length order ≡ w * h → Flooded w h water hs order recv spill
+    pub running-done : i ≤ w * h → w * h ≤ i → length order ≡ w * h → Flooded w h land hs order recv spill
     running-done lo hi n = record {
       left = sym (take-all i order (omega arith)) ∙ ap (λ (s : Flood Float). s .order) whole;
       found = ap (λ (s : Flood Float). s .finder) whole;
       raised = ap (λ (s : Flood Float). s .spill) whole;
     }
       where
-        whole : now-state ≡ flooded floats (gridGround w h water hs) hs
-        whole = at-end (floodAfter floats (gridGround w h water hs) hs) (r .state) lo hi
+        whole : now-state ≡ flooded floats (gridGround w h land hs) hs
+        whole = at-end (floodAfter floats (gridGround w h land hs) hs) (r .state) lo hi

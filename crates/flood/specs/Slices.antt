@@ -9,6 +9,7 @@ use Rattle.grid.specs.Sides.{InRange}
 use Rattle.grid.specs.Heights.{allFinite}
 use Rattle.drainage.specs.Ground.{floats, gridGround}
 use Rattle.drainage.specs.Flood.{flooded}
+use Rattle.drainage.specs.declared.Land.{Land}
 
 -- A grid that document 01 accepts.
 pub record Accepted (w h : ℕ) (hs : List Float) : Type 0 where
@@ -17,7 +18,7 @@ pub record Accepted (w h : ℕ) (hs : List Float) : Type 0 where
   pub finites : allFinite hs ≡ true
 
 -- The slices hold the whole flood.
-pub record Flooded (w h : ℕ) (water : Float) (hs : List Float) (order recv : List ℕ) (spill : List Float) : Type 0 where
-  pub left : order ≡ flooded floats (gridGround w h water hs) hs .order
-  pub found : recv ≡ flooded floats (gridGround w h water hs) hs .finder
-  pub raised : spill ≡ flooded floats (gridGround w h water hs) hs .spill
+pub record Flooded (w h : ℕ) (land : Land) (hs : List Float) (order recv : List ℕ) (spill : List Float) : Type 0 where
+  pub left : order ≡ flooded floats (gridGround w h land hs) hs .order
+  pub found : recv ≡ flooded floats (gridGround w h land hs) hs .finder
+  pub raised : spill ≡ flooded floats (gridGround w h land hs) hs .spill

@@ -1,5 +1,6 @@
 // The flood of flow.rs on lent slices: base cells are pushed, then the least waiting cell leaves and pushes its neighbours, until all have left.
 // Each function does what specs/ says of it, so that the whole is the flood that crates/drainage defines.
+use drainage::Land;
 use flood_start::start;
 use grid::Sides;
 use inner_cells::offsets;
@@ -10,11 +11,12 @@ use scan_queue::turn;
 use sorted_cells::sort_cells;
 ghost use Prim.Native.Nat.{_*_, _<_};
 ghost use mathlib.Core.Path.{_≡_};
-ghost use mathlib.Core.Bool.{cond};
+ghost use mathlib.Core.Bool.{false, cond};
 ghost use lib.ListN.{length};
 ghost use lib.Dec.{ltb};
 ghost use Rattle.grid.specs.Sides.{InRange};
 ghost use Rattle.inner_cells.specs.Inner.{offsetsOf};
+ghost use Rattle.drainage.specs.Ground.{gridGround, noBase};
 ghost use Rattle.scan_queue.specs.Scans.{Queued};
 ghost use Rattle.flood_start.specs.Slices.{Sizes};
 ghost use Rattle.flood.specs.Slices.{Accepted, Flooded};
@@ -58,11 +60,12 @@ fn leavers(s: Scan, n: usize) -> usize
     0
 }
 
-// The whole flood: order, finders and spill heights. The queue and the statuses are scratch.
+// The whole flood, where some cell is base level: order, finders and spill heights.
+// The queue and the statuses are scratch.
 pub fn flood(
     g: Sides,
     h: &[f32],
-    water: f32,
+    land: Land,
     order: &mut [u32],
     recv: &mut [u32],
     spill: &mut [f32],
@@ -72,12 +75,13 @@ pub fn flood(
     requires { ⌜ Accepted (g .w) (g .h) (now h) ⌝ }
     requires { ⌜ length (now order) ≡ g .w * g .h ⌝ }
     requires { ⌜ Sizes (g .w * g .h) (now h) (now status) (now spill) (now recv) (now queue) ⌝ }
-    ensures { λ _. ⌜ Flooded (g .w) (g .h) water (now (h .entry)) (now (order .exit)) (now (recv .exit)) (now (spill .exit)) ⌝ }
+    requires { ⌜ noBase (gridGround (g .w) (g .h) land (now h)) ≡ false ⌝ }
+    ensures { λ _. ⌜ Flooded (g .w) (g .h) land (now (h .entry)) (now (order .exit)) (now (recv .exit)) (now (spill .exit)) ⌝ }
 {
     let n = h.len();
     let os = offsets(g.w);
     let sorted = sort_cells(h, order, recv);
-    start(g, h, water, status, spill, recv);
+    start(g, h, land, status, spill, recv);
     let mut s = begin(sorted, h, order, status, spill, queue);
     let mut i: usize = 0;
     while i < n {

@@ -2,15 +2,16 @@
 -- its own.
 use Prim.Native.Nat.{ℕ, _^_, _≤_}
 use mathlib.Core.Path.{_≡_}
-use mathlib.Core.Bool.{_||_, cond}
+use mathlib.Core.Bool.{cond}
 use mathlib.Core.List.{List, []}
 use lib.ListN.{length, getD, set}
-use lib.Ieee.{Float, nan, le}
+use lib.Ieee.{Float, nan}
 use Rattle.lists.specs.Loops.{turns}
 use Rattle.grid.specs.Sides.{cellOf}
-use Rattle.grid.specs.Base.{onBorder}
+use Rattle.grid.specs.Base.{baseAt}
 use Rattle.drainage.specs.Ground.{floats, gridGround}
 use Rattle.drainage.specs.Flood.{Flood, start}
+use Rattle.drainage.specs.declared.Land.{Land}
 
 abbrev pub stateOf : List ℕ → List Float → List ℕ → List ℕ → Flood Float
 stateOf status spill recv order = record { status = status; spill = spill; finder = recv; order = order }
@@ -25,17 +26,17 @@ pub record Sizes (n : ℕ) (hs : List Float) (status : List ℕ) (spill : List F
   pub room : n ≤ length queue
 
 -- the status that a cell starts with: base cells wait
-abbrev pub markOf : ℕ → ℕ → ℕ → ℕ → Float → Float → ℕ
-markOf w h x y height water = cond (onBorder w h x y || le height water) 1 0
+abbrev pub markOf : ℕ → ℕ → Land → ℕ → ℕ → Float → ℕ
+markOf w h land x y height = cond (baseAt w h (land .sides) (land .«water_level») x y height) 1 0
 
 -- the first x cells of row y stored, each made from the list so far
 abbrev pub rowBy : {A : Type 0} → ℕ → (ℕ → ℕ → List A → A) → ℕ → ℕ → List A → List A
 rowBy w make y x = turns x (λ x l. set l (cellOf w x y) (make x y l))
 
 -- a row of marks
-abbrev pub rowMarked : ℕ → ℕ → List Float → Float → ℕ → List ℕ → List ℕ
-rowMarked w h hs water y = rowBy w (λ x y l. markOf w h x y (getD hs (cellOf w x y) nan) water) y w
+abbrev pub rowMarked : ℕ → ℕ → List Float → Land → ℕ → List ℕ → List ℕ
+rowMarked w h hs land y = rowBy w (λ x y l. markOf w h land x y (getD hs (cellOf w x y) nan)) y w
 
 -- The slices hold the first state of the flood.
-pub record Started (w h : ℕ) (water : Float) (hs : List Float) (status : List ℕ) (spill : List Float) (recv : List ℕ) : Type 0 where
-  pub state : stateOf status spill recv [] ≡ start floats (gridGround w h water hs) hs
+pub record Started (w h : ℕ) (land : Land) (hs : List Float) (status : List ℕ) (spill : List Float) (recv : List ℕ) : Type 0 where
+  pub state : stateOf status spill recv [] ≡ start floats (gridGround w h land hs) hs

@@ -1,6 +1,7 @@
 -- What a cell that leaves has done once it has reached the cells of a list, and that all its neighbours, or those not pushed yet, will do.
 use Prim.Native.Nat.{ℕ, suc, _+_, _≤_, _<_}
 use mathlib.Core.Path.{_≡_, refl, sym, ap, _∙_, subst}
+use mathlib.Core.Bool.{Bool}
 use mathlib.Core.List.{List, [], _∷_, _++_}
 use native.Mathlib.Numerals.{add-one}
 use native.Mathlib.Omega.{arith}
@@ -11,7 +12,8 @@ use Rattle.lists.specs.Loops.{tabulate}
 use Rattle.lists.proofs.LoopLaws.{at-end}
 use Rattle.lists.proofs.TableLaws.{length-tabulate}
 use Rattle.grid.specs.Directions.{neighbourAt}
-use Rattle.drainage.specs.Ground.{floats, gridGround}
+use Rattle.spacing.specs.declared.Distances.{Distances}
+use Rattle.drainage.specs.Ground.{floats, groundBy}
 use Rattle.drainage.specs.Flood.{push, pushAll}
 use Rattle.drainage.proofs.KeptLaws.{pushedTo}
 use Rattle.flood_start.specs.Slices.{stateOf}
@@ -64,22 +66,22 @@ module _ (hs : List Float) (limit c : ℕ) (status : List ℕ) (spill : List Flo
         subst (λ l. ReachedBy hs limit c l status spill recv len₁ status₁ spill₁ recv₁ queue₁) (at-end (λ (i : ℕ). take i found) e a b) r
 
     all-reached :
-        (w h : ℕ) → ((water : Float) (order : List ℕ) → pushedBy floats (gridGround w h water hs) hs c cells (stateOf status spill recv order) ≡ pushedTo floats (gridGround w h water hs) hs c 8 (stateOf status spill recv order))
+        (w h : ℕ) → ((ds : Distances) (base : ℕ → Bool) (order : List ℕ) → pushedBy floats (groundBy w h ds base) hs c cells (stateOf status spill recv order) ≡ pushedTo floats (groundBy w h ds base) hs c 8 (stateOf status spill recv order))
         → ReachedAll w h hs limit c status spill recv len₁ status₁ spill₁ recv₁ queue₁
     unfolding pushAll
-    all-reached w h e = record { state = λ water order. r .state (gridGround w h water hs) order ∙ e water order; queued = r .queued }
+    all-reached w h e = record { state = λ ds base order. r .state (groundBy w h ds base) order ∙ e ds base order; queued = r .queued }
 
     -- all the neighbours are reached
     pub all-near : (w h : ℕ) (found : List ℕ) → found ≡ tabulate 8 (λ i. neighbourAt w h c (suc i)) → cells ≡ take 8 found → ReachedAll w h hs limit c status spill recv len₁ status₁ spill₁ recv₁ queue₁
     all-near w h found f e =
-        all-reached w h (λ water order.
-        ap (λ l. pushedBy floats (gridGround w h water hs) hs c l (stateOf status spill recv order))
+        all-reached w h (λ ds base order.
+        ap (λ l. pushedBy floats (groundBy w h ds base) hs c l (stateOf status spill recv order))
         (e ∙ take-all 8 found (omega (arith, ap length f, length-tabulate (λ i. neighbourAt w h c (suc i)) 8)) ∙ f)
-        ∙ pushedBy-near floats (gridGround w h water hs) hs c 8 (stateOf status spill recv order))
+        ∙ pushedBy-near floats (groundBy w h ds base) hs c 8 (stateOf status spill recv order))
 
     -- so they are once those not pushed yet are
     pub found-reached : (w h : ℕ) (found : List ℕ) (some : ℕ) → Found (neighbourAt w h c) status 8 some found → cells ≡ take some found → ReachedAll w h hs limit c status spill recv len₁ status₁ spill₁ recv₁ queue₁
     found-reached w h found some f e =
-        all-reached w h (λ water order.
-        ap (λ l. pushedBy floats (gridGround w h water hs) hs c l (stateOf status spill recv order)) (e ∙ f .cells)
-        ∙ unpushed-all floats (gridGround w h water hs) hs c 8 (stateOf status spill recv order))
+        all-reached w h (λ ds base order.
+        ap (λ l. pushedBy floats (groundBy w h ds base) hs c l (stateOf status spill recv order)) (e ∙ f .cells)
+        ∙ unpushed-all floats (groundBy w h ds base) hs c 8 (stateOf status spill recv order))

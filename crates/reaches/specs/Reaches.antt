@@ -1,12 +1,13 @@
 -- What a cell that leaves does to its neighbours, on the slices.
 use Prim.Native.Nat.{ℕ, zero, suc, _≤_}
 use mathlib.Core.Path.{_≡_}
-use mathlib.Core.Bool.{cond}
+use mathlib.Core.Bool.{Bool, cond}
 use mathlib.Core.List.{List, [], _∷_, _++_}
 use lib.Dec.{eqb}
 use lib.ListN.{length, getD, take}
 use lib.Ieee.{Float, nan}
-use Rattle.drainage.specs.Ground.{Kind, Ground, floats, gridGround}
+use Rattle.spacing.specs.declared.Distances.{Distances}
+use Rattle.drainage.specs.Ground.{Kind, Ground, floats, groundBy}
 use Rattle.drainage.specs.Flood.{Flood, push, pushAll}
 use Rattle.scan_queue.specs.Scans.{Queued}
 use Rattle.flood_start.specs.Slices.{stateOf}
@@ -30,11 +31,12 @@ pub record ReachedBy (hs : List Float) (limit c : ℕ) (cells status : List ℕ)
 abbrev pub Reached : List Float → ℕ → ℕ → ℕ → List ℕ → List Float → List ℕ → ℕ → List ℕ → List Float → List ℕ → List ℕ → Type 0
 Reached hs limit c m = ReachedBy hs limit c (m ∷ [])
 
--- Cell c has reached all its neighbours.
+-- Cell c has reached all its neighbours, whatever cells are base level and whatever the distances.
 pub record ReachedAll (w h : ℕ) (hs : List Float) (limit c : ℕ) (status : List ℕ) (spill : List Float) (recv : List ℕ) (len : ℕ) (status′ : List ℕ)
     (spill′ : List Float) (recv′ queue′ : List ℕ) : Type 0 where
   pub state :
-      (water : Float) (order : List ℕ) → stateOf status′ spill′ recv′ order ≡ pushAll floats (gridGround w h water hs) hs c (stateOf status spill recv order)
+      (ds : Distances) (base : ℕ → Bool) (order : List ℕ)
+      → stateOf status′ spill′ recv′ order ≡ pushAll floats (groundBy w h ds base) hs c (stateOf status spill recv order)
   pub queued : Queued hs limit status′ spill′ len queue′
 
 -- the cells among near 1, … near d that have not been pushed

@@ -13,10 +13,10 @@ use Rattle.flood_start.proofs.mark_row.Statement.{statement}
 use Rattle.flood_start.proofs.mark_row.Tie as tie
 
 abbrev Inv-loop : tie.InvT-loop
-Inv-loop g y h water status₀ w row x₀ status x = (x ≤ w) × (length status ≡ length status₀) × (status ≡ rowBy (g .w) (markAt (g .w) (g .h) h water) y x status₀)
+Inv-loop g y h land status₀ w row x₀ status x = (x ≤ w) × (length status ≡ length status₀) × (status ≡ rowBy (g .w) (markAt (g .w) (g .h) h land) y x status₀)
 
 abbrev μ-loop : tie.MeasureT-loop
-μ-loop g y h water status₀ w row x₀ status x = w - x
+μ-loop g y h land status₀ w row x₀ status x = w - x
 
 inside : (c : tie.In-loop Inv-loop μ-loop) → cellOf (c .before .before .before .before .args .g .w) (c .before .loop .x) (c .before .before .before .before .args .y) < c .before .before .before .before .args .g .w * c .before .before .before .before .args .g .h
 inside c = cell-lt _ _ _ (c .loop-test .taken) _ (c .before .before .before .before .pre .0)
@@ -37,7 +37,7 @@ shared-slice-read-mark : tie.Need-shared-slice-read-mark Inv-loop μ-loop
 shared-slice-read-mark c = omega (arith, inside (c .before))
 
 mark-requires : tie.Need-mark-requires Inv-loop μ-loop
-mark-requires c κs = tt
+mark-requires c κs = (omega arith, omega arith)
 
 slice-write-status : tie.Need-slice-write-status Inv-loop μ-loop
 slice-write-status c = omega (arith, inside (c .before .before))
@@ -51,7 +51,7 @@ loop-less c = omega arith
 loop-again : tie.Need-loop-again Inv-loop μ-loop
 loop-again c =
     let a = c .before .before .before .before .before .before .args in
-    (omega arith, simp length-set (c .before .before .before .loop .inv .1), row-more (a .g .w) (markAt (a .g .w) (a .g .h) (a .h .now) (a .water)) (a .y) _ _ _ _ (c .before .before .before .loop .inv .2) (c .mark .ensures))
+    (omega arith, simp length-set (c .before .before .before .loop .inv .1), row-more (a .g .w) (markAt (a .g .w) (a .g .h) (a .h .now) (a .land)) (a .y) _ _ _ _ (c .before .before .before .loop .inv .2) (c .mark .ensures))
 
 same-length : tie.Need-same-length Inv-loop μ-loop
 same-length c = c .before .loop .inv .1
@@ -59,7 +59,7 @@ same-length c = c .before .loop .inv .1
 returns : tie.Need-returns Inv-loop μ-loop
 returns c =
     let a = c .before .before .before .before .args in
-    at-end (λ x. rowBy (a .g .w) (markAt (a .g .w) (a .g .h) (a .h .now) (a .water)) (a .y) x (a .status .now)) (c .before .loop .inv .2) (omega arith) (c .loop-test .left)
+    at-end (λ x. rowBy (a .g .w) (markAt (a .g .w) (a .g .h) (a .h .now) (a .land)) (a .y) x (a .status .now)) (c .before .loop .inv .2) (omega arith) (c .loop-test .left)
 
 pub mark-row-spec : {M : Type 1} → statement M
 mark-row-spec =
