@@ -19,8 +19,8 @@ pub cell-cut : (out : List Float) (c : ℕ) (own uplift water : Float) {rate rat
 cell-cut out c own uplift water e a b f = ap (set out c) (e ∙ ap₂ (cutOf own uplift water) (ap₂ (div binary32) a b) f)
 
 module _ (by : Incision) {cells : ℕ} {recv : List ℕ} (net : Network (by .width) recv cells) {words : List Float} (d : Worded (by .width) recv words) where
-  distance-is : (c : ℕ) → c < length recv → getD stepDistances (toBits binary32 (getD words c nan) % 16) nan ≡ apart (by .width) c (getD recv c 0)
-  distance-is c l = ap (λ (s : ℕ). getD stepDistances s nan) (stepped net d c l) ∙ step-distance (net .steps .near c l) (net .columns)
+  distance-is : (c : ℕ) → c < length recv → getD (stepDistances (by .distances)) (toBits binary32 (getD words c nan) % 16) nan ≡ apart (by .distances) (by .width) c (getD recv c 0)
+  distance-is c l = ap (λ (s : ℕ). getD (stepDistances (by .distances)) s nan) (stepped net d c l) ∙ step-distance (net .steps .near c l) (net .columns) (by .distances)
 
   pub by-word : (c : ℕ) → c < length recv → (own x : Float) → cutByWord by words c own x ≡ cutDown by (areasIn words) recv c own x
   by-word c l own x =

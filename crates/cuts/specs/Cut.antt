@@ -33,20 +33,20 @@ cutOf height uplift water c down = cond (le height water) height (solved height 
 -- the new height of cell c, from its own height, and the new height of its receiver
 abbrev pub cutDown : Incision → List Float → List ℕ → ℕ → Float → Float → Float
 cutDown by areas recv c own below =
-    cutOf own (by .uplift) (by .water) (incisionCoef (getD areas c nan) (by .cells) (by .k) (apart (by .width) c (getD recv c 0)))
+    cutOf own (by .uplift) (by .water) (incisionCoef (getD areas c nan) (by .cells) (by .k) (apart (by .distances) (by .width) c (getD recv c 0)))
     (drainedTo c (getD recv c 0) below (by .water))
 
 -- the same by the word of the cell, which has its area and the step to its receiver
 abbrev pub cutByWord : Incision → List Float → ℕ → Float → Float → Float
 cutByWord by words c own below =
     cutOf own (by .uplift) (by .water)
-    (incisionCoef (areaIn (getD words c nan)) (by .cells) (by .k) (getD stepDistances (toBits binary32 (getD words c nan) % 16) nan))
+    (incisionCoef (areaIn (getD words c nan)) (by .cells) (by .k) (getD (stepDistances (by .distances)) (toBits binary32 (getD words c nan) % 16) nan))
     (drainedTo c (receiverIn (by .width) c words) below (by .water))
 
 -- the distances and the offsets of steps, and the rates of the whole areas below m
 pub record Tables (by : Incision) (m : ℕ) (ds : List Float) (os : List ℕ) (rates : List Float) : Type 0 where
   pub few : m ≤ 1024
-  pub distances : ds ≡ stepDistances
+  pub distances : ds ≡ stepDistances (by .distances)
   pub offsets : os ≡ stepOffsets (by .width)
   pub small : rates ≡ ratesOf m (by .cells) (by .k)
 

@@ -2,6 +2,7 @@
 use floats::max;
 use rates::rate;
 use rates::rate_at;
+use spacing::Distances;
 use steps::stepped_to;
 use ways::receiver_distance;
 ghost use mathlib.Core.Path.{_≡_};
@@ -11,13 +12,14 @@ ghost use lib.Ieee.{nan};
 ghost use Rattle.area_words.specs.Words.{receiverIn, Passing};
 ghost use Rattle.cuts.specs.Cut.{drainedTo, cutOf, cutDown, cutByWord, Tables, CellOf};
 
-// An incision on its grid: the columns, the number of cells as a float, and the settings.
+// An incision on its grid: the columns, the number of cells as a float, the settings, and the distances to neighbours.
 pub struct Incision {
     pub width: usize,
     pub cells: f32,
     pub k: f32,
     pub uplift: f32,
     pub water: f32,
+    pub distances: Distances,
 }
 
 // The height that cell c drains to: the water level if it is its own receiver, and never less.
@@ -47,7 +49,8 @@ pub fn incise_cell(by: Incision, area: &[f32], recv: &[u32], out: &mut [f32], c:
     ensures { λ _. ⌜ now (out .exit) ≡ set (now (out .entry)) c (cutDown by (now (area .entry)) (now (recv .entry)) c (getD (now (out .entry)) c nan) (getD (now (out .entry)) (getD (now (recv .entry)) c 0) nan)) ⌝ }
 {
     let r = recv[c] as usize;
-    let coef = rate(area[c], by.cells, by.k) / receiver_distance(c, r, by.width);
+    let ds = by.distances;
+    let coef = rate(area[c], by.cells, by.k) / receiver_distance(c, r, by.width, ds);
     let down = drains_to(c, r, out[r], by.water);
     out[c] = cut(out[c], by.uplift, by.water, coef, down);
 }

@@ -3,6 +3,7 @@ use Prim.Native.Nat.{ℕ, suc, _+_, _*_, _^_, _≤_, _<_}
 use native.Mathlib.Numerals.{add-one}
 use native.Mathlib.Omega.{arith}
 use mathlib.Core.Path.{_≡_, refl, sym, ap, ap₂, _∙_}
+use mathlib.Core.Bool.{Bool}
 use mathlib.Core.List.{List}
 use lib.IntN.{pos}
 use lib.ListN.{length, getD, set, drop, length-set}
@@ -12,7 +13,8 @@ use lib.Ieee.{Float, nan, binary32, inFloat}
 use Rattle.floats.proofs.WholeLaws.{float-in}
 use Rattle.grid.specs.Sides.{InRange}
 use Rattle.grid.proofs.SidesLaws.{cells-bound, some-column}
-use Rattle.drainage.specs.Ground.{gridGround}
+use Rattle.spacing.specs.declared.Distances.{Distances}
+use Rattle.drainage.specs.Ground.{groundBy}
 use Rattle.drainage.specs.Ways.{areasAlong}
 use Rattle.ways.specs.Apart.{Along}
 use Rattle.ways.proofs.DistanceLaws.{distance-is}
@@ -54,22 +56,22 @@ module _ {w h : ℕ} {recv list : List ℕ} (drains : Drains w h recv list) wher
   network wide e = record { columns = wide; steps = steps-of (drains .along .receivers); long = e ∙ sym (drains .along .receivers) }
 
   -- what is made along the list by areas that are given is the incision of the definition
-  pub made-incised : (p : FluvialParams) (areas hs : List Float) → length hs ≡ w * h
-      → madeAlong nan recv (cutDown (onGrid w h p) areas recv) list hs ≡ inciseAlong (gridGround w h (p .«water_level») hs) p areas recv list hs
-  made-incised p areas hs long =
-      cut-alike (gridGround w h (p .«water_level») hs) p areas recv (cutDown (onGrid w h p) areas recv) hs hs long long alike list list (drains .work) (drains .work)
+  pub made-incised : (p : FluvialParams) (ds : Distances) (areas hs : List Float) → length hs ≡ w * h → (base : ℕ → Bool)
+      → madeAlong nan recv (cutDown (onGrid w h p ds) areas recv) list hs ≡ inciseAlong (groundBy w h ds base) p areas recv list hs
+  made-incised p ds areas hs long base =
+      cut-alike (groundBy w h ds base) p areas recv (cutDown (onGrid w h p ds) areas recv) hs hs long long alike list list (drains .work) (drains .work)
     where
-      alike : (c : ℕ) (x : Float) → c < w * h → cutDown (onGrid w h p) areas recv c (getD hs c nan) x ≡ cut (gridGround w h (p .«water_level») hs) p areas recv c (getD hs c nan) x
+      alike : (c : ℕ) (x : Float) → c < w * h → cutDown (onGrid w h p ds) areas recv c (getD hs c nan) x ≡ cut (groundBy w h ds base) p areas recv c (getD hs c nan) x
       alike c x l =
           ap
-          (λ (d : Float). cutOf (getD hs c nan) (p .uplift) (p .«water_level») (incisionCoef (getD areas c nan) (onGrid w h p .cells) (p .k) d) (drainedTo c (getD recv c 0) x (p .«water_level»)))
-          (distance-is w h (p .«water_level») hs c l (getD recv c 0) (good-is w h c (getD recv c 0) (drains .near c l)))
+          (λ (d : Float). cutOf (getD hs c nan) (p .uplift) (p .«water_level») (incisionCoef (getD areas c nan) (onGrid w h p ds .cells) (p .k) d) (drainedTo c (getD recv c 0) x (p .«water_level»)))
+          (distance-is ds w h base c l (getD recv c 0) (good-is w h c (getD recv c 0) (drains .near c l)))
 
   -- as the code comes to it: from a copy of the heights, by settings that it put together
-  pub along-done : (p : FluvialParams) (areas hs : List Float) {by : Incision} {start out : List Float} → by ≡ onGrid w h p → length hs ≡ w * h → start ≡ hs → out ≡ madeAlong nan recv (cutDown by areas recv) list start
-      → out ≡ inciseAlong (gridGround w h (p .«water_level») hs) p areas recv list hs
-  along-done p areas hs e long s o =
-      o ∙ ap₂ (λ (b : Incision) (l : List Float). madeAlong nan recv (cutDown b areas recv) list l) e s ∙ made-incised p areas hs long
+  pub along-done : (p : FluvialParams) (ds : Distances) (areas hs : List Float) {by : Incision} {start out : List Float} → by ≡ onGrid w h p ds → length hs ≡ w * h → start ≡ hs → out ≡ madeAlong nan recv (cutDown by areas recv) list start
+      → (base : ℕ → Bool) → out ≡ inciseAlong (groundBy w h ds base) p areas recv list hs
+  along-done p ds areas hs e long s o base =
+      o ∙ ap₂ (λ (b : Incision) (l : List Float). madeAlong nan recv (cutDown b areas recv) list l) e s ∙ made-incised p ds areas hs long base
 
 -- an entry of the list is a cell of the slices
 pub cell-of : {n : ℕ} {recv list : List ℕ} {areas out : List Float} → Along n recv list → length areas ≡ n → length out ≡ n
@@ -111,9 +113,9 @@ module _ {make : ℕ → Float → Float → Float} {recv list : List ℕ} {star
         ap (λ (k : List ℕ). madeAlong nan recv make k out) (sym (ap (λ (k : ℕ). drop k list) (sym e) ∙ drop-length list)) ∙ s .left
 
 -- the areas and the incision along the list together
-pub carved : {w h n : ℕ} {hs : List Float} {p : FluvialParams} {recv list : List ℕ} {areas area out : List Float} → n ≡ w * h → areas ≡ areasAlong n recv list
-    → Incised w h hs p areas recv list out area → Carved w h hs p recv list out area
+pub carved : {w h n : ℕ} {hs : List Float} {p : FluvialParams} {ds : Distances} {recv list : List ℕ} {areas area out : List Float} → n ≡ w * h → areas ≡ areasAlong n recv list
+    → Incised w h hs p ds areas recv list out area → Carved w h hs p ds recv list out area
 unfolding incisedBy
-carved {w} {h} {n} {hs} {p} {recv} {list} {areas} {area} {out} e a o =
+carved {w} {h} {n} {hs} {p} {ds} {recv} {list} {areas} {area} {out} e a o =
     let along : areas ≡ areasAlong (w * h) recv list = a ∙ ap (λ (k : ℕ). areasAlong k recv list) e in
-    record { heights = o .heights ∙ ap (λ (l : List Float). inciseAlong (gridGround w h (p .«water_level») hs) p l recv list hs) along; areas = o .still ∙ along }
+    record { heights = λ base. o .heights base ∙ ap (λ (l : List Float). inciseAlong (groundBy w h ds base) p l recv list hs) along; areas = o .still ∙ along }

@@ -12,6 +12,9 @@ use borrow.Author.Tests.{lt-ltb, le-ltb, ltb-false, eqb-true, not-false}
 use Rattle.lists.proofs.TestLaws.{neither, through}
 use Rattle.answers.specs.Outcome.{Outcome, gives, refused, refusedAt, answerOf}
 use Rattle.answers.specs.declared.Answer.{Answer}
+use Rattle.spacing.specs.Distances.{squareDistances}
+use Rattle.spacing.specs.declared.Distances.{Distances}
+use Rattle.drainage.specs.Ground.{groundBy}
 use Rattle.answers.specs.declared.Refusal.{Refusal}
 use Rattle.grid.specs.Sides.{badSides, InRange}
 use Rattle.grid.specs.Heights.{firstNotFinite, allFinite}
@@ -25,7 +28,8 @@ use Rattle.lists.proofs.FirstLaws.{first-of, all-first}
 use Rattle.lent_list.proofs.ListLaws.{good-at, good-work}
 use Rattle.lent_receivers.proofs.ReceiverLaws.{good-cell, good-is}
 use Rattle.steps.proofs.PlaceLaws.{near-of}
-use Rattle.fluvial_erosion.specs.Incise.{badLengths, badIncision, inciseRefusal, InciseMade}
+use Rattle.fluvial_erosion.specs.Incision.{incisedBy}
+use Rattle.fluvial_erosion.specs.Incise.{badLengths, badIncision, inciseRefusal, incised, InciseMade}
 use Rattle.fluvial_erosion.specs.Along.{Drains, Carved}
 use Rattle.fluvial_erosion.specs.declared.FluvialParams.{FluvialParams}
 
@@ -188,12 +192,13 @@ module _ (w h : ℕ) (hs : List Float) (p : FluvialParams) (recv list : List ℕ
 
   -- an accepted input is incised
   module _ (e : gives tt ≡ decided w h hs p recv list (length old) (length scratch)) where
-    pub made-incised : {r : Answer} {out front area : List Float} → answerOf r ≡ cond (allFinite out) (gives tt) (refused 22) → Carved w h hs p recv list out front
-        → area ≡ front ++ drop (w * h) scratch → InciseMade w h hs p recv list old scratch r out area
-    made-incised {r} {out} {front} {area} b c d =
+    pub made-incised : {r : Answer} {ds : Distances} {out front area : List Float} → answerOf r ≡ cond (allFinite out) (gives tt) (refused 22) → ds ≡ squareDistances
+        → Carved w h hs p ds recv list out front → area ≡ front ++ drop (w * h) scratch → InciseMade w h hs p recv list old scratch r out area
+    made-incised {r} {ds} {out} {front} {area} b s c d =
+        let cut : out ≡ incised w h hs p recv list = c .heights (λ c. false) ∙ ap (λ (ds : Distances). incisedBy (groundBy w h ds (λ c. false)) p recv list hs) s in
         record {
-          answer = b ∙ ap (λ (l : List Float). cond (allFinite l) (gives tt) (refused 22)) (c .heights) ∙ accepted-then own same e refused refusedAt _;
-          result = c .heights ∙ accepted-then own same e (λ _. old) (λ _ _. old) _;
+          answer = b ∙ ap (λ (l : List Float). cond (allFinite l) (gives tt) (refused 22)) cut ∙ accepted-then own same e refused refusedAt _;
+          result = cut ∙ accepted-then own same e (λ _. old) (λ _ _. old) _;
           areas = d ∙ ap (λ (l : List Float). l ++ drop (w * h) scratch) (c .areas) ∙ accepted-then own same e (λ _. scratch) (λ _ _. scratch) _;
         }
 

@@ -1,10 +1,12 @@
 -- The settled heights of ways down are those that the incision along the list leaves.
 use Prim.Native.Nat.{ℕ, _*_, _≤_}
 use mathlib.Core.Path.{_≡_, refl, sym, _∙_, subst}
+use mathlib.Core.Bool.{Bool}
 use mathlib.Core.List.{List}
 use lib.ListN.{length}
 use lib.Ieee.{Float}
-use Rattle.drainage.specs.Ground.{gridGround}
+use Rattle.spacing.specs.declared.Distances.{Distances}
+use Rattle.drainage.specs.Ground.{groundBy}
 use Rattle.drainage.specs.Ways.{WorkList}
 use Rattle.cuts.specs.declared.Incision.{Incision}
 use Rattle.ways_down.specs.Settled.{settledHeights}
@@ -22,6 +24,6 @@ module _ {w h : ℕ} {recv list : List ℕ} (drains : Drains w h recv list) wher
   pub ways-of : {hs out area : ℕ} → Lengths (w * h) hs out area → 3 ≤ w → Ways w recv hs out
   ways-of l wide = record { network = network drains wide (l .result); ordered = record { list = list; work = work }; heights = l .heights ∙ sym (drains .along .receivers) }
 
-  pub ways-done : (p : FluvialParams) (areas hs : List Float) {by : Incision} {out : List Float} → by ≡ onGrid w h p → length hs ≡ w * h → out ≡ settledHeights by hs areas recv
-      → out ≡ inciseAlong (gridGround w h (p .«water_level») hs) p areas recv list hs
-  ways-done p areas hs {by} e long o = along-done drains p areas hs e long refl (o ∙ heights-along by hs areas recv list work (long ∙ sym (drains .along .receivers)))
+  pub ways-done : (p : FluvialParams) (ds : Distances) (areas hs : List Float) {by : Incision} {out : List Float} → by ≡ onGrid w h p ds → length hs ≡ w * h → out ≡ settledHeights by hs areas recv
+      → (base : ℕ → Bool) → out ≡ inciseAlong (groundBy w h ds base) p areas recv list hs
+  ways-done p ds areas hs {by} e long o = along-done drains p ds areas hs e long refl (o ∙ heights-along by hs areas recv list work (long ∙ sym (drains .along .receivers)))

@@ -1,13 +1,14 @@
 -- What the inner calls of an incision ask, and what they leave.
 use Prim.Native.Nat.{ℕ, _*_, _<_}
 use mathlib.Core.Path.{_≡_}
-use mathlib.Core.Bool.{true}
+use mathlib.Core.Bool.{Bool, true}
 use mathlib.Core.List.{List}
 use lib.ListN.{getD}
 use lib.IntN.{pos}
 use lib.Ieee.{Float, binary32, ofInt}
 use Rattle.grid.specs.Sides.{InRange}
-use Rattle.drainage.specs.Ground.{gridGround}
+use Rattle.spacing.specs.declared.Distances.{Distances}
+use Rattle.drainage.specs.Ground.{groundBy}
 use Rattle.drainage.specs.Ways.{WorkList, areasAlong}
 use Rattle.ways.specs.Apart.{Along}
 use Rattle.cuts.specs.declared.Incision.{Incision}
@@ -28,16 +29,17 @@ pub record Lengths (n hmap out area : ℕ) : Type 0 where
   pub result : out ≡ n
   pub areas : area ≡ n
 
--- the settings of an incision on a w × h grid
-abbrev pub onGrid : ℕ → ℕ → FluvialParams → Incision
-onGrid w h p = record { width = w; cells = ofInt binary32 (pos (w * h)); k = p .k; uplift = p .uplift; water = p .«water_level» }
+-- the settings of an incision on a w × h grid with the distances between its cells
+abbrev pub onGrid : ℕ → ℕ → FluvialParams → Distances → Incision
+onGrid w h p ds = record { width = w; cells = ofInt binary32 (pos (w * h)); k = p .k; uplift = p .uplift; water = p .«water_level»; distances = ds }
 
--- what an incision by given areas leaves: the heights incised along the list, and the areas as they were
-pub record Incised (w h : ℕ) (hs : List Float) (p : FluvialParams) (areas : List Float) (recv list : List ℕ) (out area : List Float) : Type 0 where
-  pub heights : out ≡ inciseAlong (gridGround w h (p .«water_level») hs) p areas recv list hs
+-- what an incision by given areas leaves: the heights incised along the list, whatever cells are base level, and the
+-- areas as they were
+pub record Incised (w h : ℕ) (hs : List Float) (p : FluvialParams) (ds : Distances) (areas : List Float) (recv list : List ℕ) (out area : List Float) : Type 0 where
+  pub heights : (base : ℕ → Bool) → out ≡ inciseAlong (groundBy w h ds base) p areas recv list hs
   pub still : area ≡ areas
 
--- what `incise_into` leaves: the heights incised along the list, and the areas along it
-pub record Carved (w h : ℕ) (hs : List Float) (p : FluvialParams) (recv list : List ℕ) (out area : List Float) : Type 0 where
-  pub heights : out ≡ incisedBy (gridGround w h (p .«water_level») hs) p recv list hs
+-- what `incise_into` leaves: the heights incised along the list, whatever cells are base level, and the areas along it
+pub record Carved (w h : ℕ) (hs : List Float) (p : FluvialParams) (ds : Distances) (recv list : List ℕ) (out area : List Float) : Type 0 where
+  pub heights : (base : ℕ → Bool) → out ≡ incisedBy (groundBy w h ds base) p recv list hs
   pub areas : area ≡ areasAlong (w * h) recv list

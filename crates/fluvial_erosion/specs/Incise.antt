@@ -1,7 +1,7 @@
 -- What the public call `incise` answers and leaves in its result slice.
 use Prim.Native.Nat.{ℕ, _*_}
 use mathlib.Core.Path.{_≡_}
-use mathlib.Core.Bool.{Bool, not, _||_, cond}
+use mathlib.Core.Bool.{Bool, false, not, _||_, cond}
 use mathlib.Core.List.{List, _++_}
 use lib.ListN.{length, drop}
 use lib.Dec.{eqb, ltb}
@@ -11,7 +11,8 @@ use Rattle.answers.specs.Outcome.{Outcome, gives, refused, refusedAt, answerOf,
 use Rattle.answers.specs.declared.Answer.{Answer}
 use Rattle.grid.specs.Sides.{badSides}
 use Rattle.grid.specs.Heights.{firstNotFinite, allFinite}
-use Rattle.drainage.specs.Ground.{gridGround}
+use Rattle.spacing.specs.Distances.{squareDistances}
+use Rattle.drainage.specs.Ground.{groundBy}
 use Rattle.drainage.specs.Ways.{areasAlong}
 use Rattle.fluvial_erosion.specs.Incision.{incisedBy}
 use Rattle.lent_receivers.specs.Receivers.{firstBadReceiver}
@@ -40,8 +41,9 @@ inciseRefusal w h hs p recv list result scratch number at then =
     (cond (not (allFinite hs)) (at 5 (firstNotFinite hs))
     (cond (ltb (firstBadReceiver w h recv) n) (at 6 (firstBadReceiver w h recv)) (cond (ltb (firstBadEntry n recv list) n) (at 7 (firstBadEntry n recv list)) then)))))
 
+-- the heights incised along lent receivers, which asks for no base cell
 abbrev pub incised : ℕ → ℕ → List Float → FluvialParams → List ℕ → List ℕ → List Float
-incised w h hs p recv list = incisedBy (gridGround w h (p .«water_level») hs) p recv list hs
+incised w h hs p recv list = incisedBy (groundBy w h squareDistances (λ c. false)) p recv list hs
 
 -- then 22: a height not finite
 abbrev pub inciseAnswer : ℕ → ℕ → List Float → FluvialParams → List ℕ → List ℕ → ℕ → ℕ → Outcome (Unit {0})

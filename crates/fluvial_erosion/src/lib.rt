@@ -20,15 +20,18 @@ use lent_list::first_bad_entry;
 use lent_receivers::first_bad_receiver;
 use rates::table;
 use rates::table_size;
+use spacing::Distances;
+use spacing::square_distances;
 use steps::step_distances;
 use steps::step_offsets;
 use ways_down::incise_ways;
 ghost use mathlib.Core.Path.{_≡_};
-ghost use Prim.Native.Nat.{_*_, _≤_, _<_};
+ghost use mathlib.Core.Bool.{Bool};
+ghost use Prim.Native.Nat.{ℕ, _*_, _≤_, _<_};
 ghost use lib.ListN.{length};
 ghost use lib.Ieee.{nan};
 ghost use Rattle.grid.specs.Sides.{InRange};
-ghost use Rattle.drainage.specs.Ground.{gridGround};
+ghost use Rattle.drainage.specs.Ground.{groundBy};
 ghost use Rattle.ways.specs.Apart.{Along};
 ghost use Rattle.area_words.specs.Words.{areasIn, Network, Worded, WholeAreas};
 ghost use Rattle.cuts.specs.Cut.{cutDown};
@@ -45,10 +48,10 @@ pub struct FluvialParams {
     pub water_level: f32,
 }
 
-// The settings of an incision, with its grid.
-fn incision_of(size: Sides, params: FluvialParams) -> Incision
+// The settings of an incision, with its grid and the distances between its cells.
+fn incision_of(size: Sides, params: FluvialParams, ds: Distances) -> Incision
     requires { ⌜ InRange (size .w) (size .h) ⌝ }
-    ensures { λ r. ⌜ r ≡ onGrid (size .w) (size .h) params ⌝ }
+    ensures { λ r. ⌜ r ≡ onGrid (size .w) (size .h) params ds ⌝ }
 {
     Incision {
         width: size.w,
@@ -56,6 +59,7 @@ fn incision_of(size: Sides, params: FluvialParams) -> Incision
         k: params.k,
         uplift: params.uplift,
         water: params.water_level,
+        distances: ds,
     }
 }
 
@@ -81,7 +85,7 @@ fn incise_listed(by: Incision, recv: &[u32], words: &[f32], order: &[u32], out: 
     requires { ⌜ Worded (by .width) (now recv) (now words) ⌝ }
     ensures { λ _. ⌜ now (out .exit) ≡ madeAlong nan (now (recv .entry)) (cutDown by (areasIn (now (words .entry))) (now (recv .entry))) (now (order .entry)) (now (out .entry)) ⌝ }
 {
-    let ds = step_distances();
+    let ds = step_distances(by.distances);
     let offsets = step_offsets(by.width);
     let m = table_size(words.len());
     let rates = table(m, by.cells, by.k);
@@ -100,6 +104,7 @@ fn incise_narrow(
     size: Sides,
     hmap: &[f32],
     params: FluvialParams,
+    ds: Distances,
     area: &[f32],
     recv: &[u32],
     order: &[u32],
@@ -107,9 +112,9 @@ fn incise_narrow(
 )
     requires { ⌜ Drains (size .w) (size .h) (now recv) (now order) ⌝ }
     requires { ⌜ Lengths (size .w * size .h) (length (now hmap)) (length (now out)) (length (now area)) ⌝ }
-    ensures { λ _. ⌜ now (out .exit) ≡ inciseAlong (gridGround (size .w) (size .h) (params .«water_level») (now (hmap .entry))) params (now (area .entry)) (now (recv .entry)) (now (order .entry)) (now (hmap .entry)) ⌝ }
+    ensures { λ _. ⌜ ((base : ℕ → Bool) → now (out .exit) ≡ inciseAlong (groundBy (size .w) (size .h) ds base) params (now (area .entry)) (now (recv .entry)) (now (order .entry)) (now (hmap .entry))) ⌝ }
 {
-    let by = incision_of(size, params);
+    let by = incision_of(size, params, ds);
     copy_heights(hmap, out);
     incise_plain(by, area, recv, order, out);
 }
@@ -120,6 +125,7 @@ fn incise_words(
     size: Sides,
     hmap: &[f32],
     params: FluvialParams,
+    ds: Distances,
     recv: &[u32],
     order: &[u32],
     out: &mut [f32],
@@ -128,9 +134,9 @@ fn incise_words(
     requires { ⌜ Drains (size .w) (size .h) (now recv) (now order) ⌝ }
     requires { ⌜ Lengths (size .w * size .h) (length (now hmap)) (length (now out)) (length (now words)) ⌝ }
     requires { ⌜ (3 ≤ size .w) × Worded (size .w) (now recv) (now words) ⌝ }
-    ensures { λ _. ⌜ Incised (size .w) (size .h) (now (hmap .entry)) params (areasIn (now (words .entry))) (now (recv .entry)) (now (order .entry)) (now (out .exit)) (now (words .exit)) ⌝ }
+    ensures { λ _. ⌜ Incised (size .w) (size .h) (now (hmap .entry)) params ds (areasIn (now (words .entry))) (now (recv .entry)) (now (order .entry)) (now (out .exit)) (now (words .exit)) ⌝ }
 {
-    let by = incision_of(size, params);
+    let by = incision_of(size, params, ds);
     if 4194304 < words.len() {
         incise_ways(by, hmap, recv, words, out);
         read_areas(words);
@@ -146,6 +152,7 @@ pub fn incise_along(
     size: Sides,
     hmap: &[f32],
     params: FluvialParams,
+    ds: Distances,
     recv: &[u32],
     order: &[u32],
     out: &mut [f32],
@@ -154,14 +161,14 @@ pub fn incise_along(
     requires { ⌜ Drains (size .w) (size .h) (now recv) (now order) ⌝ }
     requires { ⌜ Lengths (size .w * size .h) (length (now hmap)) (length (now out)) (length (now area)) ⌝ }
     requires { ⌜ WholeAreas (now area) ⌝ }
-    ensures { λ _. ⌜ Incised (size .w) (size .h) (now (hmap .entry)) params (now (area .entry)) (now (recv .entry)) (now (order .entry)) (now (out .exit)) (now (area .exit)) ⌝ }
+    ensures { λ _. ⌜ Incised (size .w) (size .h) (now (hmap .entry)) params ds (now (area .entry)) (now (recv .entry)) (now (order .entry)) (now (out .exit)) (now (area .exit)) ⌝ }
 {
     if size.w < 3 {
-        incise_narrow(size, hmap, params, area, recv, order, out);
+        incise_narrow(size, hmap, params, ds, area, recv, order, out);
         return;
     }
     to_words(size.w, recv, area, true);
-    incise_words(size, hmap, params, recv, order, out, area);
+    incise_words(size, hmap, params, ds, recv, order, out, area);
 }
 
 // The heights of `hmap` in `out`, incised along the list, with the areas along it in `area`.
@@ -169,6 +176,7 @@ pub fn incise_into(
     size: Sides,
     hmap: &[f32],
     params: FluvialParams,
+    ds: Distances,
     recv: &[u32],
     order: &[u32],
     out: &mut [f32],
@@ -176,15 +184,15 @@ pub fn incise_into(
 )
     requires { ⌜ Drains (size .w) (size .h) (now recv) (now order) ⌝ }
     requires { ⌜ Lengths (size .w * size .h) (length (now hmap)) (length (now out)) (length (now area)) ⌝ }
-    ensures { λ _. ⌜ Carved (size .w) (size .h) (now (hmap .entry)) params (now (recv .entry)) (now (order .entry)) (now (out .exit)) (now (area .exit)) ⌝ }
+    ensures { λ _. ⌜ Carved (size .w) (size .h) (now (hmap .entry)) params ds (now (recv .entry)) (now (order .entry)) (now (out .exit)) (now (area .exit)) ⌝ }
 {
     if size.w < 3 {
         areas_along(size.w, recv, order, area);
-        incise_narrow(size, hmap, params, area, recv, order, out);
+        incise_narrow(size, hmap, params, ds, area, recv, order, out);
         return;
     }
     words_along(size.w, recv, order, area);
-    incise_words(size, hmap, params, recv, order, out, area);
+    incise_words(size, hmap, params, ds, recv, order, out, area);
 }
 
 // Refusal 3: a slice of another length than n, or a scratch slice of fewer.
@@ -280,7 +288,8 @@ pub fn incise(
         return answer;
     };
     let n = size.w * size.h;
-    incise_into(size, hmap, params, recv, order, out, &mut area[..n]);
+    let ds = square_distances();
+    incise_into(size, hmap, params, ds, recv, order, out, &mut area[..n]);
     if all_finite(out) {
         return Answer::Done;
     }

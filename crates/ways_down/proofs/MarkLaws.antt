@@ -14,6 +14,7 @@ use Rattle.lists.proofs.TestLaws.{clash}
 use Rattle.lists.proofs.TableLaws.{tabulate-same}
 use Rattle.floats.proofs.BitsLaws.{bits-back}
 use Rattle.float_order.specs.Whole.{whole}
+use Rattle.spacing.specs.declared.Distances.{Distances}
 use Rattle.ways.specs.Apart.{apart}
 use Rattle.steps.specs.Step.{stepOf, steppedTo, stepDistances}
 use Rattle.steps.proofs.StepLaws.{Step, step-back, step-proper, step-distance}
@@ -137,8 +138,8 @@ module _ {w : ℕ} {recv : List ℕ} {words : List Float} (m : Marked w recv wor
     pub free-receiver : {r : ℕ} → r ≡ receiverIn w c words → (r < length words) × Word (getD words r nan)
     free-receiver q = let h = net .steps .inside c l in (omega (arith, q, free-leads, m .long, h), marked-word _ (omega (arith, q, free-leads, h)))
 
-    distance-is : getD stepDistances (toBits binary32 (getD words c nan) % 16) nan ≡ apart w c (getD recv c 0)
-    distance-is = ap (λ (s : ℕ). getD stepDistances s nan) stepped ∙ step-distance (net .steps .near c l) (net .columns)
+    distance-is : (ds : Distances) → getD (stepDistances ds) (toBits binary32 (getD words c nan) % 16) nan ≡ apart ds w c (getD recv c 0)
+    distance-is ds = ap (λ (s : ℕ). getD (stepDistances ds) s nan) stepped ∙ step-distance (net .steps .near c l) (net .columns) ds
 
 -- a cell that is not made is cut by its word as by its area and its receiver
 pub free-cut : (by : Incision) {cells : ℕ} {recv : List ℕ} {words areas : List Float} (m : Marked (by .width) recv words) (net : Network (by .width) recv cells) → areasIn words ≡ areas
@@ -147,5 +148,5 @@ pub free-cut : (by : Incision) {cells : ℕ} {recv : List ℕ} {words areas : Li
 free-cut by {cells} {recv} {words} {areas} m net kept {c} l e own out q =
     q ∙ ap (set out c)
     (ap₂ (cutOf own (by .uplift) (by .water))
-    (ap₂ (λ (a d : Float). incisionCoef a (by .cells) (by .k) d) (area-is words c (omega (arith, m .long)) ∙ ap (λ (t : List Float). getD t c nan) kept) (distance-is m net l e))
+    (ap₂ (λ (a d : Float). incisionCoef a (by .cells) (by .k) d) (area-is words c (omega (arith, m .long)) ∙ ap (λ (t : List Float). getD t c nan) kept) (distance-is m net l e (by .distances)))
     (ap (λ (r : ℕ). drainedTo c r (getD out r nan) (by .water)) (free-leads m net l e)))

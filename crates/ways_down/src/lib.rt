@@ -156,7 +156,7 @@ pub fn incise_ways(by: Incision, hmap: &[f32], recv: &[u32], words: &mut [f32], 
     requires { ⌜ Worded (by .width) (now recv) (now words) ⌝ }
     ensures { λ _. ⌜ SettledWays by (now (hmap .entry)) (now (recv .entry)) (now (words .entry)) (now (words .exit)) (now (out .exit)) ⌝ }
 {
-    let ds = step_distances();
+    let ds = step_distances(by.distances);
     let offsets = step_offsets(by.width);
     let rates = table(1024, by.cells, by.k);
     let n = recv.len();

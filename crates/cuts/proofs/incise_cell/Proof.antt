@@ -53,7 +53,7 @@ same-length c = search needs
 
 returns : tie.Need-returns
 returns c =
-    let a = c .before .before .before .before .before .before .before .before .before .before .before .args in
+    let a = c .before .before .before .before .before .before .before .before .before .before .before .before .args in
     cell-cut (a .out .now) (a .c) _ (a .by .uplift) (a .by .water) (c .cut .ensures) (c .before .before .before .before .before .rate .ensures) (c .before .before .before .before .receiver-distance .ensures) (c .before .before .drains-to .ensures)
 
 pub incise-cell-spec : {M : Type 1} → statement M

@@ -38,14 +38,17 @@ returns c = let a = c .before .before .before .before .before .before .before .b
 mul-n : tie.Need-mul-n
 mul-n c = range-fit (drains (c .before) .sides)
 
+square-distances-requires : tie.Need-square-distances-requires
+square-distances-requires c κs = search needs
+
 slice-relend-prefix-incise-into : tie.Need-slice-relend-prefix-incise-into
-slice-relend-prefix-incise-into c = sizes (c .before .before) .areas
+slice-relend-prefix-incise-into c = sizes (c .before .before .before) .areas
 
 slice-aggregate-incise-into : tie.Need-slice-aggregate-incise-into
-slice-aggregate-incise-into c = sym (length-take-le _ _ (sizes (c .before .before .before) .areas))
+slice-aggregate-incise-into c = sym (length-take-le _ _ (sizes (c .before .before .before .before) .areas))
 
 incise-into-requires : tie.Need-incise-into-requires
-incise-into-requires c κs = (drains (c .before .before .before), record { heights = sizes (c .before .before .before) .map; result = sizes (c .before .before .before) .out; areas = length-take-le _ _ (sizes (c .before .before .before) .areas) })
+incise-into-requires c κs = (drains (c .before .before .before .before), record { heights = sizes (c .before .before .before .before) .map; result = sizes (c .before .before .before .before) .out; areas = length-take-le _ _ (sizes (c .before .before .before .before) .areas) })
 
 all-finite-requires : tie.Need-all-finite-requires
 all-finite-requires c κs = search needs
@@ -57,7 +60,7 @@ same-length-2 : tie.Need-same-length-2
 same-length-2 c = search needs
 
 returns-2 : tie.Need-returns-2
-returns-2 c = let a = c .before .before .before .before .before .before .before .before .before .before .before .before .before .before .before .before .before .before .before .args in made-incised (a .size .w) (a .size .h) (a .hmap .now) (a .params) (a .recv .now) (a .order .now) (a .out .now) (a .area .now) (told (c .before .before .before .before .before .before .before .before .before .before .before)) (answer-done _ (c .before .all-finite .ensures) (c .if1 .taken)) (c .before .before .before .before .before .before .before .incise-into .ensures) refl
+returns-2 c = let a = c .before .before .before .before .before .before .before .before .before .before .before .before .before .before .before .before .before .before .before .before .args in made-incised (a .size .w) (a .size .h) (a .hmap .now) (a .params) (a .recv .now) (a .order .now) (a .out .now) (a .area .now) (told (c .before .before .before .before .before .before .before .before .before .before .before .before)) (answer-done _ (c .before .all-finite .ensures) (c .if1 .taken)) (c .before .before .before .before .before .before .before .before .before .before .square-distances .ensures) (c .before .before .before .before .before .before .before .incise-into .ensures) refl
 
 same-length-3 : tie.Need-same-length-3
 same-length-3 c = search needs
@@ -66,7 +69,7 @@ same-length-4 : tie.Need-same-length-4
 same-length-4 c = search needs
 
 returns-3 : tie.Need-returns-3
-returns-3 c = let a = c .before .before .before .before .before .before .before .before .before .before .before .before .before .before .before .before .before .before .before .args in made-incised (a .size .w) (a .size .h) (a .hmap .now) (a .params) (a .recv .now) (a .order .now) (a .out .now) (a .area .now) (told (c .before .before .before .before .before .before .before .before .before .before .before)) (answer-off _ (c .before .all-finite .ensures) (c .if1 .left)) (c .before .before .before .before .before .before .before .incise-into .ensures) refl
+returns-3 c = let a = c .before .before .before .before .before .before .before .before .before .before .before .before .before .before .before .before .before .before .before .before .args in made-incised (a .size .w) (a .size .h) (a .hmap .now) (a .params) (a .recv .now) (a .order .now) (a .out .now) (a .area .now) (told (c .before .before .before .before .before .before .before .before .before .before .before .before)) (answer-off _ (c .before .all-finite .ensures) (c .if1 .left)) (c .before .before .before .before .before .before .before .before .before .before .square-distances .ensures) (c .before .before .before .before .before .before .before .incise-into .ensures) refl
 
 pub incise-spec : {M : Type 1} → statement M
 incise-spec =
@@ -77,6 +80,7 @@ incise-spec =
     enum-told-2
     returns
     mul-n
+    square-distances-requires
     slice-relend-prefix-incise-into
     slice-aggregate-incise-into
     incise-into-requires

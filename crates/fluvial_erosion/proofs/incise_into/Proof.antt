@@ -9,7 +9,9 @@ areas-along-requires : tie.Need-areas-along-requires
 areas-along-requires c κs = let p = c .before .before .before .before .before .before .before .before .pre in rw (p .1 .areas) (steps-of (p .0) refl, p .0 .work)
 
 incise-narrow-requires : tie.Need-incise-narrow-requires
-incise-narrow-requires c κs = search needs
+incise-narrow-requires c κs =
+    let p = c .before .before .before .before .before .before .before .before .before .before .before .before .before .pre in
+    (p .0, record { heights = p .1 .heights; result = p .1 .result; areas = c .before .before .before .before .areas-along .kept .1 .1 .1 .0 ∙ p .1 .areas })
 
 same-length : tie.Need-same-length
 same-length c = search needs

@@ -20,7 +20,7 @@ same-length : tie.Need-same-length
 same-length c = search needs
 
 returns : tie.Need-returns
-returns c = let a = c .before .before .before .before .before .before .before .before .before .before .before .before .before .before .args in along-done (c .before .before .before .before .before .before .before .before .before .before .before .before .before .before .pre .0) (a .params) (a .area .now) (a .hmap .now) (c .before .before .before .before .before .before .before .before .incision-of .ensures) (c .before .before .before .before .before .before .before .before .before .before .before .before .before .before .pre .1 .heights) (c .before .before .before .before .before .before .copy-heights .ensures) (c .before .before .incise-plain .ensures)
+returns c = let a = c .before .before .before .before .before .before .before .before .before .before .before .before .before .before .args in along-done (c .before .before .before .before .before .before .before .before .before .before .before .before .before .before .pre .0) (a .params) (a .ds) (a .area .now) (a .hmap .now) (c .before .before .before .before .before .before .before .before .incision-of .ensures) (c .before .before .before .before .before .before .before .before .before .before .before .before .before .before .pre .1 .heights) (c .before .before .before .before .before .before .copy-heights .ensures) (c .before .before .incise-plain .ensures)
 
 pub incise-narrow-spec : {M : Type 1} → statement M
 incise-narrow-spec =

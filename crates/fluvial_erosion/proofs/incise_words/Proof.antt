@@ -28,7 +28,7 @@ returns c =
     let p = c .before .before .before .before .before .before .before .before .before .before .before .before .before .before .before .before .before .before .pre in
     let s = c .before .before .before .before .before .before .before .before .incise-ways .ensures in
     record {
-      heights = ways-done (p .0) (a .params) (areasIn (a .words .now)) (a .hmap .now) (c .before .before .before .before .before .before .before .before .before .before .before .before .incision-of .ensures) (p .1 .0 .heights) (s .heights);
+      heights = ways-done (p .0) (a .params) (a .ds) (areasIn (a .words .now)) (a .hmap .now) (c .before .before .before .before .before .before .before .before .before .before .before .before .incision-of .ensures) (p .1 .0 .heights) (s .heights);
       still = c .before .before .read-areas .ensures ∙ s .areas;
     }
 
@@ -55,7 +55,7 @@ returns-2 c =
     let a = c .before .before .before .before .before .before .before .before .before .before .before .before .before .before .before .before .before .before .before .before .args in
     let p = c .before .before .before .before .before .before .before .before .before .before .before .before .before .before .before .before .before .before .before .before .pre in
     record {
-      heights = along-done (p .0) (a .params) (areasIn (a .words .now)) (a .hmap .now) (c .before .before .before .before .before .before .before .before .before .before .before .before .before .before .incision-of .ensures) (p .1 .0 .heights) (c .before .before .before .before .before .before .before .before .before .before .before .copy-heights .ensures) (c .before .before .before .before .before .before .incise-listed .ensures);
+      heights = along-done (p .0) (a .params) (a .ds) (areasIn (a .words .now)) (a .hmap .now) (c .before .before .before .before .before .before .before .before .before .before .before .before .before .before .incision-of .ensures) (p .1 .0 .heights) (c .before .before .before .before .before .before .before .before .before .before .before .copy-heights .ensures) (c .before .before .before .before .before .before .incise-listed .ensures);
       still = c .before .before .read-areas2 .ensures;
     }
 
