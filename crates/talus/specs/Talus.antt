@@ -9,12 +9,13 @@ use lib.Ieee.{Float, nan, binary32, ofBits, add, sub, mul, div, lt, le}
 use Rattle.lists.specs.Loops.{turns}
 use Rattle.floats.specs.Stand.{maxOf}
 use Rattle.grid.specs.Directions.{neighbourAt}
+use Rattle.spacing.specs.declared.Distances.{Distances}
 use Rattle.talus.specs.declared.Shed.{Shed}
 
--- the threshold toward the sides, and × `SQRT_2` toward the corners
-abbrev pub thresholdsOf : Float → List Float
-thresholdsOf t =
-    let diagonal = mul binary32 t (ofBits binary32 0x3fb5_04f3) in
+-- the threshold toward the sides, and × the diagonal toward the corners
+abbrev pub thresholdsOf : Float → Distances → List Float
+thresholdsOf t ds =
+    let diagonal = mul binary32 t (ds .diagonal) in
     t ∷ diagonal ∷ t ∷ diagonal ∷ t ∷ t ∷ diagonal ∷ t ∷ diagonal ∷ []
 
 -- the excess of cell c toward cell m over a threshold: (height - neighbour) - threshold

@@ -4,6 +4,7 @@ use floats::max;
 use grid::Sides;
 use grid::neighbour;
 use inner_cells::beside;
+use spacing::Distances;
 ghost use mathlib.Core.Path.{_≡_};
 ghost use mathlib.Core.Bool.{true, cond};
 ghost use Prim.Native.Nat.{_+_, _*_, _≤_, _<_};
@@ -20,13 +21,11 @@ pub struct Shed {
     pub greatest: f32,
 }
 
-const SQRT_2: f32 = 1.41421356;
-
-// The thresholds of the directions: t toward the sides, and t × SQRT_2 toward the corners. Entry 0 stands for no direction.
-pub fn thresholds(t: f32) -> [f32; 9]
-    ensures { λ r. ⌜ r ≡ thresholdsOf t ⌝ }
+// The thresholds of the directions: t toward the sides, and t × the diagonal toward the corners. Entry 0 stands for no direction.
+pub fn thresholds(t: f32, ds: Distances) -> [f32; 9]
+    ensures { λ r. ⌜ r ≡ thresholdsOf t ds ⌝ }
 {
-    let d = t * SQRT_2;
+    let d = t * ds.diagonal;
     [t, d, t, d, t, t, d, t, d]
 }
 

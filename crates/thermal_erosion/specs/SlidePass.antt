@@ -14,6 +14,7 @@ use Rattle.grid.specs.Sides.{badSides}
 use Rattle.grid.specs.Heights.{firstNotFinite, allFinite}
 use Rattle.generators.specs.Marks.{reportOf, badReport}
 use Rattle.generators.specs.declared.Progress.{Progress}
+use Rattle.spacing.specs.Distances.{squareDistances}
 use Rattle.talus.specs.Talus.{thresholdsOf, slideRow}
 use Rattle.thermal_erosion.specs.declared.ThermalParams.{ThermalParams}
 use Rattle.thermal_erosion.specs.declared.Slid.{Slid}
@@ -49,9 +50,9 @@ pub record Ready (w h map copy asked : ℕ) : Type 0 where
   pub copied : copy ≡ map
   pub questions : asked + h < 2 ^ 32
 
--- the whole pass of document 01's parameters
+-- the whole pass of document 01's parameters, between square cells
 abbrev pub passOf : ℕ → ℕ → ThermalParams → List Float → Float → Float → ℕ → Progress → Pass
-passOf w h p hs from to stop m = rowsOf w h (thresholdsOf (p .threshold)) (p .strength) (p .«water_level») hs from to stop h m
+passOf w h p hs from to stop m = rowsOf w h (thresholdsOf (p .threshold) squareDistances) (p .strength) (p .«water_level») hs from to stop h m
 
 -- refusal 4 of what a pass reports: ends of p 0 to 1, last -1 to 1, asked at most 2^31; but for the first end these are the ranges of a report
 abbrev pub badMarks : Float → Float → Progress → Bool

@@ -11,6 +11,7 @@ use grid::all_finite;
 use grid::bad_sides;
 use grid::copy_heights;
 use grid::first_not_finite;
+use spacing::square_distances;
 use talus::thresholds;
 use talus_rows::slide_row;
 ghost use mathlib.Core.Path.{_≡_};
@@ -121,7 +122,7 @@ fn slide_accepted(
     requires { ⌜ Ready (size .w) (size .h) (length (now hmap)) (length (now out)) (m .asked) ⌝ }
     ensures { λ r. ⌜ Passed (passOf (size .w) (size .h) params (now (hmap .entry)) from to stop m) r (now (out .exit)) ⌝ }
 {
-    let ts = thresholds(params.threshold);
+    let ts = thresholds(params.threshold, square_distances());
     let reached = slide_pass_into(
         size,
         &ts,

@@ -8,6 +8,7 @@ use lib.Ieee.{Float, binary32, div}
 use Rattle.float_order.specs.Whole.{whole}
 use Rattle.thermal_erosion.specs.SlidePass.{rowsOf}
 use Rattle.thermal_erosion.specs.declared.ThermalParams.{ThermalParams}
+use Rattle.spacing.specs.Distances.{squareDistances}
 use Rattle.talus.specs.Talus.{thresholdsOf}
 use Rattle.runs.specs.Machine.{Course}
 use Rattle.runs.specs.Run.{slideCourse}
@@ -59,7 +60,7 @@ module _ (w h : ℕ) (params : ThermalParams) (passes stop : ℕ) (hs : List Flo
 
       -- one pass more, between its fractions
       pub passing-more : {ts : List Float} (from to : Float) (x : Worked) (copy′ : List Float)
-          → ts ≡ thresholdsOf (params .threshold)
+          → ts ≡ thresholdsOf (params .threshold) squareDistances
           → from ≡ div binary32 (whole it) (whole passes)
           → to ≡ div binary32 (whole (it + 1)) (whole passes)
           → x ≡ passOn ts from to

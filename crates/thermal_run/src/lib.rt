@@ -20,6 +20,7 @@ use plans::thermal_passes;
 use plans::thermal_plan;
 use resample::work_sides;
 use runs::ThermalSettings;
+use spacing::square_distances;
 use talus::thresholds;
 use thermal_erosion::ThermalParams;
 ghost use mathlib.Core.Path.{_≡_};
@@ -43,7 +44,7 @@ fn slide_passes(
     requires { ⌜ Slides (work .w) (work .h) passes (length (now hmap)) (length (now copy)) ⌝ }
     ensures { λ r. ⌜ _≡_ {A = Worked} (record { heights = now (hmap .exit); reached = r }) (seen (nested (slideCourse (work .w) (work .h) params passes stop) (now (hmap .entry)))) ⌝ }
 {
-    let ts = thresholds(params.threshold);
+    let ts = thresholds(params.threshold, square_distances());
     let mut r = begun();
     let mut pass: usize = 0;
     while pass < passes {

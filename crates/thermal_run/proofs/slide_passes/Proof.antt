@@ -1,7 +1,9 @@
 use Prim.Native.Nat.{_-_}
+use mathlib.Core.Path.{ap, _∙_}
 use native.Mathlib.Omega.{arith}
 use borrow.Author.Needs.{needs}
 use lib.ListN.{length}
+use Rattle.talus.specs.Talus.{thresholdsOf}
 use Rattle.runs.specs.Run.{slideCourse}
 use Rattle.thermal_run.proofs.SlideLaws.{Passing, passing-none, passing-done, passing-ended, passing-ready, passing-more}
 use Rattle.thermal_run.proofs.slide_passes.Statement.{statement}
@@ -12,6 +14,9 @@ Inv-loop work hmap₀ params passes stop copy₀ ts r₀ pass₀ hmap copy r pas
 
 abbrev μ-loop : tie.MeasureT-loop
 μ-loop work hmap₀ params passes stop copy₀ ts r₀ pass₀ hmap copy r pass = passes - pass
+
+square-distances-requires : tie.Need-square-distances-requires Inv-loop μ-loop
+square-distances-requires c κs = search needs
 
 thresholds-requires : tie.Need-thresholds-requires Inv-loop μ-loop
 thresholds-requires c κs = search needs
@@ -32,25 +37,25 @@ returns : tie.Need-returns Inv-loop μ-loop
 returns c = passing-ended _ _ _ _ _ _ (c .before .before .before .loop .inv) (c .if1 .taken)
 
 ratio-requires : tie.Need-ratio-requires Inv-loop μ-loop
-ratio-requires c κs = let n = c .before .before .before .before .before .before .before .before .pre .few in (omega (arith, n, c .before .before .loop-test .taken), omega (arith, n))
+ratio-requires c κs = let n = c .before .before .before .before .before .before .before .before .before .pre .few in (omega (arith, n, c .before .before .loop-test .taken), omega (arith, n))
 
 add-ratio : tie.Need-add-ratio Inv-loop μ-loop
-add-ratio c = omega (arith, c .before .before .before .before .before .before .before .before .before .pre .few, c .before .before .before .loop-test .taken)
+add-ratio c = omega (arith, c .before .before .before .before .before .before .before .before .before .before .pre .few, c .before .before .before .loop-test .taken)
 
 ratio-requires-2 : tie.Need-ratio-requires-2 Inv-loop μ-loop
-ratio-requires-2 c κs = let n = c .before .before .before .before .before .before .before .before .before .pre .few in (omega (arith, n, c .before .before .before .loop-test .taken), omega (arith, n))
+ratio-requires-2 c κs = let n = c .before .before .before .before .before .before .before .before .before .before .pre .few in (omega (arith, n, c .before .before .before .loop-test .taken), omega (arith, n))
 
 run-pass-requires : tie.Need-run-pass-requires Inv-loop μ-loop
-run-pass-requires c κs = passing-ready _ _ _ _ _ _ (c .before .before .before .before .before .before .before .before .loop .inv) (c .before .before .before .before .before .if1 .left) (c .before .before .before .before .before .before .before .before .before .before .before .before .before .pre) (c .before .before .before .before .before .before .before .loop-test .taken)
+run-pass-requires c κs = passing-ready _ _ _ _ _ _ (c .before .before .before .before .before .before .before .before .loop .inv) (c .before .before .before .before .before .if1 .left) (c .before .before .before .before .before .before .before .before .before .before .before .before .before .before .pre) (c .before .before .before .before .before .before .before .loop-test .taken)
 
 add-pass : tie.Need-add-pass Inv-loop μ-loop
-add-pass c = omega (arith, c .before .before .before .before .before .before .before .before .before .before .before .before .before .before .before .before .before .before .pre .few, c .before .before .before .before .before .before .before .before .before .before .before .before .loop-test .taken)
+add-pass c = omega (arith, c .before .before .before .before .before .before .before .before .before .before .before .before .before .before .before .before .before .before .before .pre .few, c .before .before .before .before .before .before .before .before .before .before .before .before .loop-test .taken)
 
 loop-less : tie.Need-loop-less Inv-loop μ-loop
 loop-less c = omega (arith, c .before .before .before .before .before .before .before .before .before .before .before .before .loop-test .taken)
 
 loop-again : tie.Need-loop-again Inv-loop μ-loop
-loop-again c = passing-more _ _ _ _ _ _ (c .before .before .before .before .before .before .before .before .before .before .before .before .before .loop .inv) (c .before .before .before .before .before .before .before .before .before .before .if1 .left) _ _ (record { heights = _; reached = c .before .before .before .before .run-pass .result }) _ (c .before .before .before .before .before .before .before .before .before .before .before .before .before .before .before .thresholds .ensures) (c .before .before .before .before .before .before .before .before .before .ratio .ensures) (c .before .before .before .before .before .before .before .before .ratio2 .ensures) (c .before .before .before .before .run-pass .ensures .held) (c .before .before .before .before .before .before .before .before .before .before .before .before .loop-test .taken) (c .before .before .before .before .run-pass .kept .1 .1 .0) (c .before .before .before .before .run-pass .kept .1 .1 .1 .0)
+loop-again c = passing-more _ _ _ _ _ _ (c .before .before .before .before .before .before .before .before .before .before .before .before .before .loop .inv) (c .before .before .before .before .before .before .before .before .before .before .if1 .left) _ _ (record { heights = _; reached = c .before .before .before .before .run-pass .result }) _ (c .before .before .before .before .before .before .before .before .before .before .before .before .before .before .before .thresholds .ensures ∙ ap (thresholdsOf _) (c .before .before .before .before .before .before .before .before .before .before .before .before .before .before .before .before .square-distances .ensures)) (c .before .before .before .before .before .before .before .before .before .ratio .ensures) (c .before .before .before .before .before .before .before .before .ratio2 .ensures) (c .before .before .before .before .run-pass .ensures .held) (c .before .before .before .before .before .before .before .before .before .before .before .before .loop-test .taken) (c .before .before .before .before .run-pass .kept .1 .1 .0) (c .before .before .before .before .run-pass .kept .1 .1 .1 .0)
 
 same-length-3 : tie.Need-same-length-3 Inv-loop μ-loop
 same-length-3 c = c .before .loop .inv .long
@@ -67,6 +72,7 @@ slide-passes-spec =
     (tie.spec
     Inv-loop
     μ-loop
+    square-distances-requires
     thresholds-requires
     begun-requires
     loop-holds
