@@ -12,7 +12,8 @@ use Rattle.float_order.specs.Order.{rank}
 use Rattle.float_order.specs.Fit.{Fit}
 use Rattle.grid.specs.Directions.{Adjacent}
 use Rattle.grid.proofs.SidesLaws.{cells-bound}
-use Rattle.drainage.specs.Ground.{Ground, floats, gridGround}
+use Rattle.drainage.specs.Ground.{Ground, floats, groundBy, gridGround, noBase}
+use Rattle.drainage.specs.declared.Land.{Land}
 use Rattle.drainage.specs.Flood.{flooded}
 use Rattle.drainage.specs.Receivers.{receivers}
 use Rattle.drainage.specs.Ways.{WorkList, areasAlong}
@@ -30,39 +31,39 @@ use Rattle.steps.specs.Step.{Near, Steps}
 use Rattle.steps.proofs.PlaceLaws.{near-of}
 use Rattle.flow.specs.Route.{floodOf, orderOf, receiversOf, lentOf, Enough, Holding}
 
-module _ (w h : ℕ) (hs : List Float) (water : Float) (a : Accepted w h hs) (fit : Fit hs) where
+module _ (w h : ℕ) (hs : List Float) (land : Land) (a : Accepted w h hs) (fit : Fit hs) (some : noBase (gridGround w h land hs) ≡ false) where
   abbrev ground : Ground
-  ground = gridGround w h water hs
+  ground = gridGround w h land hs
 
   stands : Stands floats ground hs Height rank (w * h) (flooded floats ground hs)
-  stands = grid-stands w h water hs (a .sides) (a .cells) fit (a .finites) (w * h) (omega arith)
+  stands = grid-stands w h land hs (a .sides) (a .cells) fit (a .finites) some (w * h) (omega arith)
 
-  finder-near : (c : ℕ) → c < w * h → (getD (floodOf w h hs water .finder) c 0 ≡ c → ⊥) → Adjacent w h c (getD (floodOf w h hs water .finder) c 0)
+  finder-near : (c : ℕ) → c < w * h → (getD (floodOf w h hs land .finder) c 0 ≡ c → ⊥) → Adjacent w h c (getD (floodOf w h hs land .finder) c 0)
   finder-near c l d = go (ground .base c) refl
     where
       flooding : Flooding ground (heightOf floats ground hs Height rank) (viewOf floats ground hs Height rank (flooded floats ground hs)) (stands .leaver) 8
       flooding = stands .holds .flooding
 
-      go : (b : Bool) → ground .base c ≡ b → Adjacent w h c (getD (floodOf w h hs water .finder) c 0)
+      go : (b : Bool) → ground .base c ≡ b → Adjacent w h c (getD (floodOf w h hs land .finder) c 0)
       go true e = absurd (d (flooding .base-finder c l e))
-      go false e = to-adjacent w h _ _ (flooding .found c l (omega (arith, grid-left w h water hs (a .sides) (a .cells) fit (a .finites) c l)) e .near)
+      go false e = to-adjacent w h _ _ (flooding .found c l (omega (arith, grid-left w h land hs (a .sides) (a .cells) fit (a .finites) some c l)) e .near)
 
-  pub finders : (recv : List ℕ) → recv ≡ floodOf w h hs water .finder → Finders w h recv
+  pub finders : (recv : List ℕ) → recv ≡ floodOf w h hs land .finder → Finders w h recv
   finders recv e = record { near = λ c l. subst (λ t. (getD t c 0 ≡ c → ⊥) → Adjacent w h c (getD t c 0)) (sym e) (finder-near c l) }
 
   net : Network floats ground hs rank
-  net = grid-networks w h water hs (a .sides) (a .cells) fit (a .finites)
+  net = grid-networks w h land hs (a .sides) (a .cells) fit (a .finites) some
 
   -- receivers are the cells themselves or neighbours
-  pub receiver-near : (c : ℕ) → c < w * h → (getD (receiversOf w h hs water) c 0 ≡ c) ⊎ Adjacent w h c (getD (receiversOf w h hs water) c 0)
-  receiver-near c l = elim (same-or-not (getD (receiversOf w h hs water) c 0) c) [
+  pub receiver-near : (c : ℕ) → c < w * h → (getD (receiversOf w h hs land) c 0 ≡ c) ⊎ Adjacent w h c (getD (receiversOf w h hs land) c 0)
+  receiver-near c l = elim (same-or-not (getD (receiversOf w h hs land) c 0) c) [
     | inl own ↦ inl own
     | inr other ↦ inr (to-adjacent w h _ _ (net .adjacent c l other))
   ]
 
   -- and the order is a work list of them
   pub downward :
-      (n : ℕ) (recv order : List ℕ) → n ≡ w * h → length recv ≡ w * h → recv ≡ receiversOf w h hs water → order ≡ orderOf w h hs water → Steps w n recv × WorkList n recv order
+      (n : ℕ) (recv order : List ℕ) → n ≡ w * h → length recv ≡ w * h → recv ≡ receiversOf w h hs land → order ≡ orderOf w h hs land → Steps w n recv × WorkList n recv order
   downward n recv order m long e f = (
     record {
       wide = a .sides .wide;
@@ -88,12 +89,12 @@ sizes-of w h hs order recv spill area queue status a e = record {
 }
 
 -- flood, receivers and areas one after the other are the routing
-module _ (w h : ℕ) (hs : List Float) (water : Float) (order found : List ℕ) (spill : List Float) (f : Flooded w h water hs order found spill) (recv : List ℕ)
-    (r : (water : Float) (hs : List Float) → recv ≡ receivers floats (gridGround w h water hs) spill found) where
-  pub received-is : recv ≡ receiversOf w h hs water
-  received-is = r water hs ∙ ap₂ (receivers floats (gridGround w h water hs)) (f .raised) (f .found)
+module _ (w h : ℕ) (hs : List Float) (land : Land) (order found : List ℕ) (spill : List Float) (f : Flooded w h land hs order found spill) (recv : List ℕ)
+    (r : (base : ℕ → Bool) → recv ≡ receivers floats (groundBy w h (land .distances) base) spill found) where
+  pub received-is : recv ≡ receiversOf w h hs land
+  received-is = r (gridGround w h land hs .base) ∙ ap₂ (receivers floats (gridGround w h land hs)) (f .raised) (f .found)
 
-  pub holding : (n : ℕ) (area : List Float) → n ≡ w * h → area ≡ areasAlong n recv order → Holding w h hs water order recv spill area
+  pub holding : (n : ℕ) (area : List Float) → n ≡ w * h → area ≡ areasAlong n recv order → Holding w h hs land order recv spill area
   holding n area m e = record {
     left = f .left;
     received = received-is;

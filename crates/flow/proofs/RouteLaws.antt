@@ -13,6 +13,8 @@ use Rattle.answers.specs.declared.Answer.{Answer}
 use Rattle.grid.specs.Sides.{badSides}
 use Rattle.grid.specs.Heights.{firstNotFinite, allFinite}
 use Rattle.grid.proofs.SidesLaws.{good-sides}
+use Rattle.drainage.specs.Ground.{squareLand}
+use Rattle.drainage.specs.declared.Land.{Land}
 use Rattle.flood.specs.Slices.{Accepted}
 use Rattle.flow.specs.declared.Lent.{Lent}
 use Rattle.flow.specs.Route.{floodOf, orderOf, receiversOf, areasOf, lentOf, badLengths, routeAnswer, accepted, Enough, Holding, Routed}
@@ -85,10 +87,10 @@ module _ (w h : ℕ) (hs : List Float) (water : Float) (order recv : List ℕ) (
       → Routed w h hs water order recv spill area queue status r order recv spill area queue status
   routed-refused r e f = record {
     answer = e;
-    orders = passed (accepted w h hs water lent) (orderOf w h hs water) order no;
-    receivers = passed (accepted w h hs water lent) (receiversOf w h hs water) recv no;
-    spills = passed (accepted w h hs water lent) (floodOf w h hs water .spill) spill no;
-    areas = passed (accepted w h hs water lent) (areasOf w h hs water) area no;
+    orders = passed (accepted w h hs water lent) (orderOf w h hs (squareLand water)) order no;
+    receivers = passed (accepted w h hs water lent) (receiversOf w h hs (squareLand water)) recv no;
+    spills = passed (accepted w h hs water lent) (floodOf w h hs (squareLand water) .spill) spill no;
+    areas = passed (accepted w h hs water lent) (areasOf w h hs (squareLand water)) area no;
     kept-queue = λ _. refl;
     kept-status = λ _. refl;
   }
@@ -98,14 +100,14 @@ module _ (w h : ℕ) (hs : List Float) (water : Float) (order recv : List ℕ) (
 
   pub routed-done :
       answerOf Answer.Done ≡ routeAnswer w h hs water lent → (order′ recv′ : List ℕ) (spill′ area′ : List Float)
-      (queue′ status′ : List ℕ) → Holding w h hs water order′ recv′ spill′ area′
+      (queue′ status′ : List ℕ) {land : Land} → land ≡ squareLand water → Holding w h hs land order′ recv′ spill′ area′
       → Routed w h hs water order recv spill area queue status Answer.Done order′ recv′ spill′ area′ queue′ status′
-  routed-done e order′ recv′ spill′ area′ queue′ status′ s = record {
+  routed-done e order′ recv′ spill′ area′ queue′ status′ g s = record {
     answer = e;
-    orders = s .left ∙ chosen (accepted w h hs water lent) (orderOf w h hs water) order yes′;
-    receivers = s .received ∙ chosen (accepted w h hs water lent) (receiversOf w h hs water) recv yes′;
-    spills = s .raised ∙ chosen (accepted w h hs water lent) (floodOf w h hs water .spill) spill yes′;
-    areas = s .drained ∙ chosen (accepted w h hs water lent) (areasOf w h hs water) area yes′;
+    orders = s .left ∙ ap (orderOf w h hs) g ∙ chosen (accepted w h hs water lent) (orderOf w h hs (squareLand water)) order yes′;
+    receivers = s .received ∙ ap (receiversOf w h hs) g ∙ chosen (accepted w h hs water lent) (receiversOf w h hs (squareLand water)) recv yes′;
+    spills = s .raised ∙ ap (λ (l : Land). floodOf w h hs l .spill) g ∙ chosen (accepted w h hs water lent) (floodOf w h hs (squareLand water) .spill) spill yes′;
+    areas = s .drained ∙ ap (areasOf w h hs) g ∙ chosen (accepted w h hs water lent) (areasOf w h hs (squareLand water)) area yes′;
     kept-queue = λ f. absurd (clash yes′ f);
     kept-status = λ f. absurd (clash yes′ f);
   }

@@ -11,22 +11,23 @@ use Rattle.answers.specs.Outcome.{Outcome, gives, refused, refusedAt, answerOf}
 use Rattle.answers.specs.declared.Answer.{Answer}
 use Rattle.grid.specs.Sides.{badSides}
 use Rattle.grid.specs.Heights.{firstNotFinite, allFinite}
-use Rattle.drainage.specs.Ground.{floats, gridGround}
+use Rattle.drainage.specs.Ground.{floats, gridGround, squareLand}
+use Rattle.drainage.specs.declared.Land.{Land}
 use Rattle.drainage.specs.Flood.{Flood, flooded}
 use Rattle.drainage.specs.Receivers as R
 use Rattle.drainage.specs.Ways.{areasAlong}
 use Rattle.flow.specs.declared.Lent.{Lent}
 
--- the four results of a routing
-module _ (w h : ℕ) (hs : List Float) (water : Float) where
+-- the four results of a routing on a land
+module _ (w h : ℕ) (hs : List Float) (land : Land) where
   abbrev pub floodOf : Flood Float
-  floodOf = flooded floats (gridGround w h water hs) hs
+  floodOf = flooded floats (gridGround w h land hs) hs
 
   abbrev pub orderOf : List ℕ
   orderOf = floodOf .order
 
   abbrev pub receiversOf : List ℕ
-  receiversOf = R.receivers floats (gridGround w h water hs) (floodOf .spill) (floodOf .finder)
+  receiversOf = R.receivers floats (gridGround w h land hs) (floodOf .spill) (floodOf .finder)
 
   abbrev pub areasOf : List Float
   areasOf = areasAlong (w * h) receiversOf orderOf
@@ -70,19 +71,19 @@ pub record Enough (n : ℕ) (l : Lent) : Type 0 where
   pub status : n ≤ l .status
 
 -- the result slices hold a whole routing
-pub record Holding (w h : ℕ) (hs : List Float) (water : Float) (order recv : List ℕ) (spill area : List Float) : Type 0 where
-  pub left : order ≡ orderOf w h hs water
-  pub received : recv ≡ receiversOf w h hs water
-  pub raised : spill ≡ floodOf w h hs water .spill
-  pub drained : area ≡ areasOf w h hs water
+pub record Holding (w h : ℕ) (hs : List Float) (land : Land) (order recv : List ℕ) (spill area : List Float) : Type 0 where
+  pub left : order ≡ orderOf w h hs land
+  pub received : recv ≡ receiversOf w h hs land
+  pub raised : spill ≡ floodOf w h hs land .spill
+  pub drained : area ≡ areasOf w h hs land
 
--- What `route` answers and leaves: accepted, the four results hold the routing; refused, every slice is as it was, scratch included.
+-- What `route` answers and leaves: accepted, the four results hold the routing on document 01's land; refused, every slice is as it was, scratch included.
 pub record Routed (w h : ℕ) (hs : List Float) (water : Float) (order recv : List ℕ) (spill area : List Float) (queue status : List ℕ) (r : Answer)
     (order′ recv′ : List ℕ) (spill′ area′ : List Float) (queue′ status′ : List ℕ) : Type 0 where
   pub answer : answerOf r ≡ routeAnswer w h hs water (lentOf hs order recv spill area queue status)
-  pub orders : order′ ≡ cond (accepted w h hs water (lentOf hs order recv spill area queue status)) (orderOf w h hs water) order
-  pub receivers : recv′ ≡ cond (accepted w h hs water (lentOf hs order recv spill area queue status)) (receiversOf w h hs water) recv
-  pub spills : spill′ ≡ cond (accepted w h hs water (lentOf hs order recv spill area queue status)) (floodOf w h hs water .spill) spill
-  pub areas : area′ ≡ cond (accepted w h hs water (lentOf hs order recv spill area queue status)) (areasOf w h hs water) area
+  pub orders : order′ ≡ cond (accepted w h hs water (lentOf hs order recv spill area queue status)) (orderOf w h hs (squareLand water)) order
+  pub receivers : recv′ ≡ cond (accepted w h hs water (lentOf hs order recv spill area queue status)) (receiversOf w h hs (squareLand water)) recv
+  pub spills : spill′ ≡ cond (accepted w h hs water (lentOf hs order recv spill area queue status)) (floodOf w h hs (squareLand water) .spill) spill
+  pub areas : area′ ≡ cond (accepted w h hs water (lentOf hs order recv spill area queue status)) (areasOf w h hs (squareLand water)) area
   pub kept-queue : accepted w h hs water (lentOf hs order recv spill area queue status) ≡ false → queue′ ≡ queue
   pub kept-status : accepted w h hs water (lentOf hs order recv spill area queue status) ≡ false → status′ ≡ status

@@ -3,6 +3,8 @@
 use answers::Answer;
 use answers::Refusal;
 use area_words::areas_along;
+use drainage::Land;
+use drainage::square_land;
 use floats::is_finite;
 use flood::flood;
 use grid::Sides;
@@ -11,8 +13,10 @@ use grid::first_not_finite;
 use receiver_rows::steepest_receivers;
 ghost use Prim.Native.Nat.{_*_};
 ghost use mathlib.Core.Path.{_≡_};
+ghost use mathlib.Core.Bool.{false};
 ghost use lib.ListN.{length};
 ghost use Rattle.answers.specs.Outcome.{answerOf};
+ghost use Rattle.drainage.specs.Ground.{gridGround, noBase};
 ghost use Rattle.flood.specs.Slices.{Accepted};
 ghost use Rattle.flow.specs.Route.{badLengths, routeAnswer, lentOf, Enough, Holding, Routed};
 
@@ -74,11 +78,11 @@ fn refusal(size: Sides, h: &[f32], water_level: f32, l: Lent) -> Answer
     Answer::Done
 }
 
-// Routes a grid that is not refused: flood, receivers, areas. For whole runs, which check their input once.
+// Routes a grid that is not refused and has a base cell: flood, receivers, areas. For whole runs, which check their input once.
 pub fn route_grid(
     size: Sides,
     h: &[f32],
-    water_level: f32,
+    land: Land,
     order: &mut [u32],
     recv: &mut [u32],
     spill: &mut [f32],
@@ -88,20 +92,12 @@ pub fn route_grid(
 )
     requires { ⌜ Accepted (size .w) (size .h) (now h) ⌝ }
     requires { ⌜ Enough (size .w * size .h) (lentOf (now h) (now order) (now recv) (now spill) (now area) (now queue) (now status)) ⌝ }
-    ensures { λ _. ⌜ Holding (size .w) (size .h) (now (h .entry)) «water_level» (now (order .exit)) (now (recv .exit)) (now (spill .exit)) (now (area .exit)) ⌝ }
+    requires { ⌜ noBase (gridGround (size .w) (size .h) land (now h)) ≡ false ⌝ }
+    ensures { λ _. ⌜ Holding (size .w) (size .h) (now (h .entry)) land (now (order .exit)) (now (recv .exit)) (now (spill .exit)) (now (area .exit)) ⌝ }
 {
     let n = h.len();
-    flood(
-        size,
-        h,
-        water_level,
-        order,
-        recv,
-        spill,
-        queue,
-        &mut status[..n],
-    );
-    steepest_receivers(size, spill, recv);
+    flood(size, h, land, order, recv, spill, queue, &mut status[..n]);
+    steepest_receivers(size, land.distances, spill, recv);
     areas_along(size.w, recv, order, area);
 }
 
@@ -133,16 +129,7 @@ pub fn route(
     let Answer::Done = answer else {
         return answer;
     };
-    route_grid(
-        size,
-        h,
-        water_level,
-        order,
-        recv,
-        spill,
-        area,
-        queue,
-        status,
-    );
+    let land = square_land(water_level);
+    route_grid(size, h, land, order, recv, spill, area, queue, status);
     Answer::Done
 }

@@ -6,6 +6,7 @@ use mathlib.Core.List.{List}
 use lib.ListN.{length}
 use lib.Ieee.{Float}
 use Rattle.grid.specs.Heights.{allFinite}
+use Rattle.grid.specs.Base.{allOpen}
 use Rattle.resample.specs.WorkSize.{Within}
 use Rattle.runs.specs.Nested.{Bounded}
 use Rattle.fluvial_loop.specs.Loops.{courseBy}
@@ -29,6 +30,7 @@ scratchOf small eroded copy area order recv queue status =
 pub record Erodes (w h dw dh : ℕ) (plan : FluvialPlan) (stop : ℕ) (map : List Float) (s : Scratch) : Type 0 where
   pub sides : Within w h dw dh
   pub bounded : Bounded (courseBy dw dh plan stop)
+  pub sides-open : plan .land .sides ≡ allOpen
   pub heights : length map ≡ w * h
   pub finites : allFinite map ≡ true
   pub small : s .small ≡ dw * dh

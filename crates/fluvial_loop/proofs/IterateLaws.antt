@@ -1,6 +1,7 @@
 -- The loop over the iterations of a fluvial run: what holds at its test, what its parts ask, and what it leaves.
 use Prim.Native.Nat.{ℕ, suc, _+_, _*_, _≤_, _<_}
 use mathlib.Core.Path.{_≡_, refl, sym, ap, _∙_, subst}
+use mathlib.Core.Bool.{false}
 use mathlib.Core.List.{List}
 use native.Mathlib.Nat.{mul-le-mul-right}
 use native.Mathlib.Omega.{arith}
@@ -11,7 +12,11 @@ use Rattle.float_order.specs.Fit.{Fit}
 use Rattle.grid.specs.Heights.{allFinite}
 use Rattle.generators.specs.Marks.{reportOf}
 use Rattle.generators.specs.declared.Progress.{Progress}
-use Rattle.drainage.specs.Ground.{gridGround}
+use Rattle.grid.specs.Sides.{InRange}
+use Rattle.grid.specs.Base.{allOpen}
+use Rattle.grid.specs.declared.OpenSides.{OpenSides}
+use Rattle.drainage.specs.Ground.{gridGround, noBase}
+use Rattle.drainage.proofs.GroundLaws.{north-based}
 use Rattle.flood.specs.Slices.{Accepted}
 use Rattle.flow.specs.Route.{Enough}
 use Rattle.flow.specs.declared.Lent.{Lent}
@@ -69,9 +74,13 @@ module _ (w h : ℕ) (plan : FluvialPlan) (stop : ℕ) (hs : List Float) (then :
     pub iterating-accepted : Accepted w h hs → Fit hs → length map ≡ w * h → Accepted w h map
     iterating-accepted a fit e =
         let sound : Sound (w * h) (iterated course it hs) =
-        iterated-sound (w * h) course (λ it hs. incision-sized (gridGround w h (plan .cuts .«water_level»)) (plan .cuts) ours (w * h) it hs) hs
+        iterated-sound (w * h) course (λ it hs. incision-sized (gridGround w h (plan .land)) (plan .cuts) ours (w * h) it hs) hs
         (record { long = a .cells; fit = fit }) (a .finites) it in
         record { sides = a .sides; cells = e; finites = ap (λ (x : Worked). allFinite (x .heights)) (i .held) ∙ sound .finite }
+
+    -- and some cell is base level, since every side is open
+    pub iterating-based : InRange w h → plan .land .sides ≡ allOpen → noBase (gridGround w h (plan .land) map) ≡ false
+    iterating-based s e = north-based w h (plan .land) map s (ap (λ (o : OpenSides). o .north) e)
 
     module _ (b : Bounded course) (l : it < course .iterations) (z : r .number ≡ 0) where
       going : Going course hs it map r
@@ -80,7 +89,7 @@ module _ (w h : ℕ) (plan : FluvialPlan) (stop : ℕ) (hs : List Float) (then :
       pub iterating-counts : Counts r
       iterating-counts = record { questions = going-asked course hs it going b l; incisions = going-incisions course hs it going b l }
 
-      module _ (opened : List Float) (o : Reached) (made : worked opened o ≡ afterOpening w h (plan .cuts) (course .opening it) stop map r) where
+      module _ (opened : List Float) (o : Reached) (made : worked opened o ≡ afterOpening w h (plan .land) (plan .cuts) (course .opening it) stop map r) where
         -- the opening is that of the state
         iterating-opened : worked opened o ≡ seen (oneOpening course (iterated course it hs))
         iterating-opened = going-opening course hs it going b l refl (made ∙ cuts)
@@ -88,15 +97,15 @@ module _ (w h : ℕ) (plan : FluvialPlan) (stop : ℕ) (hs : List Float) (then :
             m : Progress
             m = reportOf (r .marks) (course .opening it) stop
 
-            cuts : afterOpening w h (plan .cuts) (course .opening it) stop map r ≡ openedBy course it map r m
+            cuts : afterOpening w h (plan .land) (plan .cuts) (course .opening it) stop map r ≡ openedBy course it map r m
             cuts =
                 ap (λ (new : List Float). afterMade map r m new (record { marks = m; incisions = r .incisions + 1; passes = r .passes; number = 0 }))
-                (cut-any w h (plan .cuts) it map)
+                (cut-any w h (plan .land) (plan .cuts) it map)
 
         opened-passes : o .passes ≡ r .passes
         opened-passes =
             ap (λ (x : Worked). x .reached .passes) made
-            ∙ made-cases (λ (x : Worked). x .reached .passes ≡ r .passes) map r (reportOf (r .marks) (course .opening it) stop) (cutOf w h (plan .cuts) 0 map) _ refl refl refl
+            ∙ made-cases (λ (x : Worked). x .reached .passes ≡ r .passes) map r (reportOf (r .marks) (course .opening it) stop) (cutOf w h (plan .land) (plan .cuts) 0 map) _ refl refl refl
 
         -- what the passes ask
         pub iterating-slides : {n k : ℕ} → n ≡ w * h → k ≡ n → Slides course it n k o

@@ -15,11 +15,11 @@ use Rattle.erosion.specs.declared.Reached.{Reached}
 use Rattle.fluvial_loop.specs.declared.FluvialPlan.{FluvialPlan}
 
 abbrev pub planOf : FluvialPlan → Plan
-planOf p = record { iterations = p .iterations; passes = p .passes; cuts = p .cuts; slides = p .slides }
+planOf p = record { iterations = p .iterations; passes = p .passes; cuts = p .cuts; slides = p .slides; land = p .land }
 
 -- our run by a plan on a w × h working grid
 abbrev pub courseBy : ℕ → ℕ → FluvialPlan → ℕ → Course
-courseBy w h p stop = fluvialCourse (gridGround w h (p .cuts .«water_level»)) w h (planOf p) stop ours
+courseBy w h p stop = fluvialCourse (gridGround w h (p .land)) w h (planOf p) stop ours
 
 -- pass q of iteration it, where the run has not ended
 abbrev pub passedBy : Course → ℕ → ℕ → Worked → Worked

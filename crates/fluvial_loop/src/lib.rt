@@ -1,4 +1,5 @@
 // The loops of gen_fluvial_erosion on its working grid: iterations, each an opening and then its talus passes.
+use drainage::Land;
 use erosion::Reached;
 use erosion::begun;
 use erosion::run_pass;
@@ -10,6 +11,7 @@ use thermal_erosion::ThermalParams;
 ghost use mathlib.Core.Path.{_≡_};
 ghost use Prim.Native.Nat.{_*_};
 ghost use lib.ListN.{length};
+ghost use Rattle.grid.specs.Base.{allOpen};
 ghost use Rattle.flood.specs.Slices.{Accepted};
 ghost use Rattle.flow.specs.Route.{lentOf, Enough};
 ghost use Rattle.runs.specs.Run.{fluvialBegins};
@@ -23,6 +25,7 @@ pub struct FluvialPlan {
     pub passes: usize,
     pub cuts: FluvialParams,
     pub slides: ThermalParams,
+    pub land: Land,
 }
 
 // The fraction of the run at which a pass of an iteration begins.
@@ -46,7 +49,7 @@ fn talus_passes(
     requires { ⌜ Slides (courseBy (size .w) (size .h) plan stop) it (length (now hmap)) (length (now copy)) reached ⌝ }
     ensures { λ e. ⌜ _≡_ {A = Worked} (record { heights = now (hmap .exit); reached = e }) (slidBy (courseBy (size .w) (size .h) plan stop) it (plan .passes) (record { heights = now (hmap .entry); reached = reached })) ⌝ }
 {
-    let ts = thresholds(plan.slides.threshold);
+    let ts = thresholds(plan.slides.threshold, plan.land.distances);
     let passes = plan.passes;
     let mut r = reached;
     let mut q: usize = 0;
@@ -78,6 +81,7 @@ pub fn run_iterations(
     requires { ⌜ Bounded (courseBy (size .w) (size .h) plan stop) ⌝ }
     requires { ⌜ Accepted (size .w) (size .h) (now hmap) ⌝ }
     requires { ⌜ Enough (size .w * size .h) (lentOf (now hmap) (now order) (now recv) (now copy) (now area) (now queue) (now status)) ⌝ }
+    requires { ⌜ plan .land .sides ≡ allOpen ⌝ }
     ensures { λ e. ⌜ _≡_ {A = Worked} (record { heights = now (hmap .exit); reached = e }) (seen (nested (courseBy (size .w) (size .h) plan stop) (now (hmap .entry)))) ⌝ }
 {
     let iterations = plan.iterations;
@@ -91,6 +95,7 @@ pub fn run_iterations(
         r = open_iteration(
             size,
             hmap,
+            plan.land,
             plan.cuts,
             p,
             stop,

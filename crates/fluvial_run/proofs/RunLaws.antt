@@ -16,7 +16,7 @@ use Rattle.grid.specs.declared.Sides.{Sides}
 use Rattle.drainage.specs.Ground.{gridGround}
 use Rattle.resample.specs.WorkSize.{Within, workSize}
 use Rattle.upsample.specs.Samples.{asSource}
-use Rattle.runs.specs.Plan.{Plan, fluvialPlan}
+use Rattle.runs.specs.Plan.{Plan, landOf, fluvialPlan}
 use Rattle.runs.specs.Machine.{Course}
 use Rattle.runs.specs.Run.{ours, fluvialCourse, runOn, runBy}
 use Rattle.runs.specs.Refusals.{badFluvial}
@@ -41,17 +41,17 @@ use Rattle.fluvial_grid.specs.declared.Scratch.{Scratch}
 use Rattle.fluvial_run.specs.FluvialRun.{shortestOf, inputRefusal, FluvialRun}
 
 -- a plan by its parts
-pub plan-is : {p : FluvialPlan} (q : Plan) → p .iterations ≡ q .iterations → p .passes ≡ q .passes → p .cuts ≡ q .cuts → p .slides ≡ q .slides → planOf p ≡ q
-plan-is q a b c d i = record { iterations = a i; passes = b i; cuts = c i; slides = d i }
+pub plan-is : {p : FluvialPlan} (q : Plan) → p .iterations ≡ q .iterations → p .passes ≡ q .passes → p .cuts ≡ q .cuts → p .slides ≡ q .slides → p .land ≡ q .land → planOf p ≡ q
+plan-is q a b c d e i = record { iterations = a i; passes = b i; cuts = c i; slides = d i; land = e i }
 
 -- the course of a plan is that of the settings it was made from
 module _ (w h : ℕ) (conf : FluvialSettings) (stop : ℕ) {plan : FluvialPlan} (e : planOf plan ≡ fluvialPlan w h conf) where
-  course-is : courseBy w h plan stop ≡ fluvialCourse (gridGround w h (conf .«water_level»)) w h (fluvialPlan w h conf) stop ours
-  course-is = ap (λ (p : Plan). fluvialCourse (gridGround w h (p .cuts .«water_level»)) w h p stop ours) e
+  course-is : courseBy w h plan stop ≡ fluvialCourse (gridGround w h (landOf conf)) w h (fluvialPlan w h conf) stop ours
+  course-is = ap (λ (p : Plan). fluvialCourse (gridGround w h (p .land)) w h p stop ours) e
 
   course-bounded : InRange w h → conf .iterations ≤ 4096 → Bounded (courseBy w h plan stop)
   course-bounded r l =
-      subst Bounded (sym course-is) (fluvial-bounded w h r (gridGround w h (conf .«water_level»)) conf stop ours l)
+      subst Bounded (sym course-is) (fluvial-bounded w h r (gridGround w h (landOf conf)) conf stop ours l)
 
 at-most : {n a b : ℕ} → n ≤ min a b → (n ≤ a) × (n ≤ b)
 at-most l = (omega arith, omega arith)
@@ -131,6 +131,7 @@ module _ (w h : ℕ) (conf : FluvialSettings) (stop : ℕ) (map small eroded cop
             record {
               sides = run-within;
               bounded = course-bounded (work .w) (work .h) conf stop p (within-range run-within) (fluvial-iterations conf (a .settings));
+              sides-open = ap (λ (q : Plan). q .land .sides) p;
               heights = a .cells;
               finites = a .finites;
               small = length-take-le cells small (r .small);
@@ -147,7 +148,7 @@ module _ (w h : ℕ) (conf : FluvialSettings) (stop : ℕ) (map small eroded cop
         unfolding runBy
         whole-is =
             ap (λ (c : Course). runOn asSource w h c map) (course-is (work .w) (work .h) conf stop p)
-            ∙ ap (λ (work : Sides). runOn asSource w h (fluvialCourse (gridGround (work .w) (work .h) (conf .«water_level»)) (work .w) (work .h) (fluvialPlan (work .w) (work .h) conf) stop ours) map) g
+            ∙ ap (λ (work : Sides). runOn asSource w h (fluvialCourse (gridGround (work .w) (work .h) (landOf conf)) (work .w) (work .h) (fluvialPlan (work .w) (work .h) conf) stop ours) map) g
 
         pub run-done : {r : Reached} {a : RunAnswer} (map′ small′ eroded′ copy′ area′ : List Float) (order′ recv′ queue′ status′ : List ℕ) → Answered r a
             → worked map′ r ≡ wholeRun w h (courseBy (work .w) (work .h) plan stop) map

@@ -10,6 +10,7 @@ use grid::Sides;
 use grid::least;
 use plans::bad_fluvial;
 use plans::fluvial_iterations;
+use plans::fluvial_land;
 use plans::fluvial_passes;
 use plans::fluvial_plan;
 use plans::refusal;
@@ -44,6 +45,7 @@ fn plan_on(work: Sides, conf: FluvialSettings) -> FluvialPlan
         passes: fluvial_passes(work, conf),
         cuts: fluvial_plan(work, conf),
         slides: talus_plan(work, conf),
+        land: fluvial_land(conf),
     }
 }
 

@@ -6,11 +6,13 @@ use generators::Progress;
 use grid::Sides;
 use harness_calls::refusal_word;
 use harness_calls::word;
+use spacing::square_distances;
 use thermal_erosion::ThermalParams;
 ghost use mathlib.Core.Path.{_≡_};
 ghost use Prim.Native.Nat.{_*_};
 ghost use lib.ListN.{length};
 ghost use Rattle.generators.specs.Marks.{goOf};
+ghost use Rattle.spacing.specs.Distances.{squareDistances};
 ghost use Rattle.flow.specs.Route.{Routed};
 ghost use Rattle.fluvial_erosion.specs.Incise.{InciseMade};
 ghost use Rattle.fluvial_erosion.specs.Along.{Drains, Lengths, Carved};
@@ -89,7 +91,7 @@ pub extern "C" fn harness_incise_into(
 )
     requires { ⌜ Drains w h (now recv) (now order) ⌝ }
     requires { ⌜ Lengths (w * h) (length (now hmap)) (length (now out)) (length (now area)) ⌝ }
-    ensures { λ _. ⌜ Carved w h (now (hmap .entry)) (record { k = k; uplift = uplift; «water_level» = «water_level» }) (now (recv .entry)) (now (order .entry)) (now (out .exit)) (now (area .exit)) ⌝ }
+    ensures { λ _. ⌜ Carved w h (now (hmap .entry)) (record { k = k; uplift = uplift; «water_level» = «water_level» }) squareDistances (now (recv .entry)) (now (order .entry)) (now (out .exit)) (now (area .exit)) ⌝ }
 {
     let size = Sides { w, h };
     let params = FluvialParams {
@@ -97,7 +99,8 @@ pub extern "C" fn harness_incise_into(
         uplift,
         water_level,
     };
-    fluvial_erosion::incise_into(size, hmap, params, recv, order, out, area);
+    let ds = square_distances();
+    fluvial_erosion::incise_into(size, hmap, params, ds, recv, order, out, area);
 }
 
 // A talus pass; the record is read and written in place.

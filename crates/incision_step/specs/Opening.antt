@@ -5,23 +5,24 @@ use mathlib.Core.List.{List}
 use lib.Ieee.{Float}
 use Rattle.generators.specs.Marks.{reportOf}
 use Rattle.drainage.specs.Ground.{gridGround}
+use Rattle.drainage.specs.declared.Land.{Land}
 use Rattle.fluvial_erosion.specs.declared.FluvialParams.{FluvialParams}
 use Rattle.runs.specs.Run.{ours, incisionBy}
 use Rattle.erosion.specs.Reached.{Worked, afterMade}
 use Rattle.erosion.specs.declared.Reached.{Reached}
 
--- an incision of the w × h heights hs along the flood's own order, whatever the iteration's number
-abbrev pub cutOf : ℕ → ℕ → FluvialParams → ℕ → List Float → List Float
-cutOf w h p it hs = incisionBy (gridGround w h (p .«water_level»)) p ours it hs
+-- an incision of the w × h heights hs on a land, along the flood's own order, whatever the iteration's number
+abbrev pub cutOf : ℕ → ℕ → Land → FluvialParams → ℕ → List Float → List Float
+cutOf w h land p it hs = incisionBy (gridGround w h land) p ours it hs
 
-abbrev pub Carves : ℕ → ℕ → FluvialParams → List Float → List Float → Type 0
-Carves w h p hs out = (it : ℕ) → out ≡ cutOf w h p it hs
+abbrev pub Carves : ℕ → ℕ → Land → FluvialParams → List Float → List Float → Type 0
+Carves w h land p hs out = (it : ℕ) → out ≡ cutOf w h land p it hs
 
 -- the question at the fraction p; then the incision, which a stop or a height that is not finite drops
-abbrev pub afterOpening : ℕ → ℕ → FluvialParams → Float → ℕ → List Float → Reached → Worked
-afterOpening w h params p stop hs r =
+abbrev pub afterOpening : ℕ → ℕ → Land → FluvialParams → Float → ℕ → List Float → Reached → Worked
+afterOpening w h land params p stop hs r =
     let m = reportOf (r .marks) p stop in
-    afterMade hs r m (cutOf w h params 0 hs) (record { marks = m; incisions = r .incisions + 1; passes = r .passes; number = 0 })
+    afterMade hs r m (cutOf w h land params 0 hs) (record { marks = m; incisions = r .incisions + 1; passes = r .passes; number = 0 })
 
 -- room for one question and one incision more
 pub record Counts (r : Reached) : Type 0 where

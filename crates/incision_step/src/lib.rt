@@ -1,5 +1,6 @@
 // How an iteration of gen_fluvial_erosion opens: the question of the stop marks, the routing of the heights as they then stand, and one incision
 // along the flood's own order.
+use drainage::Land;
 use erosion::Reached;
 use erosion::ended;
 use flow::route_grid;
@@ -10,7 +11,9 @@ use grid::Sides;
 use grid::all_finite;
 use grid::copy_heights;
 ghost use mathlib.Core.Path.{_≡_};
+ghost use mathlib.Core.Bool.{false};
 ghost use Prim.Native.Nat.{_*_};
+ghost use Rattle.drainage.specs.Ground.{gridGround, noBase};
 ghost use Rattle.flood.specs.Slices.{Accepted};
 ghost use Rattle.flow.specs.Route.{lentOf, Enough};
 ghost use Rattle.erosion.specs.Reached.{Worked};
@@ -20,6 +23,7 @@ ghost use Rattle.incision_step.specs.Opening.{Carves, Counts, afterOpeni
 fn carve(
     size: Sides,
     hmap: &[f32],
+    land: Land,
     params: FluvialParams,
     copy: &mut [f32],
     area: &mut [f32],
@@ -30,20 +34,11 @@ fn carve(
 )
     requires { ⌜ Accepted (size .w) (size .h) (now hmap) ⌝ }
     requires { ⌜ Enough (size .w * size .h) (lentOf (now hmap) (now order) (now recv) (now copy) (now area) (now queue) (now status)) ⌝ }
-    ensures { λ _. ⌜ Carves (size .w) (size .h) params (now (hmap .entry)) (now (copy .exit)) ⌝ }
+    requires { ⌜ noBase (gridGround (size .w) (size .h) land (now hmap)) ≡ false ⌝ }
+    ensures { λ _. ⌜ Carves (size .w) (size .h) land params (now (hmap .entry)) (now (copy .exit)) ⌝ }
 {
-    route_grid(
-        size,
-        hmap,
-        params.water_level,
-        order,
-        recv,
-        copy,
-        area,
-        queue,
-        status,
-    );
-    incise_along(size, hmap, params, recv, order, copy, area);
+    route_grid(size, hmap, land, order, recv, copy, area, queue, status);
+    incise_along(size, hmap, params, land.distances, recv, order, copy, area);
 }
 
 // Opens an iteration at the fraction p of the run. The copy becomes the map only where every height of it is finite; a stop comes before the routing. The
@@ -51,6 +46,7 @@ fn carve(
 pub fn open_iteration(
     size: Sides,
     hmap: &mut [f32],
+    land: Land,
     params: FluvialParams,
     p: f32,
     stop: u32,
@@ -65,13 +61,25 @@ pub fn open_iteration(
     requires { ⌜ Accepted (size .w) (size .h) (now hmap) ⌝ }
     requires { ⌜ Enough (size .w * size .h) (lentOf (now hmap) (now order) (now recv) (now copy) (now area) (now queue) (now status)) ⌝ }
     requires { ⌜ Counts r ⌝ }
-    ensures { λ e. ⌜ _≡_ {A = Worked} (record { heights = now (hmap .exit); reached = e }) (afterOpening (size .w) (size .h) params p stop (now (hmap .entry)) r) ⌝ }
+    requires { ⌜ noBase (gridGround (size .w) (size .h) land (now hmap)) ≡ false ⌝ }
+    ensures { λ e. ⌜ _≡_ {A = Worked} (record { heights = now (hmap .exit); reached = e }) (afterOpening (size .w) (size .h) land params p stop (now (hmap .entry)) r) ⌝ }
 {
     let marks = ask(r.marks, p, stop);
     if marks.stopped {
         return ended(21, marks, r);
     }
-    carve(size, hmap, params, copy, area, order, recv, queue, status);
+    carve(
+        size,
+        hmap,
+        land,
+        params,
+        copy,
+        area,
+        order,
+        recv,
+        queue,
+        status,
+    );
     if all_finite(copy) {
         copy_heights(copy, hmap);
         return Reached {

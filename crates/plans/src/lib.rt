@@ -2,6 +2,8 @@
 use answers::Answer;
 use answers::Refusal;
 use answers::outside;
+use drainage::Land;
+use drainage::square_land;
 use floats::ceil;
 use floats::is_finite;
 use floats::to_count;
@@ -16,7 +18,7 @@ use thermal_erosion::ThermalParams;
 ghost use mathlib.Core.Path.{_≡_};
 ghost use Prim.Native.Nat.{_≤_};
 ghost use Rattle.answers.specs.Outcome.{answerOf};
-ghost use Rattle.runs.specs.Plan.{scaleOf, kOf, thresholdOf, passesOf, slidesOf, fluvialPlan, thermalPasses, thermalParams};
+ghost use Rattle.runs.specs.Plan.{scaleOf, kOf, thresholdOf, passesOf, slidesOf, landOf, fluvialPlan, thermalPasses, thermalParams};
 ghost use Rattle.runs.specs.Refusals.{badEither, badFluvial, badThermal};
 ghost use Rattle.plans.specs.Accepted.{refusalOn};
 
@@ -116,6 +118,13 @@ pub fn fluvial_plan(work: Sides, conf: FluvialSettings) -> FluvialParams
         uplift: conf.uplift,
         water_level: conf.water_level,
     }
+}
+
+// What its routings stand on.
+pub fn fluvial_land(conf: FluvialSettings) -> Land
+    ensures { λ r. ⌜ r ≡ landOf conf ⌝ }
+{
+    square_land(conf.water_level)
 }
 
 // What each pass after an incision goes by: half of the excess moves.

@@ -7,6 +7,7 @@ use lib.Ieee.{Float, nan, binary32, ofBits}
 use Rattle.float_order.specs.Whole.{whole}
 use Rattle.answers.specs.Outcome.{Outcome, gives, refused, refusedAt}
 use Rattle.generators.specs.Marks.{fresh}
+use Rattle.drainage.specs.Ground.{squareLand}
 use Rattle.flow.specs.Route.{lentOf, routeAnswer, orderOf, floodOf, receiversOf, areasOf}
 use Rattle.fluvial_erosion.specs.Incise.{inciseRefusal, inciseAnswer, incised}
 use Rattle.fluvial_erosion.specs.declared.FluvialParams.{FluvialParams}
@@ -61,15 +62,15 @@ abbrev pub routed : List ℕ → ℕ → (Outcome (Unit {0}) × List ℕ) × ℕ
 routed heights cell =
     let hs : List Float = floats heights in
     let zeros : List ℕ = replicate 9 0 in (
-      (routeAnswer 3 3 hs (whole 0) (lentOf hs zeros zeros (lent 9) (lent 9) zeros zeros), orderOf 3 3 hs (whole 0)),
-      getD (receiversOf 3 3 hs (whole 0)) cell 0,
+      (routeAnswer 3 3 hs (whole 0) (lentOf hs zeros zeros (lent 9) (lent 9) zeros zeros), orderOf 3 3 hs (squareLand (whole 0))),
+      getD (receiversOf 3 3 hs (squareLand (whole 0))) cell 0,
     )
 
 -- and with the cell's spill height and another cell's area
 abbrev pub drained : List ℕ → ℕ → ℕ → ((Outcome (Unit {0}) × List ℕ) × ℕ) × (Float × Float)
 drained heights cell other =
     let hs : List Float = floats heights in
-    (routed heights cell, (getD (floodOf 3 3 hs (whole 0) .spill) cell nan, getD (areasOf 3 3 hs (whole 0)) other nan))
+    (routed heights cell, (getD (floodOf 3 3 hs (squareLand (whole 0)) .spill) cell nan, getD (areasOf 3 3 hs (squareLand (whole 0))) other nan))
 
 -- 1 × 1: a height, water 0, k 1, an uplift
 abbrev pub incise : ℕ → Float → Left

@@ -19,7 +19,8 @@ use Rattle.square_root.specs.Root.{rootOf, nearestRoot, wholeRoot, digits}
 use Rattle.generators.specs.Marks.{reportOf}
 use Rattle.drainage.specs.Ground.{floats, gridGround}
 use Rattle.drainage.specs.Theorems.{Network}
-use Rattle.drainage.proofs.GroundLaws.{grid-networks}
+use Rattle.drainage.specs.declared.Land.{Land}
+use Rattle.drainage.proofs.GroundLaws.{north-based, grid-networks}
 use Rattle.drainage.proofs.CountLaws.{bit, times-append, times-here}
 use Rattle.drainage.proofs.WorkListLaws.{below-of}
 use Rattle.drainage.specs.Flood.{start, step, leastWaiting, pushAll, floodAfter}
@@ -29,6 +30,7 @@ use Rattle.fluvial_erosion.specs.Incision.{incisedBy, inciseAlong}
 use Rattle.talus.specs.Talus.{shedOf, gainsOf, slideCell, slideRow}
 use Rattle.resample.specs.WorkSize.{workSize, scaledSide}
 use Rattle.resample.specs.Blocks.{downsampled, averageOf}
+use Rattle.runs.specs.Plan.{landOf}
 use Rattle.runs.specs.Machine as Machine
 use Rattle.runs.specs.Machine.{after}
 use Rattle.runs.specs.Run.{runBy, lent, receiversOn, incisionBy}
@@ -60,15 +62,18 @@ map-fits zero = ofBits-fits binary32 0x3f80_0000
 map-fits (suc zero) = ofBits-fits binary32 0x4000_0000
 map-fits (suc (suc i)) = nan-fits binary32
 
+abbrev land : Land
+land = landOf settings
+
 -- on a 2 × 1 grid both cells lie on the border
 own-receivers : (routed : List Float) → length routed ≡ 2 → Fit routed → allFinite routed ≡ true → (c : ℕ) → c < 2
-    → getD (receiversOn (gridGround 2 1 (ofBits binary32 0)) routed) c 0 ≡ c
+    → getD (receiversOn (gridGround 2 1 land) routed) c 0 ≡ c
 own-receivers routed long fit all c h = go c h
   where
-    net : Network floats (gridGround 2 1 (ofBits binary32 0) routed) routed rank
-    net = grid-networks 2 1 (ofBits binary32 0) routed (omega arith) long fit all
+    net : Network floats (gridGround 2 1 land routed) routed rank
+    net = grid-networks 2 1 land routed (omega arith) long fit all (north-based 2 1 land routed (omega arith) refl)
 
-    go : (c : ℕ) → c < 2 → getD (receiversOn (gridGround 2 1 (ofBits binary32 0)) routed) c 0 ≡ c
+    go : (c : ℕ) → c < 2 → getD (receiversOn (gridGround 2 1 land) routed) c 0 ≡ c
     go zero h = net .base-own zero (omega arith) refl
     go (suc zero) h = net .base-own (suc zero) (omega arith) refl
     go (suc (suc c)) h = let v : ⊥ = omega arith in absurd v
@@ -81,7 +86,7 @@ premise : (it : ℕ) (routed : List Float) → RunRoutes 2 1 settings 0 map (len
 unfolding workSize
 premise it routed r =
     let z : Sized 2 routed × (allFinite routed ≡ true) = routed-sound 2 1 settings 0 map map-fits accepted-map (lent lists) it routed r in
-    own-work-list 2 (receiversOn (gridGround 2 1 (ofBits binary32 0)) routed) (1 ∷ 0 ∷ []) (own-receivers routed (z .0 .long) (z .0 .fit) (z .1)) each-once no-other
+    own-work-list 2 (receiversOn (gridGround 2 1 land) routed) (1 ∷ 0 ∷ []) (own-receivers routed (z .0 .long) (z .0 .fit) (z .1)) each-once no-other
 
 pub other-lists : OtherLists
 unfolding ofBits toBits ofInt round add sub mul div lt le toUnsigned turns tabulate ceilOf wholeBy neighbourOf firstNotFinite allFinite rootOf nearestRoot wholeRoot digits reportOf start step leastWaiting pushAll floodAfter receivers receiverOf steepestOf directionTo areasAlong incisedBy inciseAlong incisionBy shedOf gainsOf slideCell slideRow workSize scaledSide downsampled averageOf after Machine.step runBy

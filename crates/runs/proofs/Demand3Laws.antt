@@ -14,14 +14,16 @@ use Rattle.float_order.specs.Fit.{Fit}
 use Rattle.grid.specs.Sides.{InRange, badSides}
 use Rattle.grid.specs.Heights.{allFinite}
 use Rattle.grid.proofs.SidesLaws.{cells-bound}
+use Rattle.drainage.specs.Ground.{noBase}
 use Rattle.drainage.specs.Ways.{WorkList}
+use Rattle.drainage.proofs.GroundLaws.{north-based}
 use Rattle.fluvial_erosion.proofs.IndependenceLaws.{independent}
 use Rattle.talus.proofs.TalusLaws.{row-length, row-fit}
 use Rattle.resample.specs.WorkSize.{workSize, Within}
 use Rattle.resample.specs.Blocks.{averageOf, downsampled}
 use Rattle.resample.proofs.WorkLaws.{work-within}
 use Rattle.upsample.specs.Samples.{asSource}
-use Rattle.runs.specs.Plan.{fluvialPlan}
+use Rattle.runs.specs.Plan.{landOf, fluvialPlan}
 use Rattle.runs.specs.Machine.{State, after, steps, finished}
 use Rattle.runs.specs.Run.{Choice, ours, lent, orderOn, receiversOn, incisionBy, runBy, Ran, ranAs, addedBack}
 use Rattle.runs.specs.Refusals.{refusalBy, badFluvial}
@@ -95,6 +97,10 @@ module _ (w h : ℕ) (s : FluvialSettings) (stop : ℕ) (map : List Float) (fit 
       let z : Sound (dw * dh) (after (courseOf w h s stop map choose) (r .routes .done) (beginsWith w h s stop map)) = states choose (r .started) (r .routes .done) in
       (subst (Sized (dw * dh)) (r .routes .heights) (z .heights), subst (λ l. allFinite l ≡ true) (r .routes .heights) (z .finite))
 
+  -- the land of a run is open to the north, so some cell is base level
+  based : (routed : List Float) → noBase (groundOf w h s stop map routed) ≡ false
+  based routed = north-based dw dh (landOf s) routed range refl
+
   module _ (lists : ℕ → List ℕ)
       (work : (it : ℕ) (routed : List Float) → RunRoutes w h s stop map (lent lists) it routed → WorkList (dw * dh) (receiversOn (groundOf w h s stop map) routed) (lists it)) where
     -- an iteration of the other run cuts as ours would
@@ -105,7 +111,7 @@ module _ (w h : ℕ) (s : FluvialSettings) (stop : ℕ) (map : List Float) (fit 
         let here : RunRoutes w h s stop map (lent lists) it routed = record { started = fin; routes = r } in
         let z : Sized (dw * dh) routed × (allFinite routed ≡ true) = routed-sound (lent lists) it routed here in
         independent (groundOf w h s stop map routed) (fluvialPlan dw dh s .cuts) (receiversOn (groundOf w h s stop map) routed) (orderOn (groundOf w h s stop map) routed) (lists it) routed
-        (sym (z .0 .long)) (cells-bound dw dh (range .wide) (range .high)) (order-work-list dw dh (s .«water_level») range routed (z .0) (z .1)) (work it routed here) .heights
+        (sym (z .0 .long)) (cells-bound dw dh (range .wide) (range .high)) (order-work-list dw dh (landOf s) range routed (z .0) (z .1) (based routed)) (work it routed here) .heights
 
     states-same : allFinite (beginsWith w h s stop map) ≡ true → (n : ℕ) → after (courseOf w h s stop map ours) n (beginsWith w h s stop map) ≡ after (courseOf w h s stop map (lent lists)) n (beginsWith w h s stop map)
     states-same fin = after-same (courseOf w h s stop map (lent lists)) (incisionBy (groundOf w h s stop map) (fluvialPlan dw dh s .cuts) ours) (beginsWith w h s stop map) (cuts-same fin)
@@ -138,10 +144,10 @@ module _ (w h : ℕ) (s : FluvialSettings) (stop : ℕ) (map : List Float) (fit 
       same = runs-same;
       ours-drained = λ it routed r.
           let z : Sized (dw * dh) routed × (allFinite routed ≡ true) = routed-sound ours it routed r in
-          drained dw dh (s .«water_level») range routed (z .0) (z .1) (orderOn (groundOf w h s stop map) routed) (order-work-list dw dh (s .«water_level») range routed (z .0) (z .1));
+          drained dw dh (landOf s) range routed (z .0) (z .1) (based routed) (orderOn (groundOf w h s stop map) routed) (order-work-list dw dh (landOf s) range routed (z .0) (z .1) (based routed));
       lent-drained = λ it routed r.
           let z : Sized (dw * dh) routed × (allFinite routed ≡ true) = routed-sound (lent lists) it routed r in
-          drained dw dh (s .«water_level») range routed (z .0) (z .1) (lists it) (work it routed r);
+          drained dw dh (landOf s) range routed (z .0) (z .1) (based routed) (lists it) (work it routed r);
     }
 
 pub demand3 : Demand3

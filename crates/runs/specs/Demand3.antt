@@ -17,7 +17,7 @@ use Rattle.drainage.specs.Ways.{WorkList, areaOf, areasAlong, sumBelow}
 use Rattle.drainage.specs.Chains.{LeastCrest}
 use Rattle.resample.specs.WorkSize.{workSize}
 use Rattle.resample.specs.Blocks.{downsampled}
-use Rattle.runs.specs.Plan.{fluvialPlan}
+use Rattle.runs.specs.Plan.{landOf, fluvialPlan}
 use Rattle.runs.specs.Machine.{Course, after}
 use Rattle.runs.specs.Run.{Choice, ours, lent, orderOn, receiversOn, fluvialCourse, runBy}
 use Rattle.runs.specs.Refusals.{fluvialRefusal}
@@ -47,7 +47,7 @@ pub record Drained (ground : List Float → Ground) (hs : List Float) (list : Li
 -- the working grid of a run: its ground, its course by a choice of lists, and the heights that it begins with
 module _ (w h : ℕ) (s : FluvialSettings) (stop : ℕ) (map : List Float) where
   abbrev pub groundOf : List Float → Ground
-  groundOf = gridGround (workSize w h (s .«work_res») .w) (workSize w h (s .«work_res») .h) (s .«water_level»)
+  groundOf = gridGround (workSize w h (s .«work_res») .w) (workSize w h (s .«work_res») .h) (landOf s)
 
   abbrev pub courseOf : Choice → Course
   courseOf choose =

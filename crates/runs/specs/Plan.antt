@@ -3,6 +3,8 @@ use Prim.Native.Nat.{ℕ, max}
 use lib.IntN.{pos}
 use lib.Ieee.{Float, binary32, ofBits, ofInt, sub, mul, div, toUnsigned}
 use Rattle.floats.specs.Stand.{ceilOf}
+use Rattle.drainage.specs.Ground.{squareLand}
+use Rattle.drainage.specs.declared.Land.{Land}
 use Rattle.fluvial_erosion.specs.declared.FluvialParams.{FluvialParams}
 use Rattle.thermal_erosion.specs.declared.ThermalParams.{ThermalParams}
 use Rattle.runs.specs.declared.FluvialSettings.{FluvialSettings}
@@ -26,12 +28,17 @@ thresholdOf talus scale =
 abbrev pub passesOf : ℕ → Float → ℕ
 passesOf iterations scale = max (toUnsigned 64 (ceilOf (mul binary32 (ofInt binary32 (pos iterations)) scale))) 1
 
--- What a fluvial run does on its working grid: `iterations` times an incision by `cuts` and then `passes` talus passes by `slides`.
+-- what the routings of a fluvial run stand on
+abbrev pub landOf : FluvialSettings → Land
+landOf s = squareLand (s .«water_level»)
+
+-- What a fluvial run does on its working grid: `iterations` times a routing on `land`, an incision by `cuts` and then `passes` talus passes by `slides`.
 pub record Plan : Type 0 where
   pub iterations : ℕ
   pub passes : ℕ
   pub cuts : FluvialParams
   pub slides : ThermalParams
+  pub land : Land
 
 -- what talus passes go by on a w × h working grid
 abbrev pub slidesOf : ℕ → ℕ → Float → Float → Float → ThermalParams
@@ -46,6 +53,7 @@ fluvialPlan w h s =
       passes = passesOf 1 scale;
       cuts = record { k = kOf (s .strength) scale; uplift = s .uplift; «water_level» = s .«water_level» };
       slides = slidesOf w h (s .talus) (ofBits binary32 0x3f00_0000) (s .«water_level»);
+      land = landOf s;
     }
 
 -- the passes and the parameters of a thermal run

@@ -9,6 +9,7 @@ use lib.Ieee.{Float, nan, binary32, ofBits, add, sub, mul, div}
 use Rattle.float_order.specs.Whole.{whole}
 use Rattle.lists.specs.Loops.{tabulate}
 use Rattle.grid.specs.Heights.{allFinite}
+use Rattle.spacing.specs.Distances.{squareDistances}
 use Rattle.drainage.specs.Ground.{Ground, floats, gridGround}
 use Rattle.drainage.specs.Flood.{flooded}
 use Rattle.drainage.specs.Receivers.{receivers}
@@ -19,7 +20,7 @@ use Rattle.thermal_erosion.specs.declared.ThermalParams.{ThermalParams}
 use Rattle.resample.specs.WorkSize.{workSize}
 use Rattle.resample.specs.Blocks.{downsampled}
 use Rattle.upsample.specs.Samples.{FarEdge, asSource, addedOf}
-use Rattle.runs.specs.Plan.{Plan, fluvialPlan, thermalPasses, thermalParams}
+use Rattle.runs.specs.Plan.{Plan, landOf, fluvialPlan, thermalPasses, thermalParams}
 use Rattle.runs.specs.Machine.{Course, State, finished}
 use Rattle.runs.specs.declared.FluvialSettings.{FluvialSettings}
 use Rattle.runs.specs.declared.ThermalSettings.{ThermalSettings}
@@ -67,7 +68,7 @@ fluvialCourse ground w h plan stop choose =
       incision = incisionBy ground (plan .cuts) choose;
       opening = λ it. div binary32 (whole it) (whole (plan .iterations));
       begins = fluvialBegins (plan .iterations) (plan .passes);
-      thresholds = thresholdsOf (plan .slides .threshold);
+      thresholds = thresholdsOf (plan .slides .threshold) (plan .land .distances);
       strength = plan .slides .strength;
       water = plan .slides .«water_level»;
       stop = stop;
@@ -85,7 +86,7 @@ slideCourse w h params passes stop =
       incision = λ it hs. hs;
       opening = λ it. ofBits binary32 0;
       begins = λ it pass. div binary32 (whole (it + pass)) (whole passes);
-      thresholds = thresholdsOf (params .threshold);
+      thresholds = thresholdsOf (params .threshold) squareDistances;
       strength = params .strength;
       water = params .«water_level»;
       stop = stop;
@@ -138,7 +139,7 @@ unfolding workSize
 runBy w h s stop choose map =
     let work = workSize w h (s .«work_res») in
     let plan = fluvialPlan (work .w) (work .h) s in
-    runOn asSource w h (fluvialCourse (gridGround (work .w) (work .h) (s .«water_level»)) (work .w) (work .h) plan stop choose) map
+    runOn asSource w h (fluvialCourse (gridGround (work .w) (work .h) (landOf s)) (work .w) (work .h) plan stop choose) map
 
 -- a whole thermal run
 unfoldable pub thermalRun : ℕ → ℕ → ThermalSettings → ℕ → List Float → Ran

@@ -1,3 +1,5 @@
+use Rattle.drainage.specs.declared.Land.{Land}
+use Rattle.drainage.proofs.GroundLaws.{north-based}
 use Rattle.flow.specs.Route.{lentOf}
 use mathlib.Core.Path.{refl, sym, ap, _∙_}
 use Rattle.answers.specs.Outcome.{answerOf, given}
@@ -19,12 +21,16 @@ enum-told-2 c = search needs
 returns : tie.Need-returns
 returns c = routed-refused _ _ _ _ _ _ _ _ _ _ _ (c .before .before .refusal .ensures) (refused-given (c .enum-told2 .given .1))
 
+square-land-requires : tie.Need-square-land-requires
+square-land-requires c κs = search needs
+
 route-grid-requires : tie.Need-route-grid-requires
 route-grid-requires c κs =
-    let a = c .before .before .before .before .before .before .before .before .before .before .before .before .before .before .before .before .args in
+    let a = c .before .before .before .before .before .before .before .before .before .before .before .before .before .before .before .before .before .args in
     let l = lentOf (a .h .now) (a .order .now) (a .recv .now) (a .spill .now) (a .area .now) (a .queue .now) (a .status .now) in
-    let e = answered (a .size .w) (a .size .h) (a .h .now) (a .water-level) l (c .before .before .before .before .before .before .before .before .refusal .result) (c .before .before .before .before .before .before .before .before .refusal .ensures) ∙ ap (λ r. given (answerOf r)) (c .before .before .before .before .before .before .enum-told .given .1) in
-    (accepted-grid _ _ (a .h .now) (a .water-level) l e refl, accepted-enough _ _ (a .h .now) (a .water-level) l e)
+    let e = answered (a .size .w) (a .size .h) (a .h .now) (a .water-level) l (c .before .before .before .before .before .before .before .before .before .refusal .result) (c .before .before .before .before .before .before .before .before .before .refusal .ensures) ∙ ap (λ r. given (answerOf r)) (c .before .before .before .before .before .before .before .enum-told .given .1) in
+    let g = accepted-grid _ _ (a .h .now) (a .water-level) l e refl in
+    (g, (accepted-enough _ _ (a .h .now) (a .water-level) l e, north-based _ _ (c .before .before .before .before .before .before .square-land .result) (a .h .now) (g .sides) (ap (λ (d : Land). d .sides .north) (c .before .before .before .before .before .before .square-land .ensures))))
 
 same-length : tie.Need-same-length
 same-length c = search needs
@@ -46,7 +52,7 @@ same-length-6 c = search needs
 
 returns-2 : tie.Need-returns-2
 returns-2 c =
-    routed-done _ _ _ _ _ _ _ _ _ _ (ap answerOf (sym (c .before .before .before .before .before .before .before .before .before .before .before .before .before .before .before .before .before .before .before .enum-told .given .1)) ∙ c .before .before .before .before .before .before .before .before .before .before .before .before .before .before .before .before .before .before .before .before .before .refusal .ensures) _ _ _ _ _ _ (c .before .before .before .before .before .before .before .before .before .before .before .before .route-grid .ensures)
+    routed-done _ _ _ _ _ _ _ _ _ _ (ap answerOf (sym (c .before .before .before .before .before .before .before .before .before .before .before .before .before .before .before .before .before .before .before .before .enum-told .given .1)) ∙ c .before .before .before .before .before .before .before .before .before .before .before .before .before .before .before .before .before .before .before .before .before .before .refusal .ensures) _ _ _ _ _ _ (c .before .before .before .before .before .before .before .before .before .before .before .before .before .before .before .before .before .before .before .square-land .ensures) (c .before .before .before .before .before .before .before .before .before .before .before .before .route-grid .ensures)
 
 pub route-spec : {M : Type 1} → statement M
 route-spec =
@@ -56,6 +62,7 @@ route-spec =
     enum-told
     enum-told-2
     returns
+    square-land-requires
     route-grid-requires
     same-length
     same-length-2

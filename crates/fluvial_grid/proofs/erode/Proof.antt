@@ -12,7 +12,7 @@ on-map-requires : tie.Need-on-map-requires
 on-map-requires c κs = search needs
 
 run-iterations-requires : tie.Need-run-iterations-requires
-run-iterations-requires c κs = let p = c .before .before .before .before .before .before .before .before .before .before .before .before .before .before .before .before .before .before .pre in let m = erodes-map p (c .before .before .before .before .before .before .before .before .on-map .ensures) (c .before .before .before .before .before .before .before .if1 .taken) in (p .bounded, (m, erodes-enough p (m .cells)))
+run-iterations-requires c κs = let p = c .before .before .before .before .before .before .before .before .before .before .before .before .before .before .before .before .before .before .pre in let m = erodes-map p (c .before .before .before .before .before .before .before .before .on-map .ensures) (c .before .before .before .before .before .before .before .if1 .taken) in (p .bounded, (m, (erodes-enough p (m .cells), p .sides-open)))
 
 same-length : tie.Need-same-length
 same-length c = c .before .before .before .before .before .before .before .before .before .before .before .before .before .before .run-iterations .kept .1 .0
@@ -63,7 +63,7 @@ returns-2 : tie.Need-returns-2
 returns-2 c = whole-averages _ _ _ _ (sym (c .before .before .before .before .before .before .before .before .before .before .before .before .before .on-map .ensures) ∙ c .before .before .before .before .before .before .before .before .before .before .before .before .if1 .left) (c .before .before .before .before .before .before .before .before .reduce .ensures) (not-true _ (c .before .before .before .if2 .taken)) (halted-fresh (c .ended .ensures) (c .before .before .fresh .ensures) (c .before .begun .ensures))
 
 run-iterations-requires-2 : tie.Need-run-iterations-requires-2
-run-iterations-requires-2 c κs = let p = c .before .before .before .before .before .before .before .before .before .before .before .before .before .before .before .before .before .before .before .before .before .before .before .before .before .before .before .pre in let m = erodes-averages p _ (c .before .before .before .before .before .before .before .before .before .before .before .before .reduce .ensures) (not-false _ (c .before .before .before .before .before .before .before .if2 .left)) (c .before .before .before .before .before .before .before .before .before .before .before .before .reduce .kept .1 .1 .1 .1 .0) in (p .bounded, (m, erodes-enough p (m .cells)))
+run-iterations-requires-2 c κs = let p = c .before .before .before .before .before .before .before .before .before .before .before .before .before .before .before .before .before .before .before .before .before .before .before .before .before .before .before .pre in let m = erodes-averages p _ (c .before .before .before .before .before .before .before .before .before .before .before .before .reduce .ensures) (not-false _ (c .before .before .before .before .before .before .before .if2 .left)) (c .before .before .before .before .before .before .before .before .before .before .before .before .reduce .kept .1 .1 .1 .1 .0) in (p .bounded, (m, (erodes-enough p (m .cells), p .sides-open)))
 
 same-length-11 : tie.Need-same-length-11
 same-length-11 c = refl

@@ -6,7 +6,7 @@ use Rattle.flow.specs.Route.{lentOf}
 use Rattle.flow.specs.declared.Lent.{Lent}
 use Rattle.fluvial_loop.specs.Loops.{courseBy}
 use Rattle.fluvial_loop.proofs.SlideLaws.{count-float}
-use Rattle.fluvial_loop.proofs.IterateLaws.{lent-same, Iterating, iterating-none, iterating-done, iterating-ended, iterating-enough, iterating-accepted, iterating-counts, iterating-slides, iterating-more}
+use Rattle.fluvial_loop.proofs.IterateLaws.{lent-same, Iterating, iterating-none, iterating-done, iterating-ended, iterating-enough, iterating-accepted, iterating-based, iterating-counts, iterating-slides, iterating-more}
 use Rattle.fluvial_loop.proofs.run_iterations.Statement.{statement}
 use Rattle.fluvial_loop.proofs.run_iterations.Tie as tie
 
@@ -56,15 +56,15 @@ int-to-float-p-2 c = count-float _ (c .before .before .before .before .before .b
 open-iteration-requires : tie.Need-open-iteration-requires Inv-loop μ-loop
 open-iteration-requires c κs = let s = c .before .before .before .before .before .before .before .before .before .before .before .before .before .before .before .before .before .before .before .before .before in
     let a = s .args in
-    let enough = iterating-enough (a .size .w) (a .size .h) (a .plan) (a .stop) _ _ _ _ _ _ (c .before .before .before .before .before .before .before .before .before .before .before .before .loop .inv) (s .pre .1 .1) in
-    (iterating-accepted (a .size .w) (a .size .h) (a .plan) (a .stop) _ _ _ _ _ _ (c .before .before .before .before .before .before .before .before .before .before .before .before .loop .inv) (s .pre .1 .0) (c .before .before .before .before .before .before .before .before .before .before .before .before .before .before .before .before .before .before .before .before .slice-known .given) (enough .heights), (enough, iterating-counts (a .size .w) (a .size .h) (a .plan) (a .stop) _ _ _ _ _ _ (c .before .before .before .before .before .before .before .before .before .before .before .before .loop .inv) (s .pre .0) (c .before .before .before .before .before .before .before .before .before .before .before .loop-test .taken) (c .before .before .before .before .before .before .before .before .before .if1 .left)))
+    let enough = iterating-enough (a .size .w) (a .size .h) (a .plan) (a .stop) _ _ _ _ _ _ (c .before .before .before .before .before .before .before .before .before .before .before .before .loop .inv) (s .pre .1 .1 .0) in
+    (iterating-accepted (a .size .w) (a .size .h) (a .plan) (a .stop) _ _ _ _ _ _ (c .before .before .before .before .before .before .before .before .before .before .before .before .loop .inv) (s .pre .1 .0) (c .before .before .before .before .before .before .before .before .before .before .before .before .before .before .before .before .before .before .before .before .slice-known .given) (enough .heights), (enough, (iterating-counts (a .size .w) (a .size .h) (a .plan) (a .stop) _ _ _ _ _ _ (c .before .before .before .before .before .before .before .before .before .before .before .before .loop .inv) (s .pre .0) (c .before .before .before .before .before .before .before .before .before .before .before .loop-test .taken) (c .before .before .before .before .before .before .before .before .before .if1 .left), iterating-based (a .size .w) (a .size .h) (a .plan) (a .stop) _ _ _ _ _ _ (c .before .before .before .before .before .before .before .before .before .before .before .before .loop .inv) (s .pre .1 .0 .sides) (s .pre .1 .1 .1))))
 
 talus-passes-requires : tie.Need-talus-passes-requires Inv-loop μ-loop
 talus-passes-requires c κs = let s = c .before .before .before .before .before .before .before .before .before .before .before .before .before .before .before .before .before .before .before .before .before .before .before .before .before .before .before .before .before .before .before .before .before .before .before .before .before .before in
     let a = s .args in
-    let enough = iterating-enough (a .size .w) (a .size .h) (a .plan) (a .stop) _ _ _ _ _ _ (c .before .before .before .before .before .before .before .before .before .before .before .before .before .before .before .before .before .before .before .before .before .before .before .before .before .before .before .before .before .loop .inv) (s .pre .1 .1) in
+    let enough = iterating-enough (a .size .w) (a .size .h) (a .plan) (a .stop) _ _ _ _ _ _ (c .before .before .before .before .before .before .before .before .before .before .before .before .before .before .before .before .before .before .before .before .before .before .before .before .before .before .before .before .before .loop .inv) (s .pre .1 .1 .0) in
     let k = c .before .before .before .before .before .before .before .before .before .before .before .before .before .before .before .before .open-iteration .kept in
-    iterating-slides (a .size .w) (a .size .h) (a .plan) (a .stop) _ _ _ _ _ _ (c .before .before .before .before .before .before .before .before .before .before .before .before .before .before .before .before .before .before .before .before .before .before .before .before .before .before .before .before .before .loop .inv) (s .pre .0) (c .before .before .before .before .before .before .before .before .before .before .before .before .before .before .before .before .before .before .before .before .before .before .before .before .before .before .before .before .loop-test .taken) (c .before .before .before .before .before .before .before .before .before .before .before .before .before .before .before .before .before .before .before .before .before .before .before .before .before .before .if1 .left) _ _ (c .before .before .before .before .before .before .before .before .before .before .before .before .before .before .before .before .open-iteration .ensures) (k .1 .0 ∙ enough .heights) (k .1 .1 .1 .1 .1 .1 .0 ∙ enough .spill ∙ sym (k .1 .0 ∙ enough .heights))
+    iterating-slides (a .size .w) (a .size .h) (a .plan) (a .stop) _ _ _ _ _ _ (c .before .before .before .before .before .before .before .before .before .before .before .before .before .before .before .before .before .before .before .before .before .before .before .before .before .before .before .before .before .loop .inv) (s .pre .0) (c .before .before .before .before .before .before .before .before .before .before .before .before .before .before .before .before .before .before .before .before .before .before .before .before .before .before .before .before .loop-test .taken) (c .before .before .before .before .before .before .before .before .before .before .before .before .before .before .before .before .before .before .before .before .before .before .before .before .before .before .if1 .left) _ _ (c .before .before .before .before .before .before .before .before .before .before .before .before .before .before .before .before .open-iteration .ensures) (k .1 .0 ∙ enough .heights) (k .1 .1 .1 .1 .1 .1 .1 .0 ∙ enough .spill ∙ sym (k .1 .0 ∙ enough .heights))
 
 add-it : tie.Need-add-it Inv-loop μ-loop
 add-it c = omega (arith, c .before .before .before .before .before .before .before .before .before .before .before .before .before .before .before .before .before .before .before .before .before .before .before .before .before .before .before .before .before .before .before .before .before .loop-test .taken, c .before .before .before .before .before .before .before .before .before .before .before .before .before .before .before .before .before .before .before .before .before .before .before .before .before .before .before .before .before .before .before .before .before .before .before .before .before .before .before .before .before .before .before .pre .0 .iterations)
@@ -76,7 +76,7 @@ loop-again : tie.Need-loop-again Inv-loop μ-loop
 loop-again c = let s = c .before .before .before .before .before .before .before .before .before .before .before .before .before .before .before .before .before .before .before .before .before .before .before .before .before .before .before .before .before .before .before .before .before .before .before .before .before .before .before .before .before .before .before in
     let a = s .args in
     let k = c .before .before .before .before .before .before .before .before .before .before .before .before .before .before .before .before .before .before .before .before .before .open-iteration .kept .1 in
-    let n = k .1 .1 .1 .1 .1 in
+    let n = k .1 .1 .1 .1 .1 .1 in
     let t = c .before .before .before .before .talus-passes .kept .1 in
     iterating-more (a .size .w) (a .size .h) (a .plan) (a .stop) _ _ _ _ _ _ (c .before .before .before .before .before .before .before .before .before .before .before .before .before .before .before .before .before .before .before .before .before .before .before .before .before .before .before .before .before .before .before .before .before .before .loop .inv) (s .pre .0) (c .before .before .before .before .before .before .before .before .before .before .before .before .before .before .before .before .before .before .before .before .before .before .before .before .before .before .before .before .before .before .before .before .before .loop-test .taken) (c .before .before .before .before .before .before .before .before .before .before .before .before .before .before .before .before .before .before .before .before .before .before .before .before .before .before .before .before .before .before .before .if1 .left) _ _ (c .before .before .before .before .before .before .before .before .before .before .before .before .before .before .before .before .before .before .before .before .before .open-iteration .ensures) _ _ _ (c .before .before .before .before .talus-passes .ensures)
     (lent-same (t .0 ∙ k .0) (n .1 .1 .0) (n .1 .1 .1 .0) (t .1 .0 ∙ n .0) (n .1 .0) (n .1 .1 .1 .1 .0) (n .1 .1 .1 .1 .1 .0))

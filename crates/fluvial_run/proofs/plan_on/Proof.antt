@@ -15,8 +15,11 @@ fluvial-plan-requires c κs = search needs
 talus-plan-requires : tie.Need-talus-plan-requires
 talus-plan-requires c κs = search needs
 
+fluvial-land-requires : tie.Need-fluvial-land-requires
+fluvial-land-requires c κs = search needs
+
 returns : tie.Need-returns
-returns c = plan-is _ (c .before .before .before .fluvial-iterations .ensures) (c .before .before .fluvial-passes .ensures) (c .before .fluvial-plan .ensures) (c .talus-plan .ensures)
+returns c = plan-is _ (c .before .before .before .before .fluvial-iterations .ensures) (c .before .before .before .fluvial-passes .ensures) (c .before .before .fluvial-plan .ensures) (c .before .talus-plan .ensures) (c .fluvial-land .ensures)
 
 pub plan-on-spec : {M : Type 1} → statement M
 plan-on-spec =
@@ -26,4 +29,5 @@ plan-on-spec =
     fluvial-passes-requires
     fluvial-plan-requires
     talus-plan-requires
+    fluvial-land-requires
     returns)

@@ -7,15 +7,15 @@ use Rattle.incision_step.proofs.carve.Statement.{statement}
 use Rattle.incision_step.proofs.carve.Tie as tie
 
 route-grid-requires : tie.Need-route-grid-requires
-route-grid-requires c κs = search needs
+route-grid-requires c κs = c .before .before .before .before .before .before .before .before .before .before .before .before .before .pre
 
 incise-along-requires : tie.Need-incise-along-requires
 incise-along-requires c κs =
     let p = c .before .before .before .before .before .before .before .before .before .before .before .before .before .before .before .before .before .before .before .before .before .before .before .before .before .before .before .before .before .before .pre in
     let route = c .before .before .before .before .before .before .before .before .before .before .before .before .before .before .before .before .route-grid in
     let k = route .kept .1 .1 .1 .1 in
-    let drains = routing-drains _ _ _ _ (p .0) (c .before .before .before .before .before .before .before .before .before .before .before .before .before .before .before .before .before .before .before .before .before .before .before .before .before .before .before .before .before .shared-slice-known .given) (route .ensures) (k .0 ∙ p .1 .receivers) in
-    (drains, (record { heights = p .0 .cells; result = k .1 .0 ∙ p .1 .spill; areas = k .1 .1 .0 ∙ p .1 .areas }, whole-areas (few-cells drains) (drains .work) (routed-areas (route .ensures))))
+    let drains = routing-drains _ _ _ (c .before .before .before .before .before .before .before .before .before .before .before .before .before .before .before .before .before .before .before .before .before .before .before .before .before .before .before .before .before .before .args .land) (p .0) (c .before .before .before .before .before .before .before .before .before .before .before .before .before .before .before .before .before .before .before .before .before .before .before .before .before .before .before .before .before .shared-slice-known .given) (p .1 .1) (route .ensures) (k .0 ∙ p .1 .0 .receivers) in
+    (drains, (record { heights = p .0 .cells; result = k .1 .0 ∙ p .1 .0 .spill; areas = k .1 .1 .0 ∙ p .1 .0 .areas }, whole-areas (few-cells drains) (drains .work) (routed-areas (route .ensures))))
 
 same-length : tie.Need-same-length
 same-length c = search needs
@@ -36,7 +36,7 @@ same-length-6 : tie.Need-same-length-6
 same-length-6 c = search needs
 
 returns : tie.Need-returns
-returns c = carves _ _ _ _ _ (c .before .before .before .before .before .before .before .before .before .before .before .before .before .before .before .before .before .before .before .before .before .route-grid .ensures) (c .before .before .before .before .incise-along .ensures .heights)
+returns c = carves _ _ (c .before .before .before .before .before .before .before .before .before .before .before .before .before .before .before .before .before .before .before .before .before .before .before .before .before .before .before .before .before .before .before .before .before .before .before .args .land) _ _ _ (c .before .before .before .before .before .before .before .before .before .before .before .before .before .before .before .before .before .before .before .before .before .route-grid .ensures) (c .before .before .before .before .incise-along .ensures .heights)
 
 pub carve-spec : {M : Type 1} → statement M
 carve-spec =
