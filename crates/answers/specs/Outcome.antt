@@ -1,4 +1,5 @@
--- Every answer as documents 01 and 02 have it: what the call gives, or the number of a refusal with the cell or position that it carries.
+-- Every answer as documents 01 and 02 have it: what the call gives, or the number of a refusal with the cell or
+-- position that it carries.
 use Prim.Native.Nat.{ℕ}
 use mathlib.Core.Bool.{Bool, true, false, not, _&&_}
 use lib.Ieee.{Float, le}
@@ -13,9 +14,9 @@ pub data Outcome (A : Type 0) : Type 0 where
   refused : ℕ → Outcome A
   refusedAt : ℕ → ℕ → Outcome A
 
--- document 01, 'Refused for the input' (1 to 9) and 'Refused for the state' (21, 22); document 02, 'Answers' of its cards: a row outside the named
--- map (31), spacings other than 1 on the way back (32), no such cell (33), no base cell (34), a height outside the metre range (35), tiles that
--- overlap, leave a gap or reach past the sheet (36)
+-- document 01, 'Refused for the input' (1 to 9) and 'Refused for the state' (21, 22); document 02, 'Answers': a row
+-- outside the named map (31), spacings other than 1 on the way back (32), no such cell (33), no base cell (34), a height
+-- outside the metre range (35), tiles that overlap, leave a gap or reach past the sheet (36)
 abbrev pub refusalOf : {A : Type 0} → Refusal → Outcome A
 refusalOf Side = refused 1
 refusalOf ReducedSide = refused 2

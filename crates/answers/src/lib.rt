@@ -1,5 +1,5 @@
-// What every public call answers: a value, or one of the refusals of documents 01 and 02. specs/Outcome.antt gives each case its
-// number and the values that it carries.
+// What every public call answers: a value, or one of the refusals of documents 01 and 02. specs/Outcome.antt gives
+// each case its number and the values that it carries.
 ghost use mathlib.Core.Path.{_≡_};
 ghost use Rattle.answers.specs.Outcome.{outsideOf, numberIn, placeIn, numberOf, placeOf, answerOf};
 

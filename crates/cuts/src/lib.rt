@@ -59,7 +59,7 @@ pub fn incise_cell(by: Incision, area: &[f32], recv: &[u32], out: &mut [f32], c:
 // the table.
 pub fn settle_cell(
     by: Incision,
-    ds: &[f32; 16],
+    by_step: &[f32; 16],
     offsets: &[usize; 16],
     rates: &[f32; 1024],
     m: usize,
@@ -68,7 +68,7 @@ pub fn settle_cell(
     c: usize,
     height: f32,
 )
-    requires { ⌜ Tables by m (now ds) (now offsets) (now rates) ⌝ }
+    requires { ⌜ Tables by m (now «by_step») (now offsets) (now rates) ⌝ }
     requires { ⌜ Passing (by .width) (now words) c ⌝ }
     requires { ⌜ length (now out) ≡ length (now words) ⌝ }
     ensures { λ _. ⌜ now (out .exit) ≡ set (now (out .entry)) c (cutByWord by (now (words .entry)) c height (getD (now (out .entry)) (receiverIn (by .width) c (now (words .entry))) nan)) ⌝ }
@@ -76,7 +76,7 @@ pub fn settle_cell(
     let word = f32::to_bits(words[c]);
     let step = (word % 16) as usize;
     let below = stepped_to(offsets, c, step, by.width);
-    let coef = rate_at(rates, m, (word / 16) as usize, by.cells, by.k) / ds[step];
+    let coef = rate_at(rates, m, (word / 16) as usize, by.cells, by.k) / by_step[step];
     let down = drains_to(c, below, out[below], by.water);
     out[c] = cut(height, by.uplift, by.water, coef, down);
 }

@@ -1,4 +1,5 @@
--- The grids that document 01 accepts meet the theorems' premises, and so every accepted routing is a network.
+-- The grids that document 01 accepts meet the theorems' premises if some cell is base level, and so every such routing
+-- is a network.
 use Prim.Native.Nat.{ℕ, zero, suc, _*_, _^_, _≤_, _<_}
 use mathlib.Core.Path.{_≡_, refl, sym, ap, _∙_, subst}
 use mathlib.Core.Bool.{Bool, true, false, not, _||_, false≢true}
@@ -16,7 +17,7 @@ use Rattle.float_order.proofs.RankLaws.{finite-number, max-keeps, max-rank}
 use Rattle.floats.proofs.BitsLaws.{key-narrow}
 use Rattle.float_order.proofs.KeyLaws.{key-lt}
 use Rattle.grid.specs.Sides.{InRange}
-use Rattle.grid.specs.Directions.{neighbourAt, Adjacent}
+use Rattle.grid.specs.Directions.{Adjacent}
 use Rattle.grid.specs.Heights.{allFinite}
 use Rattle.grid.proofs.SidesLaws.{cells-bound}
 use Rattle.grid.proofs.NeighbourLaws.{adjacent-back, adjacent-apart}

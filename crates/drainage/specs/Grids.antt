@@ -1,4 +1,5 @@
--- The theorems' premises for the grids that document 01 accepts: sides 1 to 4,096 and finite binary32 heights. Heights compare as their ranks.
+-- The theorems' premises for the grids that document 01 accepts, sides 1 to 4,096 and finite binary32 heights, where
+-- some cell is base level. Heights compare as their ranks.
 use Prim.Native.Nat.{ℕ, _*_}
 use mathlib.Core.Path.{_≡_}
 use mathlib.Core.Bool.{true, false}
@@ -20,7 +21,7 @@ pub record Height (x : Float) : Type 0 where
   pub fit : T (fits binary32 x)
   pub real : T (finite x)
 
--- Every routing that is accepted, of whatever sides and distances, is a network where some cell is base level.
+-- Every routing of a grid in range with a base cell, whatever its open sides and distances, is a network.
 abbrev pub GridNetworks : Type 0
 GridNetworks = (w h : ℕ) (land : Land) (hs : List Float) → InRange w h → length hs ≡ w * h → Fit hs → allFinite hs ≡ true → noBase (gridGround w h land hs) ≡ false
     → Network floats (gridGround w h land hs) hs rank

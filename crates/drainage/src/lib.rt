@@ -1,5 +1,5 @@
 // The drainage network of a height grid, as definitions and theorems: the flood, receivers, ways down, drainage areas, work lists and least crests.
-// flow and the crates below it compute what specs/ defines; what a routing stands on is here, as definitions and code share it.
+// The crates from flood_start to flow compute what specs/ defines. `Land` stands here, since definitions and code share it.
 use grid::OpenSides;
 use grid::all_open;
 use spacing::Distances;
@@ -7,7 +7,7 @@ use spacing::square_distances;
 ghost use mathlib.Core.Path.{_≡_};
 ghost use Rattle.drainage.specs.Ground.{squareLand};
 
-// What a routing stands on besides its heights: the water level, the sides that drain, and the distances to neighbours.
+// What a ground is made of besides the heights: the water level, the open sides, and the distances to neighbours.
 pub struct Land {
     pub water_level: f32,
     pub sides: OpenSides,

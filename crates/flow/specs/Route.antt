@@ -77,7 +77,8 @@ pub record Holding (w h : ℕ) (hs : List Float) (land : Land) (order recv : Lis
   pub raised : spill ≡ floodOf w h hs land .spill
   pub drained : area ≡ areasOf w h hs land
 
--- What `route` answers and leaves: accepted, the four results hold the routing on document 01's land; refused, every slice is as it was, scratch included.
+-- What `route` answers and leaves: accepted, the four results hold the routing on document 01's land; refused, every
+-- slice is as it was, scratch included.
 pub record Routed (w h : ℕ) (hs : List Float) (water : Float) (order recv : List ℕ) (spill area : List Float) (queue status : List ℕ) (r : Answer)
     (order′ recv′ : List ℕ) (spill′ area′ : List Float) (queue′ status′ : List ℕ) : Type 0 where
   pub answer : answerOf r ≡ routeAnswer w h hs water (lentOf hs order recv spill area queue status)

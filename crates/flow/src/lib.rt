@@ -78,7 +78,8 @@ fn refusal(size: Sides, h: &[f32], water_level: f32, l: Lent) -> Answer
     Answer::Done
 }
 
-// Routes a grid that is not refused and has a base cell: flood, receivers, areas. For whole runs, which check their input once.
+// Routes a grid that is not refused and has a base cell: flood, receivers, areas. For whole runs, which check their
+// input once.
 pub fn route_grid(
     size: Sides,
     h: &[f32],

@@ -41,7 +41,7 @@ inciseRefusal w h hs p recv list result scratch number at then =
     (cond (not (allFinite hs)) (at 5 (firstNotFinite hs))
     (cond (ltb (firstBadReceiver w h recv) n) (at 6 (firstBadReceiver w h recv)) (cond (ltb (firstBadEntry n recv list) n) (at 7 (firstBadEntry n recv list)) then)))))
 
--- the heights incised along lent receivers, which asks for no base cell
+-- the heights incised along lent receivers; base level is no part of it, so the ground has no base cell
 abbrev pub incised : ℕ → ℕ → List Float → FluvialParams → List ℕ → List ℕ → List Float
 incised w h hs p recv list = incisedBy (groundBy w h squareDistances (λ c. false)) p recv list hs
 

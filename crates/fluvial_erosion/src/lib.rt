@@ -85,7 +85,7 @@ fn incise_listed(by: Incision, recv: &[u32], words: &[f32], order: &[u32], out: 
     requires { ⌜ Worded (by .width) (now recv) (now words) ⌝ }
     ensures { λ _. ⌜ now (out .exit) ≡ madeAlong nan (now (recv .entry)) (cutDown by (areasIn (now (words .entry))) (now (recv .entry))) (now (order .entry)) (now (out .entry)) ⌝ }
 {
-    let ds = step_distances(by.distances);
+    let by_step = step_distances(by.distances);
     let offsets = step_offsets(by.width);
     let m = table_size(words.len());
     let rates = table(m, by.cells, by.k);
@@ -94,7 +94,7 @@ fn incise_listed(by: Incision, recv: &[u32], words: &[f32], order: &[u32], out: 
     while i < len {
         let c = order[i] as usize;
         let height = out[c];
-        settle_cell(by, &ds, &offsets, &rates, m, words, out, c, height);
+        settle_cell(by, &by_step, &offsets, &rates, m, words, out, c, height);
         i += 1;
     }
 }

@@ -4,7 +4,6 @@ use mathlib.Core.Path.{_≡_}
 use mathlib.Core.Bool.{cond}
 use lib.Dec.{eqb}
 use Rattle.lists.specs.Loops.{turns}
-use Rattle.drainage.specs.Ground.{gridGround}
 use Rattle.thermal_erosion.specs.SlidePass.{rowsOf}
 use Rattle.runs.specs.Plan.{Plan}
 use Rattle.runs.specs.Machine.{Course}
@@ -19,7 +18,7 @@ planOf p = record { iterations = p .iterations; passes = p .passes; cuts = p .cu
 
 -- our run by a plan on a w × h working grid
 abbrev pub courseBy : ℕ → ℕ → FluvialPlan → ℕ → Course
-courseBy w h p stop = fluvialCourse (gridGround w h (p .land)) w h (planOf p) stop ours
+courseBy w h p stop = fluvialCourse w h (planOf p) stop ours
 
 -- pass q of iteration it, where the run has not ended
 abbrev pub passedBy : Course → ℕ → ℕ → Worked → Worked

@@ -13,10 +13,9 @@ use Rattle.answers.specs.declared.Answer.{Answer}
 use Rattle.answers.specs.declared.Refusal.{Refusal}
 use Rattle.grid.specs.Sides.{InRange}
 use Rattle.grid.specs.declared.Sides.{Sides}
-use Rattle.drainage.specs.Ground.{gridGround}
 use Rattle.resample.specs.WorkSize.{Within, workSize}
 use Rattle.upsample.specs.Samples.{asSource}
-use Rattle.runs.specs.Plan.{Plan, landOf, fluvialPlan}
+use Rattle.runs.specs.Plan.{Plan, fluvialPlan}
 use Rattle.runs.specs.Machine.{Course}
 use Rattle.runs.specs.Run.{ours, fluvialCourse, runOn, runBy}
 use Rattle.runs.specs.Refusals.{badFluvial}
@@ -46,12 +45,12 @@ plan-is q a b c d e i = record { iterations = a i; passes = b i; cuts = c i; sli
 
 -- the course of a plan is that of the settings it was made from
 module _ (w h : ℕ) (conf : FluvialSettings) (stop : ℕ) {plan : FluvialPlan} (e : planOf plan ≡ fluvialPlan w h conf) where
-  course-is : courseBy w h plan stop ≡ fluvialCourse (gridGround w h (landOf conf)) w h (fluvialPlan w h conf) stop ours
-  course-is = ap (λ (p : Plan). fluvialCourse (gridGround w h (p .land)) w h p stop ours) e
+  course-is : courseBy w h plan stop ≡ fluvialCourse w h (fluvialPlan w h conf) stop ours
+  course-is = ap (λ (p : Plan). fluvialCourse w h p stop ours) e
 
   course-bounded : InRange w h → conf .iterations ≤ 4096 → Bounded (courseBy w h plan stop)
   course-bounded r l =
-      subst Bounded (sym course-is) (fluvial-bounded w h r (gridGround w h (landOf conf)) conf stop ours l)
+      subst Bounded (sym course-is) (fluvial-bounded w h r conf stop ours l)
 
 at-most : {n a b : ℕ} → n ≤ min a b → (n ≤ a) × (n ≤ b)
 at-most l = (omega arith, omega arith)
@@ -148,7 +147,7 @@ module _ (w h : ℕ) (conf : FluvialSettings) (stop : ℕ) (map small eroded cop
         unfolding runBy
         whole-is =
             ap (λ (c : Course). runOn asSource w h c map) (course-is (work .w) (work .h) conf stop p)
-            ∙ ap (λ (work : Sides). runOn asSource w h (fluvialCourse (gridGround (work .w) (work .h) (landOf conf)) (work .w) (work .h) (fluvialPlan (work .w) (work .h) conf) stop ours) map) g
+            ∙ ap (λ (work : Sides). runOn asSource w h (fluvialCourse (work .w) (work .h) (fluvialPlan (work .w) (work .h) conf) stop ours) map) g
 
         pub run-done : {r : Reached} {a : RunAnswer} (map′ small′ eroded′ copy′ area′ : List Float) (order′ recv′ queue′ status′ : List ℕ) → Answered r a
             → worked map′ r ≡ wholeRun w h (courseBy (work .w) (work .h) plan stop) map

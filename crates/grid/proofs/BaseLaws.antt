@@ -1,6 +1,7 @@
--- Base level: the border by the ends of the two sides, four open sides, and a base cell of a map that is open to the north.
+-- Base level: the border by the ends of the two sides, four open sides, each side alone, and cell 0, which lies on
+-- the north side.
 use Prim.Native.Nat.{ℕ, _-_, _<_}
-use mathlib.Core.Path.{_≡_, refl, sym, ap}
+use mathlib.Core.Path.{_≡_, refl, sym, ap, _∙_}
 use mathlib.Core.Bool.{Bool, true, false, _||_}
 use mathlib.Core.List.{List}
 use native.Mathlib.Nat.{zero-div}
@@ -9,7 +10,7 @@ use lib.ListN.{getD}
 use lib.Ieee.{Float, nan, le}
 use borrow.Author.Tests.{eq-eqb}
 use Rattle.grid.specs.Sides.{cellOf, columnOf, rowOf}
-use Rattle.grid.specs.Base.{onBorder, openEnd, baseAt, baseOn, AllOpen}
+use Rattle.grid.specs.Base.{onBorder, openEnd, baseAt, baseOn, AllOpen, EachSide}
 use Rattle.grid.specs.declared.OpenSides.{OpenSides}
 use Rattle.grid.proofs.SidesLaws.{column-cell, row-cell}
 
@@ -25,6 +26,13 @@ border-ends w h x y = or-swap (eqb x 0) (eqb y 0) (eqb x (w - 1)) (eqb y (h - 1)
 
 pub all-open : AllOpen
 all-open w h water hs c = ap (λ (b : Bool). b || le (getD hs c nan) water) (sym (border-ends w h (columnOf w c) (rowOf w c)))
+
+or-false : (a : Bool) → (a || false) ≡ a
+or-false true = refl
+or-false false = refl
+
+pub each-side : EachSide
+each-side w h x y = record { north = or-false (eqb y 0); east = or-false (eqb x (w - 1)); south = refl; west = or-false (eqb x 0 || false) ∙ or-false (eqb x 0) }
 
 -- cell 0 lies on the north side
 pub base-first : (w h : ℕ) (o : OpenSides) (water : Float) (hs : List Float) → o .north ≡ true → baseOn w h o water hs 0 ≡ true

@@ -123,7 +123,7 @@ pub fn all_open() -> OpenSides
     }
 }
 
-// Whether x is an end of its side that is open.
+// Whether x is an end of a side of the map, and open.
 fn at_open(is_open: bool, x: usize, end: usize) -> bool
     ensures { λ r. ⌜ r ≡ («is_open» && eqb x end) ⌝ }
 {
@@ -133,20 +133,21 @@ fn at_open(is_open: bool, x: usize, end: usize) -> bool
     false
 }
 
-// Whether x is the first place of its side, and that end is open, or the last, and that one is.
+// Whether x is the first of `side` places, where the first is open, or the last of them, where the last is.
 fn open_end(first: bool, last: bool, side: usize, x: usize) -> bool
-    requires { ⌜ 0 < side ⌝ }
     ensures { λ r. ⌜ r ≡ openEnd first last side x ⌝ }
 {
     if at_open(first, x, 0) {
         return true;
+    }
+    if side == 0 {
+        return at_open(last, x, 0);
     }
     at_open(last, x, side - 1)
 }
 
 // Base level: a cell on an open side, or one that is not above the water.
 pub fn is_base(g: Sides, sides: OpenSides, water: f32, x: usize, y: usize, height: f32) -> bool
-    requires { ⌜ (0 < g .w) × (0 < g .h) ⌝ }
     ensures { λ r. ⌜ r ≡ baseAt (g .w) (g .h) sides water x y height ⌝ }
 {
     if open_end(sides.west, sides.east, g.w, x) {

@@ -120,7 +120,7 @@ pub fn fluvial_plan(work: Sides, conf: FluvialSettings) -> FluvialParams
     }
 }
 
-// What its routings stand on.
+// The land of a fluvial run.
 pub fn fluvial_land(conf: FluvialSettings) -> Land
     ensures { λ r. ⌜ r ≡ landOf conf ⌝ }
 {

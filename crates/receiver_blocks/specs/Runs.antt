@@ -39,7 +39,7 @@ pub record Begun (ds : Distances) (w : ℕ) (spill : List Float) (recv : List �
   pub offsets : cells′ ≡ tabulate n (λ i. finderAs ds w spill (c + i) (getD recv (c + i) 0) .cell) ++ drop n cells
   pub downs : slopes′ ≡ tabulate n (λ i. finderAs ds w spill (c + i) (getD recv (c + i) 0) .slope) ++ drop n slopes
 
--- the offset of each of the n cells from cell c on leads to a number that is not below 0, and not too great
+-- the offset of each of the n cells from cell c on leads to a number that is not below 0, and has at most 25 bits
 pub record Leads (w c n : ℕ) (cells : List ℕ) : Type 0 where
   pub enough : (i : ℕ) → i < n → w + 1 ≤ c + i + getD cells i 0
   pub below : (i : ℕ) → i < n → c + i + getD cells i 0 ≤ 2 ^ 25

@@ -6,7 +6,7 @@ use network::receiver;
 use receiver_blocks::narrow;
 use receiver_blocks::receive_block;
 use spacing::Distances;
-use steps::direction_distances;
+use spacing::direction_distances;
 use steps::place_distances;
 ghost use Prim.Native.Nat.{ℕ, _+_, _*_, _≤_, _<_};
 ghost use mathlib.Core.Path.{_≡_};

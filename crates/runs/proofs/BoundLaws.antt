@@ -5,7 +5,6 @@ use native.Mathlib.Nat.{mul-le-mul}
 use native.Mathlib.Omega.{arith}
 use lib.Ieee.{Float}
 use Rattle.grid.specs.Sides.{InRange}
-use Rattle.drainage.specs.Ground.{Ground}
 use Rattle.thermal_erosion.specs.declared.ThermalParams.{ThermalParams}
 use Rattle.runs.specs.Plan.{scaleOf, passesOf, fluvialPlan}
 use Rattle.runs.specs.Machine.{Course, steps}
@@ -16,9 +15,9 @@ use Rattle.runs.proofs.AskedLaws.{run-asked, opened-asked, steps-fluvia
 use Rattle.runs.proofs.PlanLaws.{Counted, fluvial-passes}
 
 module _ (w h : ℕ) (sides : InRange w h) where
-  pub fluvial-bounded : (ground : List Float → Ground) (s : FluvialSettings) (stop : ℕ) (choose : Choice) → s .iterations ≤ 4096
-      → Bounded (fluvialCourse ground w h (fluvialPlan w h s) stop choose)
-  fluvial-bounded ground s stop choose l =
+  pub fluvial-bounded : (s : FluvialSettings) (stop : ℕ) (choose : Choice) → s .iterations ≤ 4096
+      → Bounded (fluvialCourse w h (fluvialPlan w h s) stop choose)
+  fluvial-bounded s stop choose l =
       let p : Counted 8 (passesOf 1 (scaleOf w h)) = fluvial-passes w h (sides .wide) (sides .high) in
       let its : max (s .iterations) 1 ≤ 4096 = omega arith in
       record {
@@ -30,7 +29,7 @@ module _ (w h : ℕ) (sides : InRange w h) where
         some = p .some;
         iterations = omega arith;
         passes = mul-le-mul its (p .few);
-        steps = steps-fluvial (fluvialCourse ground w h (fluvialPlan w h s) stop choose) its (p .few) (sides .high);
+        steps = steps-fluvial (fluvialCourse w h (fluvialPlan w h s) stop choose) its (p .few) (sides .high);
       }
 
   pub slide-bounded : (params : ThermalParams) (passes stop : ℕ) → 0 < passes → passes ≤ 32768 → Bounded (slideCourse w h params passes stop)

@@ -1,4 +1,5 @@
--- A routing of finite binary32 heights on a grid in range with a base cell is drained along any work list of its receivers.
+-- A routing of finite binary32 heights on a grid in range with a base cell is drained along any work list of its
+-- receivers.
 use Prim.Native.Nat.{ℕ, _*_, _<_}
 use mathlib.Core.Path.{_≡_, refl, sym, _∙_}
 use mathlib.Core.Bool.{Bool, true, false}

@@ -1,4 +1,5 @@
--- The number of passes as whole numbers have it: the scale and iterations × scale are exact, so passes = ⌈iterations × longest side / 512⌉, at least 1.
+-- The number of passes as whole numbers have it: the scale and iterations × scale are exact, so passes = ⌈iterations ×
+-- longest side / 512⌉, at least 1. And a run has one water level.
 use Prim.Native.Nat.{ℕ, _+_, _-_, _*_, _/_, _^_, _≤_, _<_, max, min}
 use mathlib.Core.Path.{_≡_, refl, sym, ap, _∙_, subst}
 use mathlib.Core.Bool.{Bool, true, false, true≢false}
@@ -15,7 +16,10 @@ use lib.Ieee.Scale.{round-same}
 use Rattle.floats.specs.Stand.{ceilOf}
 use Rattle.floats.proofs.ValueLaws.{ofInt-value, cut-value}
 use Rattle.floats.proofs.WholeLaws.{ceilOf-value}
-use Rattle.runs.specs.Plan.{scaleOf, passesOf}
+use Rattle.runs.specs.Plan.{scaleOf, passesOf, OneWaterLevel}
+
+pub one-water-level : OneWaterLevel
+one-water-level w h s = record { land = refl; cuts = refl; slides = refl }
 
 -- a product of two floats that are not negative, by any fractions that they equal
 mul-values : (f : Format) (x y : Float) (a c b d : ℕ) → 0 < c → 0 < d → HasValue x false a c → HasValue y false b d → mul f x y ≡ round f false (a * b) (c * d)

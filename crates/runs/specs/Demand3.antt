@@ -51,7 +51,7 @@ module _ (w h : ℕ) (s : FluvialSettings) (stop : ℕ) (map : List Float) where
 
   abbrev pub courseOf : Choice → Course
   courseOf choose =
-      fluvialCourse groundOf (workSize w h (s .«work_res») .w) (workSize w h (s .«work_res») .h)
+      fluvialCourse (workSize w h (s .«work_res») .w) (workSize w h (s .«work_res») .h)
       (fluvialPlan (workSize w h (s .«work_res») .w) (workSize w h (s .«work_res») .h) s) stop choose
 
   abbrev pub beginsWith : List Float

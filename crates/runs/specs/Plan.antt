@@ -1,5 +1,6 @@
 -- Document 01, 'Whole runs': the settings converted to the working grid.
 use Prim.Native.Nat.{ℕ, max}
+use mathlib.Core.Path.{_≡_}
 use lib.IntN.{pos}
 use lib.Ieee.{Float, binary32, ofBits, ofInt, sub, mul, div, toUnsigned}
 use Rattle.floats.specs.Stand.{ceilOf}
@@ -28,11 +29,12 @@ thresholdOf talus scale =
 abbrev pub passesOf : ℕ → Float → ℕ
 passesOf iterations scale = max (toUnsigned 64 (ceilOf (mul binary32 (ofInt binary32 (pos iterations)) scale))) 1
 
--- what the routings of a fluvial run stand on
+-- the land of a fluvial run
 abbrev pub landOf : FluvialSettings → Land
 landOf s = squareLand (s .«water_level»)
 
--- What a fluvial run does on its working grid: `iterations` times a routing on `land`, an incision by `cuts` and then `passes` talus passes by `slides`.
+-- What a fluvial run does on its working grid: `iterations` times a routing on `land`, an incision by `cuts` and then
+-- `passes` talus passes by `slides`, all three by the distances of `land`.
 pub record Plan : Type 0 where
   pub iterations : ℕ
   pub passes : ℕ
@@ -55,6 +57,15 @@ fluvialPlan w h s =
       slides = slidesOf w h (s .talus) (ofBits binary32 0x3f00_0000) (s .«water_level»);
       land = landOf s;
     }
+
+-- Routing, incision and talus go by the water level of the settings.
+pub record OneWater (w h : ℕ) (s : FluvialSettings) : Type 0 where
+  pub land : fluvialPlan w h s .land .«water_level» ≡ s .«water_level»
+  pub cuts : fluvialPlan w h s .cuts .«water_level» ≡ s .«water_level»
+  pub slides : fluvialPlan w h s .slides .«water_level» ≡ s .«water_level»
+
+abbrev pub OneWaterLevel : Type 0
+OneWaterLevel = (w h : ℕ) (s : FluvialSettings) → OneWater w h s
 
 -- the passes and the parameters of a thermal run
 abbrev pub thermalPasses : ℕ → ℕ → ThermalSettings → ℕ

@@ -20,7 +20,7 @@ use Rattle.thermal_erosion.specs.declared.ThermalParams.{ThermalParams}
 use Rattle.resample.specs.WorkSize.{workSize}
 use Rattle.resample.specs.Blocks.{downsampled}
 use Rattle.upsample.specs.Samples.{FarEdge, asSource, addedOf}
-use Rattle.runs.specs.Plan.{Plan, landOf, fluvialPlan, thermalPasses, thermalParams}
+use Rattle.runs.specs.Plan.{Plan, fluvialPlan, thermalPasses, thermalParams}
 use Rattle.runs.specs.Machine.{Course, State, finished}
 use Rattle.runs.specs.declared.FluvialSettings.{FluvialSettings}
 use Rattle.runs.specs.declared.ThermalSettings.{ThermalSettings}
@@ -57,15 +57,16 @@ fluvialBegins iterations passes it pass =
     (add binary32 (add binary32 (whole it) half) (div binary32 (mul binary32 half (whole pass)) (whole passes)))
     (whole iterations)
 
-abbrev pub fluvialCourse : (List Float → Ground) → ℕ → ℕ → Plan → ℕ → Choice → Course
-fluvialCourse ground w h plan stop choose =
+-- a plan on its w × h working grid, with the ground of its land
+abbrev pub fluvialCourse : ℕ → ℕ → Plan → ℕ → Choice → Course
+fluvialCourse w h plan stop choose =
     record {
       w = w;
       h = h;
       iterations = plan .iterations;
       passes = plan .passes;
       cutting = true;
-      incision = incisionBy ground (plan .cuts) choose;
+      incision = incisionBy (gridGround w h (plan .land)) (plan .cuts) choose;
       opening = λ it. div binary32 (whole it) (whole (plan .iterations));
       begins = fluvialBegins (plan .iterations) (plan .passes);
       thresholds = thresholdsOf (plan .slides .threshold) (plan .land .distances);
@@ -138,8 +139,7 @@ unfoldable pub runBy : ℕ → ℕ → FluvialSettings → ℕ → Choice → Li
 unfolding workSize
 runBy w h s stop choose map =
     let work = workSize w h (s .«work_res») in
-    let plan = fluvialPlan (work .w) (work .h) s in
-    runOn asSource w h (fluvialCourse (gridGround (work .w) (work .h) (landOf s)) (work .w) (work .h) plan stop choose) map
+    runOn asSource w h (fluvialCourse (work .w) (work .h) (fluvialPlan (work .w) (work .h) s) stop choose) map
 
 -- a whole thermal run
 unfoldable pub thermalRun : ℕ → ℕ → ThermalSettings → ℕ → List Float → Ran

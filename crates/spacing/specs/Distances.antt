@@ -31,7 +31,7 @@ squareDistances = record { column = one; row = one; diagonal = ofBits binary32 0
 abbrev pub SquareDistances : Type 0
 SquareDistances = distancesOf squareCells ≡ squareDistances
 
--- the distances in the directions 1 to 8, in scan order
+-- the distances in the directions 1 to 8, in scan order: NW, N, NE, W, E, SW, S, SE
 abbrev pub eightOf : Distances → List Float
 eightOf d = d .diagonal ∷ d .row ∷ d .diagonal ∷ d .column ∷ d .column ∷ d .diagonal ∷ d .row ∷ d .diagonal ∷ []
 
@@ -41,3 +41,10 @@ nineOf d = one ∷ eightOf d
 
 abbrev pub distanceIn : Distances → ℕ → Float
 distanceIn d k = getD (nineOf d) k nan
+
+-- Columns 2 apart and rows 1 apart: 2 to W and E, 1 to N and S, the root of 5 to the corners.
+abbrev pub WideColumns : Type 0
+WideColumns =
+    let two = ofBits binary32 0x4000_0000 in
+    let corner = ofBits binary32 0x400f_1bbd in
+    eightOf (distancesOf (record { column = two; row = one })) ≡ (corner ∷ one ∷ corner ∷ two ∷ two ∷ corner ∷ one ∷ corner ∷ [])

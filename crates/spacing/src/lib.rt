@@ -1,7 +1,7 @@
-// The spacings of columns and rows, in reference cells, and the distances to neighbours that they give.
+// The spacings of columns and rows, and the distances to neighbours that they give.
 use square_root::root_of;
 ghost use mathlib.Core.Path.{_≡_};
-ghost use Rattle.spacing.specs.Distances.{distancesOf, squareDistances};
+ghost use Rattle.spacing.specs.Distances.{distancesOf, squareDistances, nineOf};
 
 // The spacing of columns and that of rows.
 pub struct Spacing {
@@ -20,12 +20,12 @@ pub struct Distances {
 pub fn distances_of(s: Spacing) -> Distances
     ensures { λ r. ⌜ r ≡ distancesOf s ⌝ }
 {
-    let c = s.column;
-    let r = s.row;
+    let column = s.column;
+    let row = s.row;
     Distances {
-        column: c,
-        row: r,
-        diagonal: root_of(c * c + r * r),
+        column: column,
+        row: row,
+        diagonal: root_of(column * column + row * row),
     }
 }
 
@@ -37,4 +37,24 @@ pub fn square_distances() -> Distances
         column: 1.0,
         row: 1.0,
     })
+}
+
+// The distances by the direction; the first is that of a cell to itself.
+pub fn direction_distances(ds: Distances) -> [f32; 9]
+    ensures { λ r. ⌜ r ≡ nineOf ds ⌝ }
+{
+    let column = ds.column;
+    let row = ds.row;
+    let corner = ds.diagonal;
+    [
+        1.0,
+        corner,
+        row,
+        corner,
+        column,
+        column,
+        corner,
+        row,
+        corner,
+    ]
 }

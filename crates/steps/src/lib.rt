@@ -3,7 +3,6 @@
 use spacing::Distances;
 ghost use mathlib.Core.Path.{_≡_};
 ghost use Prim.Native.Nat.{_+_, _-_, _*_, _/_, _%_, _≤_, _<_};
-ghost use Rattle.spacing.specs.Distances.{nineOf};
 ghost use Rattle.steps.specs.Step.{placeDistances, stepDistances, stepOffsets, gap, placeOf, stepOf, steppedTo, Near};
 
 // The distances by their place: cells whose numbers differ by 0, by 1, and by w - 1, w and w + 1.
@@ -11,16 +10,6 @@ pub fn place_distances(ds: Distances) -> [f32; 5]
     ensures { λ r. ⌜ r ≡ placeDistances ds ⌝ }
 {
     [1.0, ds.column, ds.diagonal, ds.row, ds.diagonal]
-}
-
-// The distances by the direction; the first is that of a cell to itself.
-pub fn direction_distances(ds: Distances) -> [f32; 9]
-    ensures { λ r. ⌜ r ≡ nineOf ds ⌝ }
-{
-    let c = ds.column;
-    let r = ds.row;
-    let d = ds.diagonal;
-    [1.0, d, r, d, c, c, d, r, d]
 }
 
 // By how much two numbers differ.

@@ -21,7 +21,8 @@ pub struct Shed {
     pub greatest: f32,
 }
 
-// The thresholds of the directions: t toward the sides, and t × the diagonal toward the corners. Entry 0 stands for no direction.
+// The thresholds of the directions: t toward the sides, and t × the diagonal toward the corners. Entry 0 stands for no
+// direction.
 pub fn thresholds(t: f32, ds: Distances) -> [f32; 9]
     ensures { λ r. ⌜ r ≡ thresholdsOf t ds ⌝ }
 {

@@ -10,7 +10,8 @@ use Rattle.grid.specs.Sides.{columnOf, rowOf}
 use Rattle.spacing.specs.Distances.{one}
 use Rattle.spacing.specs.declared.Distances.{Distances}
 
--- 1 for a cell itself, the row spacing for two cells in one column, the column spacing for two in one row, else the diagonal
+-- 1 for a cell itself, the row spacing for two cells in one column, the column spacing for two in one row, else the
+-- diagonal
 abbrev pub apart : Distances → ℕ → ℕ → ℕ → Float
 apart ds w i r =
     cond (eqb (columnOf w i) (columnOf w r)) (cond (eqb (rowOf w i) (rowOf w r)) one (ds .row))

@@ -8,30 +8,30 @@ ghost use Rattle.drainage.specs.Ways.{areasAlong};
 ghost use Rattle.ways.specs.Apart.{apart, addedDown, Along};
 ghost use Rattle.spacing.specs.Distances.{one};
 
-// The distance between two cells of one column: that of the rows, or 1 for the cell itself.
-fn along_column(same: bool, ds: Distances) -> f32
-    ensures { λ d. ⌜ d ≡ cond same one (ds .row) ⌝ }
+// The distance between two cells of one column: that of the rows, or 1 where they have the same row.
+fn along_column(same_row: bool, ds: Distances) -> f32
+    ensures { λ d. ⌜ d ≡ cond «same_row» one (ds .row) ⌝ }
 {
-    if same { 1.0 } else { ds.row }
+    if same_row { 1.0 } else { ds.row }
 }
 
-// And of two columns: that of the columns, or the diagonal.
-fn across_columns(same: bool, ds: Distances) -> f32
-    ensures { λ d. ⌜ d ≡ cond same (ds .column) (ds .diagonal) ⌝ }
+// The distance between two cells of two columns: that of the columns where they have the same row, else the diagonal.
+fn across_columns(same_row: bool, ds: Distances) -> f32
+    ensures { λ d. ⌜ d ≡ cond «same_row» (ds .column) (ds .diagonal) ⌝ }
 {
-    if same { ds.column } else { ds.diagonal }
+    if same_row { ds.column } else { ds.diagonal }
 }
 
-// Distance in reference cells between a cell and itself or one of its 8 neighbours.
+// Distance in cells between a cell and itself or one of its 8 neighbours.
 pub fn receiver_distance(i: usize, r: usize, width: usize, ds: Distances) -> f32
     requires { ⌜ 0 < width ⌝ }
     ensures { λ d. ⌜ d ≡ apart ds width i r ⌝ }
 {
-    let same = i / width == r / width;
+    let same_row = i / width == r / width;
     if i % width == r % width {
-        return along_column(same, ds);
+        return along_column(same_row, ds);
     }
-    across_columns(same, ds)
+    across_columns(same_row, ds)
 }
 
 // Adds the area of cell c, whose receiver is r, to that of r, if r is another cell.

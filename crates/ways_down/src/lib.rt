@@ -96,7 +96,7 @@ fn walk_down(
 // Walks back up to cell i, and incises each cell on the way and marks it; `settle_cell` is called at one place, so that it is inlined.
 fn walk_up(
     by: Incision,
-    ds: &[f32; 16],
+    by_step: &[f32; 16],
     offsets: &[usize; 16],
     rates: &[f32; 1024],
     hmap: &[f32],
@@ -107,7 +107,7 @@ fn walk_up(
     stop: Stop,
 )
     requires { ⌜ Ways (by .width) (now recv) (length (now hmap)) (length (now out)) ⌝ }
-    requires { ⌜ Tables by 1024 (now ds) (now offsets) (now rates) ⌝ }
+    requires { ⌜ Tables by 1024 (now «by_step») (now offsets) (now rates) ⌝ }
     requires { ⌜ Ascent (by .width) (now recv) (areasIn (now words)) i (settledHeight by (now hmap) (areasIn (now words)) (now recv)) (now words) (now out) (stop .cell) (stop .steps) ⌝ }
     ensures { λ _. ⌜ Upto (by .width) (now (recv .entry)) (areasIn (now (words .entry))) (i + 1) (settledHeight by (now (hmap .entry)) (areasIn (now (words .entry))) (now (recv .entry))) (now (words .exit)) (now (out .exit)) ⌝ }
 {
@@ -115,7 +115,7 @@ fn walk_up(
     let mut steps = stop.steps;
     loop {
         let above = out[j];
-        settle_cell(by, ds, offsets, rates, 1024, words, out, j, hmap[j]);
+        settle_cell(by, by_step, offsets, rates, 1024, words, out, j, hmap[j]);
         mark_made(words, j);
         if steps == 0 {
             return;
@@ -128,7 +128,7 @@ fn walk_up(
 // Incises cell i, if it is not made yet, with all of its way down that is not made.
 fn settle_way(
     by: Incision,
-    ds: &[f32; 16],
+    by_step: &[f32; 16],
     offsets: &[usize; 16],
     rates: &[f32; 1024],
     hmap: &[f32],
@@ -138,7 +138,7 @@ fn settle_way(
     i: usize,
 )
     requires { ⌜ Ways (by .width) (now recv) (length (now hmap)) (length (now out)) ⌝ }
-    requires { ⌜ Tables by 1024 (now ds) (now offsets) (now rates) ⌝ }
+    requires { ⌜ Tables by 1024 (now «by_step») (now offsets) (now rates) ⌝ }
     requires { ⌜ i < length (now recv) ⌝ }
     requires { ⌜ Upto (by .width) (now recv) (areasIn (now words)) i (settledHeight by (now hmap) (areasIn (now words)) (now recv)) (now words) (now out) ⌝ }
     ensures { λ _. ⌜ Upto (by .width) (now (recv .entry)) (areasIn (now (words .entry))) (i + 1) (settledHeight by (now (hmap .entry)) (areasIn (now (words .entry))) (now (recv .entry))) (now (words .exit)) (now (out .exit)) ⌝ }
@@ -147,7 +147,7 @@ fn settle_way(
         return;
     }
     let stop = walk_down(offsets, by.width, recv, words, out, i);
-    walk_up(by, ds, offsets, rates, hmap, recv, words, out, i, stop);
+    walk_up(by, by_step, offsets, rates, hmap, recv, words, out, i, stop);
 }
 
 // The heights of `hmap` in `out`, incised by the areas in the words, cell by cell with their ways down. The words keep their areas and lose their steps.
@@ -156,13 +156,13 @@ pub fn incise_ways(by: Incision, hmap: &[f32], recv: &[u32], words: &mut [f32], 
     requires { ⌜ Worded (by .width) (now recv) (now words) ⌝ }
     ensures { λ _. ⌜ SettledWays by (now (hmap .entry)) (now (recv .entry)) (now (words .entry)) (now (words .exit)) (now (out .exit)) ⌝ }
 {
-    let ds = step_distances(by.distances);
+    let by_step = step_distances(by.distances);
     let offsets = step_offsets(by.width);
     let rates = table(1024, by.cells, by.k);
     let n = recv.len();
     let mut i: usize = 0;
     while i < n {
-        settle_way(by, &ds, &offsets, &rates, hmap, recv, words, out, i);
+        settle_way(by, &by_step, &offsets, &rates, hmap, recv, words, out, i);
         i += 1;
     }
 }

@@ -37,7 +37,7 @@ shared-slice-read-mark : tie.Need-shared-slice-read-mark Inv-loop μ-loop
 shared-slice-read-mark c = omega (arith, inside (c .before))
 
 mark-requires : tie.Need-mark-requires Inv-loop μ-loop
-mark-requires c κs = (omega arith, omega arith)
+mark-requires c κs = tt
 
 slice-write-status : tie.Need-slice-write-status Inv-loop μ-loop
 slice-write-status c = omega (arith, inside (c .before .before))

@@ -13,10 +13,10 @@ use Rattle.fluvial_erosion.proofs.incise_listed.Statement.{statement}
 use Rattle.fluvial_erosion.proofs.incise_listed.Tie as tie
 
 abbrev Inv-loop : tie.InvT-loop
-Inv-loop by recv words order out₀ ds offsets m rates len i₀ out i = Incising (cutDown by (areasIn words) recv) recv order out₀ i out
+Inv-loop by recv words order out₀ by-step offsets m rates len i₀ out i = Incising (cutDown by (areasIn words) recv) recv order out₀ i out
 
 abbrev μ-loop : tie.MeasureT-loop
-μ-loop by recv words order out₀ ds offsets m rates len i₀ out i = length order - i
+μ-loop by recv words order out₀ by-step offsets m rates len i₀ out i = length order - i
 
 step-distances-requires : tie.Need-step-distances-requires Inv-loop μ-loop
 step-distances-requires c κs = search needs

@@ -1,4 +1,3 @@
-use mathlib.Core.Path.{sym, _∙_}
 use borrow.Author.Needs.{needs}
 use Rattle.grid.proofs.at_open.Statement.{statement}
 use Rattle.grid.proofs.at_open.Tie as tie

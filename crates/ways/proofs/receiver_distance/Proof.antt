@@ -3,11 +3,11 @@ use borrow.Author.Needs.{needs}
 use Rattle.ways.proofs.receiver_distance.Statement.{statement}
 use Rattle.ways.proofs.receiver_distance.Tie as tie
 
-div-same : tie.Need-div-same
-div-same c = search needs
+div-same-row : tie.Need-div-same-row
+div-same-row c = search needs
 
-div-same-2 : tie.Need-div-same-2
-div-same-2 c = search needs
+div-same-row-2 : tie.Need-div-same-row-2
+div-same-row-2 c = search needs
 
 rem-if1 : tie.Need-rem-if1
 rem-if1 c = search needs
@@ -31,8 +31,8 @@ pub receiver-distance-spec : {M : Type 1} → statement M
 receiver-distance-spec =
     tie.close
     (tie.spec
-    div-same
-    div-same-2
+    div-same-row
+    div-same-row-2
     rem-if1
     rem-if1-2
     along-column-requires

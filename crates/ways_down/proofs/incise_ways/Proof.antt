@@ -11,10 +11,10 @@ use Rattle.ways_down.proofs.incise_ways.Statement.{statement}
 use Rattle.ways_down.proofs.incise_ways.Tie as tie
 
 abbrev Inv-loop : tie.InvT-loop
-Inv-loop by hmap recv words₀ out₀ ds offsets rates n i₀ words out i = Upto (by .width) recv (areasIn words₀) i (settledHeight by hmap (areasIn words₀) recv) words out
+Inv-loop by hmap recv words₀ out₀ by-step offsets rates n i₀ words out i = Upto (by .width) recv (areasIn words₀) i (settledHeight by hmap (areasIn words₀) recv) words out
 
 abbrev μ-loop : tie.MeasureT-loop
-μ-loop by hmap recv words₀ out₀ ds offsets rates n i₀ words out i = length recv - i
+μ-loop by hmap recv words₀ out₀ by-step offsets rates n i₀ words out i = length recv - i
 
 step-distances-requires : tie.Need-step-distances-requires Inv-loop μ-loop
 step-distances-requires c κs = search needs

@@ -9,10 +9,10 @@ use Rattle.ways_down.proofs.walk_up.Statement.{statement}
 use Rattle.ways_down.proofs.walk_up.Tie as tie
 
 abbrev Inv-loop : tie.InvT-loop
-Inv-loop by ds offsets rates hmap recv words₀ out₀ i j₀ steps₀ words out j steps = Ascent (by .width) recv (areasIn words₀) i (settledHeight by hmap (areasIn words₀) recv) words out j steps
+Inv-loop by by-step offsets rates hmap recv words₀ out₀ i j₀ steps₀ words out j steps = Ascent (by .width) recv (areasIn words₀) i (settledHeight by hmap (areasIn words₀) recv) words out j steps
 
 abbrev μ-loop : tie.MeasureT-loop
-μ-loop by ds offsets rates hmap recv words₀ out₀ i j₀ steps₀ words out j steps = steps
+μ-loop by by-step offsets rates hmap recv words₀ out₀ i j₀ steps₀ words out j steps = steps
 
 loop-holds : tie.Need-loop-holds Inv-loop μ-loop
 loop-holds c = c .before .before .before .before .pre .1 .1
