@@ -1,5 +1,5 @@
 // The drainage network of a height grid, as definitions and theorems: the flood, receivers, ways down, drainage areas, work lists and least crests.
-// The crates from flood_start to flow compute what specs/ defines. `Land` stands here, since definitions and code share it.
+// The crates from flood_start to flow compute what specs/ defines. `Land` is here, since definitions and code share it.
 use grid::OpenSides;
 use grid::all_open;
 use spacing::Distances;
