@@ -2,7 +2,7 @@
 -- the north side.
 use Prim.Native.Nat.{ℕ, _-_, _<_}
 use mathlib.Core.Path.{_≡_, refl, sym, ap, _∙_}
-use mathlib.Core.Bool.{Bool, true, false, _||_}
+use mathlib.Core.Bool.{Bool, true, false, _||_, or-true, or-false}
 use mathlib.Core.List.{List}
 use native.Mathlib.Nat.{zero-div}
 use lib.Dec.{eqb}
@@ -27,20 +27,13 @@ border-ends w h x y = or-swap (eqb x 0) (eqb y 0) (eqb x (w - 1)) (eqb y (h - 1)
 pub all-open : AllOpen
 all-open w h water hs c = ap (λ (b : Bool). b || le (getD hs c nan) water) (sym (border-ends w h (columnOf w c) (rowOf w c)))
 
-or-false : (a : Bool) → (a || false) ≡ a
-or-false true = refl
-or-false false = refl
-
 pub each-side : EachSide
 each-side w h x y = record { north = or-false (eqb y 0); east = or-false (eqb x (w - 1)); south = refl; west = or-false (eqb x 0 || false) ∙ or-false (eqb x 0) }
 
 -- cell 0 lies on the north side
 pub base-first : (w h : ℕ) (o : OpenSides) (water : Float) (hs : List Float) → o .north ≡ true → baseOn w h o water hs 0 ≡ true
-base-first w h o water hs e = rw (e, zero-div w, eq-eqb 0 0 refl) (second (openEnd (o .west) (o .east) w (columnOf w 0)) (le (getD hs 0 nan) water))
-  where
-    second : (a b : Bool) → (a || true || b) ≡ true
-    second true b = refl
-    second false b = refl
+base-first w h o water hs e =
+    rw (e, zero-div w, eq-eqb 0 0 refl) (ap (λ (z : Bool). z || le (getD hs 0 nan) water) (or-true (openEnd (o .west) (o .east) w (columnOf w 0))))
 
 -- base level of a cell from its column and row, as `is_base` has it
 pub base-cell : (w h x y : ℕ) (o : OpenSides) (water : Float) (hs : List Float) → x < w → baseAt w h o water x y (getD hs (cellOf w x y) nan) ≡ baseOn w h o water hs (cellOf w x y)
