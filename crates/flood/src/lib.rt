@@ -3,7 +3,6 @@
 use drainage::Land;
 use flood_start::start;
 use grid::Sides;
-use inner_cells::offsets;
 use reaches::reach_all;
 use scan_queue::Scan;
 use scan_queue::begin;
@@ -15,7 +14,6 @@ ghost use mathlib.Core.Bool.{false, cond};
 ghost use lib.ListN.{length};
 ghost use lib.Dec.{ltb};
 ghost use Rattle.grid.specs.Sides.{InRange};
-ghost use Rattle.inner_cells.specs.Inner.{offsetsOf};
 ghost use Rattle.drainage.specs.Ground.{gridGround, noBase};
 ghost use Rattle.scan_queue.specs.Scans.{Queued};
 ghost use Rattle.flood_start.specs.Slices.{Sizes};
@@ -25,7 +23,6 @@ ghost use Rattle.flood.specs.Steps.{Leaver, Onward};
 // The cell that has left, if there is one, joins the order as entry i and reaches its neighbours. The answer is the number of cells in the heap.
 fn leave(
     g: Sides,
-    os: &[usize; 9],
     h: &[f32],
     i: usize,
     s: Scan,
@@ -36,7 +33,6 @@ fn leave(
     status: &mut [u8],
 ) -> usize
     requires { ⌜ InRange (g .w) (g .h) ⌝ }
-    requires { ⌜ now os ≡ offsetsOf (g .w) ⌝ }
     requires { ⌜ Sizes (g .w * g .h) (now h) (now status) (now spill) (now recv) (now queue) ⌝ }
     requires { ⌜ Queued (now h) (s .limit) (now status) (now spill) (s .len) (now queue) ⌝ }
     requires { ⌜ (s .cell < length (now h) → Leaver (now h) (s .limit) (s .cell) i (now status) (now spill) (now order)) ⌝ }
@@ -47,7 +43,7 @@ fn leave(
         return s.len;
     }
     order[i] = c as u32;
-    reach_all(g, os, h, s.limit, c, s.len, status, spill, recv, queue)
+    reach_all(g, h, s.limit, c, s.len, status, spill, recv, queue)
 }
 
 // 1 if a cell has left, else 0.
@@ -79,14 +75,13 @@ pub fn flood(
     ensures { λ _. ⌜ Flooded (g .w) (g .h) land (now (h .entry)) (now (order .exit)) (now (recv .exit)) (now (spill .exit)) ⌝ }
 {
     let n = h.len();
-    let os = offsets(g.w);
     let sorted = sort_cells(h, order, recv);
     start(g, h, land, status, spill, recv);
     let mut s = begin(sorted, h, order, status, spill, queue);
     let mut i: usize = 0;
     while i < n {
         let t = turn(h, order, s, spill, queue, status);
-        let len = leave(g, &os, h, i, t, order, recv, spill, queue, status);
+        let len = leave(g, h, i, t, order, recv, spill, queue, status);
         i += leavers(t, n);
         s = Scan {
             head: t.head,

@@ -7,12 +7,15 @@ use mathlib.Core.Logic.{_≢_, _⊎_, inl, inr}
 use mathlib.Core.Bool.{Bool, true, false, cond, _&&_}
 use lib.IntN.{ℤ, pos, negsuc, negℤ, natAbs}
 use lib.ListN.{getD}
+use mir.Syntax.{w32}
+use mir.Val.{ofZ, toZ}
 use lib.Dec.{ltb, lit≤}
 use borrow.Author.Tests.{lt-ltb, le-ltb, ltb-true}
 use Rattle.lists.proofs.TestLaws.{clash, not-second}
 use Rattle.grid.specs.Sides.{cellOf, columnOf, rowOf}
-use Rattle.grid.specs.Directions.{dirX, dirY, shiftedOf, neighbourOf, neighbourAt}
+use Rattle.grid.specs.Directions.{dirX, dirY, Step, shiftedOf, steppedOf, neighbourOf, neighbourAt}
 use Rattle.grid.specs.Joined.{Mutual, Apart}
+use Rattle.grid.proofs.ShiftedLaws.{entry-small, read-small}
 use Rattle.grid.proofs.SidesLaws.{column-cell, row-cell, column-lt, row-lt, cell-back}
 
 abbrev pub stepX : ℕ → ℤ
@@ -34,11 +37,9 @@ each-direction P nw n ne w e sw s se (suc (suc (suc (suc (suc (suc (suc zero))))
 each-direction P nw n ne w e sw s se (suc (suc (suc (suc (suc (suc (suc (suc zero)))))))) lo hi = se
 each-direction P nw n ne w e sw s se (suc (suc (suc (suc (suc (suc (suc (suc (suc d))))))))) lo hi = absurd (omega arith)
 
--- a step in a direction is at most one column and one row
-pub small-steps : (d : ℕ) → 1 ≤ d → d ≤ 8 → (natAbs (stepX d) ≤ 1) × (natAbs (stepY d) ≤ 1)
-small-steps =
-    each-direction (λ d. (natAbs (stepX d) ≤ 1) × (natAbs (stepY d) ≤ 1)) (lit≤ tt, lit≤ tt) (lit≤ tt, lit≤ tt) (lit≤ tt, lit≤ tt) (lit≤ tt, lit≤ tt)
-    (lit≤ tt, lit≤ tt) (lit≤ tt, lit≤ tt) (lit≤ tt, lit≤ tt) (lit≤ tt, lit≤ tt)
+-- the step of a direction is at most one column and one row
+pub step-of : (d : ℕ) → Step (stepX d) (stepY d)
+step-of d = record { columns = entry-small dirX tt d; rows = entry-small dirY tt d }
 
 abbrev pub isZero : ℤ → Bool
 isZero (pos zero) = true
@@ -108,20 +109,40 @@ shift-still x (pos zero) side h e = refl
 shift-still x (pos (suc k)) side h e = absurd (omega (arith, from-ahead x (suc k) side x e h))
 shift-still x (negsuc k) side h e = absurd (omega (arith, from-behind x k side x e h))
 
--- the neighbour by the moved column and row
-module _ (w h x y d nx : ℕ) (ex : shiftedOf x (stepX d) w ≡ nx) where
-  pub past-column : w ≤ nx → neighbourOf w h x y d ≡ w * h
-  unfolding neighbourOf
+-- the cell of a step by the moved column and row
+module _ (w h x y : ℕ) (dx dy : ℤ) (nx : ℕ) (ex : shiftedOf x dx w ≡ nx) where
+  pub past-column : w ≤ nx → steppedOf w h x y dx dy ≡ w * h
+  unfolding steppedOf
   past-column l = rw (ex, le-ltb nx w l)
 
-  module _ (ny : ℕ) (ey : shiftedOf y (stepY d) h ≡ ny) (l : nx < w) where
-    pub past-row : h ≤ ny → neighbourOf w h x y d ≡ w * h
-    unfolding neighbourOf
+  module _ (ny : ℕ) (ey : shiftedOf y dy h ≡ ny) (l : nx < w) where
+    pub past-row : h ≤ ny → steppedOf w h x y dx dy ≡ w * h
+    unfolding steppedOf
     past-row m = rw (ex, ey, lt-ltb nx w l, le-ltb ny h m)
 
-    pub within : ny < h → neighbourOf w h x y d ≡ cellOf w nx ny
-    unfolding neighbourOf
+    pub within : ny < h → steppedOf w h x y dx dy ≡ cellOf w nx ny
+    unfolding steppedOf
     within m = rw (ex, ey, lt-ltb nx w l, lt-ltb ny h m)
+
+-- the neighbour in a direction is the cell of its step
+pub by-step : (w h x y d : ℕ) → neighbourOf w h x y d ≡ steppedOf w h x y (stepX d) (stepY d)
+unfolding neighbourOf
+by-step w h x y d = refl
+
+-- a step as the machine reads it
+module _ (dx dy : ℤ) (s : Step dx dy) where
+  pub read-step : Step (toZ w32 (ofZ w32 dx)) (toZ w32 (ofZ w32 dy))
+  read-step = rw (read-small dx (s .columns), read-small dy (s .rows)) s
+
+  pub read-stepped : (w h x y : ℕ) {r : ℕ} → r ≡ steppedOf w h x y (toZ w32 (ofZ w32 dx)) (toZ w32 (ofZ w32 dy)) → r ≡ steppedOf w h x y dx dy
+  read-stepped w h x y e = e ∙ ap₂ (steppedOf w h x y) (read-small dx (s .columns)) (read-small dy (s .rows))
+
+-- the two entries of a direction, as the machine reads them, are a step, and it leads to the neighbour
+pub entry-step : (d : ℕ) → Step (toZ w32 (ofZ w32 (stepX d))) (toZ w32 (ofZ w32 (stepY d)))
+entry-step d = read-step (stepX d) (stepY d) (step-of d)
+
+pub entry-neighbour : (w h x y d : ℕ) {r : ℕ} → r ≡ steppedOf w h x y (toZ w32 (ofZ w32 (stepX d))) (toZ w32 (ofZ w32 (stepY d))) → r ≡ neighbourOf w h x y d
+entry-neighbour w h x y d e = read-stepped (stepX d) (stepY d) (step-of d) w h x y e ∙ sym (by-step w h x y d)
 
 -- column nx, row ny is the neighbour in direction d
 pub record Beside (w h x y d nx ny : ℕ) : Type 0 where
@@ -131,7 +152,7 @@ pub record Beside (w h x y d nx ny : ℕ) : Type 0 where
   pub rows : ny < h
 
 pub beside : {w h x y d nx ny : ℕ} → Beside w h x y d nx ny → neighbourOf w h x y d ≡ cellOf w nx ny
-beside {w} {h} {x} {y} {d} {nx} {ny} b = within w h x y d nx (b .column) ny (b .row) (b .columns) (b .rows)
+beside {w} {h} {x} {y} {d} {nx} {ny} b = by-step w h x y d ∙ within w h x y (stepX d) (stepY d) nx (b .column) ny (b .row) (b .columns) (b .rows)
 
 -- a neighbour lies outside the grid, or beside
 pub outside-or-beside : (w h x y d : ℕ) → (neighbourOf w h x y d ≡ w * h) ⊎ Beside w h x y d (shiftedOf x (stepX d) w) (shiftedOf y (stepY d) h)
@@ -145,8 +166,8 @@ outside-or-beside w h x y d = go (decLt nx w) (decLt ny h)
 
     go : Dec (nx < w) → Dec (ny < h) → (neighbourOf w h x y d ≡ w * h) ⊎ Beside w h x y d nx ny
     go (yes p) (yes q) = inr (record { column = refl; row = refl; columns = p; rows = q })
-    go (yes p) (no q) = inl (past-row w h x y d nx refl ny refl p (omega arith))
-    go (no p) q = inl (past-column w h x y d nx refl (omega arith))
+    go (yes p) (no q) = inl (by-step w h x y d ∙ past-row w h x y (stepX d) (stepY d) nx refl ny refl p (omega arith))
+    go (no p) q = inl (by-step w h x y d ∙ past-column w h x y (stepX d) (stepY d) nx refl (omega arith))
 
 -- the neighbour of a cell from its column and row, as `neighbour` has it
 pub neighbour-cell : (w h x y d : ℕ) → x < w → neighbourOf w h x y d ≡ neighbourAt w h (cellOf w x y) d

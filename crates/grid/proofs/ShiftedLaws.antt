@@ -1,5 +1,5 @@
--- `shifted` in signed arithmetic: what the machine reads back of x + d is x + d, and its sign and size decide as `shiftedOf` does; the entries
--- of the direction tables, as the machine reads them, are steps that it takes.
+-- `shifted` in signed arithmetic: what the machine reads back of x + d is x + d, and its sign and size decide as
+-- `shiftedOf` does; and so of a step that the machine reads.
 use Prim.Native.Nat.{ℕ, zero, suc, _-_, _^_, _≤_, _<_}
 use native.Mathlib.Omega.{arith}
 use mathlib.Core.Path.{_≡_, refl, sym, ap, _∙_}
@@ -95,26 +95,23 @@ module _ {x : ℕ} {d : ℤ} {side : ℕ} (p : Steps x d side) where
       go (pos n) t i = rw (le-ltb n side i)
       go (negsuc n) t i = absurd (true≢false t)
 
+-- a step of at most one as the machine reads it
+module _ (z : ℤ) (s : natAbs z ≤ 1) where
+  pub read-small : toZ w32 (ofZ w32 z) ≡ z
+  read-small = toZ-ofZ w32 z (small z s)
+
+  pub read-steps : (x side : ℕ) → x < side → side ≤ 4096 → Steps x (toZ w32 (ofZ w32 z)) side
+  read-steps x side h k = record { inside = h; bound = k; small = rw read-small s }
+
+  pub read-shifts : (x side : ℕ) {r : ℕ} → r ≡ shiftedOf x (toZ w32 (ofZ w32 z)) side → shiftedOf x z side ≡ r
+  read-shifts x side e = sym (e ∙ ap (λ (k : ℤ). shiftedOf x k side) read-small)
+
 -- every entry of a table is -1, 0 or 1
 abbrev allSmall : List ℤ → Bool
 allSmall [] = true
 allSmall (z ∷ l) = leb (natAbs z) 1 && allSmall l
 
-entry-small : (l : List ℤ) → T (allSmall l) → (d : ℕ) → natAbs (getD l d (pos 0)) ≤ 1
+pub entry-small : (l : List ℤ) → T (allSmall l) → (d : ℕ) → natAbs (getD l d (pos 0)) ≤ 1
 entry-small [] t d = lit≤ tt
 entry-small (z ∷ l) t zero = leb→le (natAbs z) 1 (and-l (leb (natAbs z) 1) (allSmall l) t)
 entry-small (z ∷ l) t (suc d) = entry-small l (and-r (leb (natAbs z) 1) (allSmall l) t) d
-
--- an entry as the machine reads it
-abbrev pub entryOf : List ℤ → ℕ → ℤ
-entryOf l d = toZ w32 (ofZ w32 (getD l d (pos 0)))
-
-module _ (l : List ℤ) (t : T (allSmall l)) (d x side : ℕ) where
-  entry-is : entryOf l d ≡ getD l d (pos 0)
-  entry-is = toZ-ofZ w32 _ (small _ (entry-small l t d))
-
-  pub entry-steps : x < side → side ≤ 4096 → Steps x (entryOf l d) side
-  entry-steps h k = record { inside = h; bound = k; small = rw entry-is (entry-small l t d) }
-
-  pub entry-shifts : {r : ℕ} → r ≡ shiftedOf x (entryOf l d) side → shiftedOf x (getD l d (pos 0)) side ≡ r
-  entry-shifts e = sym (e ∙ ap (λ (z : ℤ). shiftedOf x z side) entry-is)

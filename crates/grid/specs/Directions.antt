@@ -32,12 +32,25 @@ pub record Place (w h x y : ℕ) : Type 0 where
   pub wide : w ≤ 4096
   pub high : h ≤ 4096
 
--- the neighbour of column x, row y in direction d; outside the grid it is w × h, the number of no cell
-unfoldable pub neighbourOf : ℕ → ℕ → ℕ → ℕ → ℕ → ℕ
-neighbourOf w h x y d =
-    let nx = shiftedOf x (getD dirX d (pos 0)) w in
-    let ny = shiftedOf y (getD dirY d (pos 0)) h in
+-- a step of at most one column and at most one row
+pub record Step (dx dy : ℤ) : Type 0 where
+  pub columns : natAbs dx ≤ 1
+  pub rows : natAbs dy ≤ 1
+
+-- the cell dx columns and dy rows from column x, row y; outside the grid it is w × h, the number of no cell
+unfoldable pub steppedOf : ℕ → ℕ → ℕ → ℕ → ℤ → ℤ → ℕ
+steppedOf w h x y dx dy =
+    let nx = shiftedOf x dx w in
+    let ny = shiftedOf y dy h in
     cond (ltb nx w && ltb ny h) (nx + ny * w) (w * h)
+
+-- the neighbour of column x, row y in direction d
+unfoldable pub neighbourOf : ℕ → ℕ → ℕ → ℕ → ℕ → ℕ
+unfolding steppedOf
+neighbourOf w h x y d = steppedOf w h x y (getD dirX d (pos 0)) (getD dirY d (pos 0))
+
+abbrev pub steppedAt : ℕ → ℕ → ℕ → ℤ → ℤ → ℕ
+steppedAt w h c dx dy = steppedOf w h (columnOf w c) (rowOf w c) dx dy
 
 abbrev pub neighbourAt : ℕ → ℕ → ℕ → ℕ → ℕ
 neighbourAt w h c d = neighbourOf w h (columnOf w c) (rowOf w c) d

@@ -6,7 +6,7 @@ ghost use Prim.Native.Nat.{_-_, _*_, _<_, max, min};
 ghost use lib.Dec.{eqb};
 ghost use lib.ListN.{length};
 ghost use Rattle.grid.specs.Sides.{badSide, badSides};
-ghost use Rattle.grid.specs.Directions.{Steps, Place, shiftedOf, neighbourOf};
+ghost use Rattle.grid.specs.Directions.{Steps, Place, Step, shiftedOf, steppedOf};
 ghost use Rattle.grid.specs.Base.{openEnd, baseAt, allOpen};
 ghost use Rattle.grid.specs.Heights.{firstNotFinite, allFinite};
 
@@ -79,19 +79,19 @@ pub fn shifted(x: usize, d: i32, side: usize) -> usize
     side
 }
 
-// The neighbour of column x, row y in direction d, or w × h where that lies outside the grid.
-pub fn neighbour(g: Sides, x: usize, y: usize, d: usize) -> usize
+// The neighbour dx columns and dy rows from column x, row y, or w × h where that lies outside the grid.
+pub fn neighbour(g: Sides, x: usize, y: usize, dx: i32, dy: i32) -> usize
     requires { ⌜ Place (g .w) (g .h) x y ⌝ }
-    requires { ⌜ d < 9 ⌝ }
-    ensures { λ r. ⌜ r ≡ neighbourOf (g .w) (g .h) x y d ⌝ }
+    requires { ⌜ Step dx dy ⌝ }
+    ensures { λ r. ⌜ r ≡ steppedOf (g .w) (g .h) x y dx dy ⌝ }
 {
     let w = g.w;
     let h = g.h;
-    let nx = shifted(x, DIRX[d], w);
+    let nx = shifted(x, dx, w);
     if w <= nx {
         return w * h;
     }
-    let ny = shifted(y, DIRY[d], h);
+    let ny = shifted(y, dy, h);
     if h <= ny {
         return w * h;
     }

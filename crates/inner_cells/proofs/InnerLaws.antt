@@ -1,92 +1,63 @@
--- Inner cells: their neighbours are all in the grid, at the same eight offsets.
+-- Inner cells: their neighbours are all in the grid.
 use Prim.Native.Nat.{ℕ, zero, suc, _+_, _-_, _*_, _^_, _≤_, _<_}
 use mathlib.Core.Path.{_≡_, refl, sym, ap, ap₂, _∙_, subst}
 use mathlib.Core.Bool.{Bool, true, false, cond, _||_, not, true≢false}
-use mathlib.Core.List.{List}
-use native.Mathlib.Nat.{mul-le-mul}
+use native.Mathlib.Nat.{mul-le-mul, le-refl}
 use native.Mathlib.Omega.{arith}
 use lib.Dec.{eqb, ltb}
 use lib.IntN.{ℤ, pos, negsuc, natAbs}
-use lib.ListN.{getD}
 use borrow.Author.Tests.{ltb-true, ltb-false, eqb-false}
-use Rattle.lists.proofs.TableLaws.{getD-tabulate}
 use Rattle.grid.specs.Sides.{cellOf, columnOf, rowOf}
 use Rattle.grid.specs.Base.{borderAt}
-use Rattle.grid.specs.Directions.{shiftedOf, neighbourOf, neighbourAt}
+use Rattle.grid.specs.Directions.{Step, shiftedOf, steppedAt, neighbourAt}
 use Rattle.grid.proofs.SidesLaws.{cell-lt, cell-back, column-cell, row-cell, column-lt, row-lt, cells-bound}
 use Rattle.grid.proofs.BaseLaws.{border-ends}
-use Rattle.grid.proofs.NeighbourLaws.{stepX, stepY, within, shift-ahead, shift-behind, small-steps}
-use Rattle.inner_cells.specs.Inner.{Inner, InnerRun, innerOf, offsetOf, offsetsOf}
+use Rattle.grid.proofs.NeighbourLaws.{stepX, stepY, by-step, within, shift-ahead, shift-behind, step-of}
+use Rattle.inner_cells.specs.Inner.{Inner, InnerRun, innerOf}
 
--- a step of at most one from an inner place stays inside, and goes as far as from place 1
-near : (z : ℤ) (x side : ℕ) → natAbs z ≤ 1 → 1 ≤ x → x + 1 < side → (shiftedOf x z side + 1 ≡ shiftedOf 1 z 3 + x) × (shiftedOf x z side < side)
+-- one more than a step of at most one: 0, 1 or 2
+abbrev pub ahead : ℤ → ℕ
+ahead z = shiftedOf 1 z 3
+
+-- a step of at most one from an inner place stays inside
+near : (z : ℤ) (x side : ℕ) → natAbs z ≤ 1 → 1 ≤ x → x + 1 < side → (shiftedOf x z side + 1 ≡ ahead z + x) × (shiftedOf x z side < side)
 near (pos zero) x side s lo hi = let e = shift-ahead x 0 side (omega arith) in omega (arith, e)
 near (pos (suc zero)) x side s lo hi = let e = shift-ahead x 1 side (omega arith) in omega (arith, e)
 near (pos (suc (suc k))) x side s lo hi = absurd (omega arith)
 near (negsuc zero) x side s lo hi = let e = shift-behind x 0 side lo in omega (arith, e)
 near (negsuc (suc k)) x side s lo hi = absurd (omega arith)
 
--- an offset is small
-shift-most : (z : ℤ) → shiftedOf 1 z 3 ≤ 3
-shift-most (pos k) = go (ltb (1 + k) 3) refl
-  where
-    go : (b : Bool) → ltb (1 + k) 3 ≡ b → cond b (1 + k) 3 ≤ 3
-    go true e = omega (arith, ltb-true (1 + k) 3 e)
-    go false e = omega arith
-shift-most (negsuc k) = go (ltb k 1)
-  where
-    go : (b : Bool) → cond b (1 - suc k) 3 ≤ 3
-    go true = omega arith
-    go false = omega arith
+step-sum : (w x y nx ny ox oy : ℕ) → nx + 1 ≡ ox + x → ny + 1 ≡ oy + y → (nx + ny * w) + (w + 1) ≡ (x + y * w) + (ox + oy * w)
+step-sum w x y nx ny ox oy a b = omega (arith, ap (λ (z : ℕ). z * w) b)
 
-pub offset-fits : (w d a b : ℕ) → w ≤ 4096 → shiftedOf 1 (stepX d) 3 ≡ a → shiftedOf 1 (stepY d) 3 ≡ b → a + b * w ≤ 2 ^ 14
-offset-fits w d a b l e f =
-    let n : b ≤ 3 = omega (arith, shift-most (stepY d)) in
-    omega (arith, shift-most (stepX d), mul-le-mul n l)
+-- a step from an inner cell leads to a cell, so many columns and rows behind the one in the north-west
+module _ (w h c : ℕ) (dx dy : ℤ) (s : Step dx dy) (a : Inner w h c) where
+  step-at : (steppedAt w h c dx dy < w * h) × (steppedAt w h c dx dy + (w + 1) ≡ cellOf w (columnOf w c) (rowOf w c) + (ahead dx + ahead dy * w))
+  step-at =
+      let p = near dx (columnOf w c) w (s .columns) (a .west) (a .east) in
+      let q = near dy (rowOf w c) h (s .rows) (a .north) (a .south) in
+      rw (within w h (columnOf w c) (rowOf w c) dx dy _ refl _ refl (p .1) (q .1)) (cell-lt w _ _ (p .1) h (q .1), step-sum w (columnOf w c) (rowOf w c) _ _ _ _ (p .0) (q .0))
 
--- an offset by the two steps of its direction
-pub offset-by : (w d a b : ℕ) → shiftedOf 1 (stepX d) 3 ≡ a → shiftedOf 1 (stepY d) 3 ≡ b → a + b * w ≡ offsetOf w d
-offset-by w d a b e f = ap₂ (λ (x y : ℕ). x + y * w) (sym e) (sym f)
+  pub step-cell : steppedAt w h c dx dy < w * h
+  step-cell = step-at .0
 
--- the offsets, as the code reads them
-pub offset-read : (w : ℕ) (os : List ℕ) → os ≡ offsetsOf w → (d : ℕ) → d < 9 → getD os d 0 ≡ offsetOf w d
-unfolding offsetsOf
-offset-read w os e d l = ap (λ (t : List ℕ). getD t d 0) e ∙ getD-tabulate (offsetOf w) 9 d 0 l
+  pub step-from : steppedAt w h c dx dy + (w + 1) ≡ c + (ahead dx + ahead dy * w)
+  step-from = step-at .1 ∙ ap (λ (k : ℕ). k + (ahead dx + ahead dy * w)) (cell-back w c)
 
-offset-sum : (w x y nx ny ox oy : ℕ) → nx + 1 ≡ ox + x → ny + 1 ≡ oy + y → (nx + ny * w) + (w + 1) ≡ (x + y * w) + (ox + oy * w)
-offset-sum w x y nx ny ox oy a b = omega (arith, ap (λ (z : ℕ). z * w) b)
+-- an inner cell lies behind the first row and the first cell of the second
+pub inner-behind : {w h c : ℕ} → Inner w h c → w + 1 ≤ c
+inner-behind {w} {h} {c} a = omega (arith, a .west, a .north, cell-back w c, mul-le-mul (a .north) (le-refl w))
 
--- by column and row: the neighbour is a cell, and lies as far from cell (x, y) as the offset from cell (1, 1)
-beside-at : (w h x y d : ℕ) → 1 ≤ d → d ≤ 8 → 1 ≤ x → x + 1 < w → 1 ≤ y → y + 1 < h
-    → (neighbourOf w h x y d < w * h) × (neighbourOf w h x y d + (w + 1) ≡ cellOf w x y + offsetOf w d)
-beside-at w h x y d lo hi west east north south =
-    let s = small-steps d lo hi in
-    let a = near (stepX d) x w (s .0) west east in
-    let b = near (stepY d) y h (s .1) north south in
-    rw (within w h x y d _ refl _ refl (a .1) (b .1)) (cell-lt w _ _ (a .1) h (b .1), offset-sum w x y _ _ _ _ (a .0) (b .0))
-
+-- the neighbours of an inner cell
 module _ (w h c d : ℕ) (lo : 1 ≤ d) (hi : d ≤ 8) (a : Inner w h c) where
   pub inner-cell : neighbourAt w h c d < w * h
-  inner-cell = beside-at w h (columnOf w c) (rowOf w c) d lo hi (a .west) (a .east) (a .north) (a .south) .0
+  inner-cell = rw (by-step w h (columnOf w c) (rowOf w c) d) (step-cell w h c (stepX d) (stepY d) (step-of d) a)
+
+  pub inner-from : neighbourAt w h c d + (w + 1) ≡ c + (ahead (stepX d) + ahead (stepY d) * w)
+  inner-from = rw (by-step w h (columnOf w c) (rowOf w c) d) (step-from w h c (stepX d) (stepY d) (step-of d) a)
 
   pub inner-below : (n m : ℕ) → n ≡ w * h → m ≡ neighbourAt w h c d → m < n
   inner-below n m e f = omega (arith, inner-cell)
-
-  pub inner-offset : neighbourAt w h c d + (w + 1) ≡ c + offsetOf w d
-  inner-offset =
-      beside-at w h (columnOf w c) (rowOf w c) d lo hi (a .west) (a .east) (a .north) (a .south) .1
-      ∙ ap (λ (k : ℕ). k + offsetOf w d) (cell-back w c)
-
-  -- as the code works it out
-  module _ (os : List ℕ) (e : os ≡ offsetsOf w) where
-    pub inner-sum : c + getD os d 0 ≡ neighbourAt w h c d + (w + 1)
-    inner-sum = ap (λ (k : ℕ). c + k) (offset-read w os e d (omega arith)) ∙ sym inner-offset
-
-    pub inner-sum-most : c + getD os d 0 ≤ 2 ^ 25
-    inner-sum-most = omega (arith, inner-sum, inner-cell, cells-bound w h (a .wide) (a .high))
-
-    pub inner-beside : c + getD os d 0 - (w + 1) ≡ neighbourAt w h c d
-    inner-beside = omega (arith, inner-sum)
 
 -- a cell that is not on the border is an inner one
 module _ (w h c : ℕ) (a : Bool) (e : a ≡ (eqb (columnOf w c) 0 || eqb (columnOf w c) (w - 1))) where

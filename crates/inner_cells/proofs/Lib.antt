@@ -1,2 +1,3 @@
 -- Laws of inner cells.
 pub mod InnerLaws
+pub mod SignedLaws

@@ -1,13 +1,8 @@
 -- The inner cells of a map, whose neighbours need no test.
-use Prim.Native.Nat.{ℕ, _+_, _-_, _*_, _≤_, _<_}
+use Prim.Native.Nat.{ℕ, _+_, _-_, _≤_, _<_}
 use mathlib.Core.Bool.{_||_, cond}
-use mathlib.Core.List.{List}
 use lib.Dec.{eqb, ltb}
-use lib.IntN.{pos}
-use lib.ListN.{getD}
-use Rattle.lists.specs.Loops.{tabulate}
 use Rattle.grid.specs.Sides.{columnOf, rowOf}
-use Rattle.grid.specs.Directions.{dirX, dirY, shiftedOf}
 
 -- cell c of a w × h map lies on none of its sides
 pub record Inner (w h c : ℕ) : Type 0 where
@@ -25,11 +20,3 @@ pub record InnerRun (w h c n : ℕ) : Type 0 where
 -- the number of inner cells of row y: all but the first and the last, if the row is an inner one
 unfoldable pub innerOf : ℕ → ℕ → ℕ → ℕ
 innerOf w h y = cond (ltb w 3) 0 (cond (eqb y 0 || eqb y (h - 1)) 0 (w - 2))
-
--- the neighbour of an inner cell c in direction d is c + offset - (w + 1): the offset is the cell in direction d of column 1, row 1
-abbrev pub offsetOf : ℕ → ℕ → ℕ
-offsetOf w d = shiftedOf 1 (getD dirX d (pos 0)) 3 + shiftedOf 1 (getD dirY d (pos 0)) 3 * w
-
-unfoldable pub offsetsOf : ℕ → List ℕ
-unfolding tabulate
-offsetsOf w = tabulate 9 (offsetOf w)

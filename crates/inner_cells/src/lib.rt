@@ -1,40 +1,20 @@
-// The inner cells of a map, those on none of its sides. Their neighbours lie at eight offsets, prepared from the direction tables once, and need no
-// test.
-use grid::DIRX;
-use grid::DIRY;
+// The inner cells of a map, those on none of its sides. A step of a column and a row from one of them needs no test.
 use grid::Sides;
 use grid::at_end;
-use grid::shifted;
 ghost use mathlib.Core.Path.{_≡_};
 ghost use mathlib.Core.Bool.{not};
-ghost use Prim.Native.Nat.{_≤_, _<_};
+ghost use Prim.Native.Nat.{_<_};
 ghost use Rattle.grid.specs.Base.{borderAt};
-ghost use Rattle.grid.specs.Directions.{neighbourAt};
-ghost use Rattle.inner_cells.specs.Inner.{Inner, innerOf, offsetsOf};
+ghost use Rattle.grid.specs.Directions.{Step, steppedAt};
+ghost use Rattle.inner_cells.specs.Inner.{Inner, innerOf};
 
-// The index offsets of the directions on a grid of w columns.
-pub fn offsets(w: usize) -> [usize; 9]
-    requires { ⌜ w ≤ 4096 ⌝ }
-    ensures { λ r. ⌜ r ≡ offsetsOf w ⌝ }
-{
-    let mut os = [0; 9];
-    let mut d: usize = 0;
-    while d < 9 {
-        os[d] = shifted(1, DIRX[d], 3) + shifted(1, DIRY[d], 3) * w;
-        d += 1;
-    }
-    os
-}
-
-// The neighbour of an inner cell.
-pub fn beside(size: Sides, os: &[usize; 9], c: usize, d: usize) -> usize
+// The neighbour dx columns and dy rows from an inner cell.
+pub fn beside(size: Sides, c: usize, dx: i32, dy: i32) -> usize
     requires { ⌜ Inner (size .w) (size .h) c ⌝ }
-    requires { ⌜ now os ≡ offsetsOf (size .w) ⌝ }
-    requires { ⌜ 1 ≤ d ⌝ }
-    requires { ⌜ d < 9 ⌝ }
-    ensures { λ r. ⌜ r ≡ neighbourAt (size .w) (size .h) c d ⌝ }
+    requires { ⌜ Step dx dy ⌝ }
+    ensures { λ r. ⌜ r ≡ steppedAt (size .w) (size .h) c dx dy ⌝ }
 {
-    c + os[d] - (size.w + 1)
+    (c as i64 + dx as i64 + dy as i64 * size.w as i64) as usize
 }
 
 // The number of inner cells of row y.

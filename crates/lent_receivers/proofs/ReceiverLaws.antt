@@ -14,7 +14,7 @@ use Rattle.lists.specs.Loops.{turns}
 use Rattle.grid.specs.Sides.{cellOf}
 use Rattle.grid.specs.Directions.{Place, shiftedOf, neighbourOf, neighbourAt, Adjacent}
 use Rattle.grid.proofs.SidesLaws.{cell-lt, cells-bound}
-use Rattle.grid.proofs.NeighbourLaws.{stepX, stepY, Beside, beside, outside-or-beside, neighbour-cell, small-steps, close-step, shift-ahead, shift-behind}
+use Rattle.grid.proofs.NeighbourLaws.{stepX, stepY, Beside, beside, outside-or-beside, neighbour-cell, step-of, close-step, shift-ahead, shift-behind}
 use Rattle.grid.proofs.ReachLaws.{beside-adjacent}
 use Rattle.lent_receivers.specs.Receivers.{goodReceiver}
 
@@ -174,18 +174,18 @@ module _ (w h x y : ℕ) (cx : x < w) (cy : y < h) where
           let m : ny * w ≡ y * w + w = ap (λ (z : ℕ). z * w) s ∙ suc-mul y w in
           below (omega (arith, m, a .least)) (omega (arith, m, a .most, a .inside))
 
-      near : (d : ℕ) → 1 ≤ d → d ≤ 8 → r < w * h → r ≡ neighbourOf w h x y d → {nx ny : ℕ} → (neighbourOf w h x y d ≡ w * h) ⊎ Beside w h x y d nx ny → Band r
-      near d lo hi l q (inl o) = absurd (omega arith)
-      near d lo hi l q {nx} {ny} (inr b) =
-          let s = small-steps d lo hi in
-          rows nx ny (q ∙ beside b) (step-from x (stepX d) w nx (s .0) (b .column) (b .columns)) (step-from y (stepY d) h ny (s .1) (b .row) (b .rows))
+      near : (d : ℕ) → r < w * h → r ≡ neighbourOf w h x y d → {nx ny : ℕ} → (neighbourOf w h x y d ≡ w * h) ⊎ Beside w h x y d nx ny → Band r
+      near d l q (inl o) = absurd (omega arith)
+      near d l q {nx} {ny} (inr b) =
+          let s = step-of d in
+          rows nx ny (q ∙ beside b) (step-from x (stepX d) w nx (s .columns) (b .column) (b .columns)) (step-from y (stepY d) h ny (s .rows) (b .row) (b .rows))
           (ℕ-discrete (ny + 1) y) (ℕ-discrete ny y)
 
       go : (r ≡ cellOf w x y) ⊎ Adjacent w h (cellOf w x y) r → Band r
       go (inl q) = level (omega arith) (omega arith)
       go (inr a) =
           let d : ℕ = a .direction in
-          near d (a .first) (a .last) (a .inside) (sym (neighbour-cell w h x y d cx ∙ a .leads)) (outside-or-beside w h x y d)
+          near d (a .inside) (sym (neighbour-cell w h x y d cx ∙ a .leads)) (outside-or-beside w h x y d)
 
   -- by the first and the last cell of the band in the cell's own row, as the code finds them
   module _ (r from to : ℕ) (ef : from ≡ x + y * w - min x 1) (et : to ≡ x + y * w + min (w - 1 - x) 1) where

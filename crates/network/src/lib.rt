@@ -1,4 +1,6 @@
 // The receiver of one cell, after flow.rs: its finder, or the neighbour of a strictly lower spill height down to which the slope is the greatest.
+use grid::DIRX;
+use grid::DIRY;
 use grid::Sides;
 use grid::neighbour;
 use spacing::Distances;
@@ -109,7 +111,7 @@ pub fn receiver(
     };
     let mut d: usize = 0;
     while d < 8 {
-        let m = neighbour(g, x, y, d + 1);
+        let m = neighbour(g, x, y, DIRX[d + 1], DIRY[d + 1]);
         best = compare_toward(g, ds, by_direction, spill, c, d + 1, m, best);
         d += 1;
     }

@@ -1,5 +1,7 @@
 // A cell that leaves the flood reaches its neighbours: those not pushed yet get their spill heights and their finder, and wait from then on.
 use floats::max;
+use grid::DIRX;
+use grid::DIRY;
 use grid::Sides;
 use grid::neighbour;
 use heap::place;
@@ -15,7 +17,7 @@ ghost use lib.Ieee.{nan};
 ghost use Rattle.lists.specs.Loops.{tabulate};
 ghost use Rattle.grid.specs.Sides.{InRange};
 ghost use Rattle.grid.specs.Directions.{neighbourAt};
-ghost use Rattle.inner_cells.specs.Inner.{Inner, offsetsOf};
+ghost use Rattle.inner_cells.specs.Inner.{Inner};
 ghost use Rattle.scan_queue.specs.Scans.{Queued, Level};
 ghost use Rattle.flood_start.specs.Slices.{Sizes};
 ghost use Rattle.reaches.specs.Reaches.{Reached, ReachedBy, ReachedAll, Found};
@@ -68,7 +70,7 @@ fn find_all(g: Sides, c: usize, found: &mut [usize; 8])
     let y = c / g.w;
     let mut d: usize = 0;
     while d < 8 {
-        found[d] = neighbour(g, x, y, d + 1);
+        found[d] = neighbour(g, x, y, DIRX[d + 1], DIRY[d + 1]);
         d += 1;
     }
 }
@@ -82,15 +84,8 @@ fn unpushed(status: u8) -> usize
 
 // Finds the neighbours of an inner cell that have not been pushed, in scan order; the answer is how many. Which they are cannot be foreseen, so all
 // eight are stored and the next one stored takes the place of a pushed one.
-fn find_unpushed(
-    g: Sides,
-    os: &[usize; 9],
-    c: usize,
-    status: &[u8],
-    found: &mut [usize; 8],
-) -> usize
+fn find_unpushed(g: Sides, c: usize, status: &[u8], found: &mut [usize; 8]) -> usize
     requires { ⌜ Inner (g .w) (g .h) c ⌝ }
-    requires { ⌜ now os ≡ offsetsOf (g .w) ⌝ }
     requires { ⌜ length (now status) ≡ g .w * g .h ⌝ }
     requires { ⌜ length (now found) ≡ 8 ⌝ }
     ensures { λ r. ⌜ Found (neighbourAt (g .w) (g .h) c) (now (status .entry)) 8 r (now (found .exit)) ⌝ }
@@ -98,7 +93,7 @@ fn find_unpushed(
     let mut some: usize = 0;
     let mut d: usize = 0;
     while d < 8 {
-        let m = beside(g, os, c, d + 1);
+        let m = beside(g, c, DIRX[d + 1], DIRY[d + 1]);
         found[some] = m;
         some += unpushed(status[m]);
         d += 1;
@@ -137,10 +132,9 @@ fn reach_found(
     waiting
 }
 
-// Cell c reaches its neighbours: of an inner cell, whose neighbours are all cells, those that have not been pushed. `os` has their offsets.
+// Cell c reaches its neighbours: of an inner cell, whose neighbours are all cells, those that have not been pushed.
 pub fn reach_all(
     g: Sides,
-    os: &[usize; 9],
     h: &[f32],
     limit: u64,
     c: usize,
@@ -151,7 +145,6 @@ pub fn reach_all(
     queue: &mut [u32],
 ) -> usize
     requires { ⌜ InRange (g .w) (g .h) ⌝ }
-    requires { ⌜ now os ≡ offsetsOf (g .w) ⌝ }
     requires { ⌜ Sizes (g .w * g .h) (now h) (now status) (now spill) (now recv) (now queue) ⌝ }
     requires { ⌜ Queued (now h) limit (now status) (now spill) len (now queue) ⌝ }
     requires { ⌜ c < g .w * g .h ⌝ }
@@ -161,7 +154,7 @@ pub fn reach_all(
 {
     let mut found: [usize; 8] = [0; 8];
     if is_inner(g, c) {
-        let some = find_unpushed(g, os, c, status, &mut found);
+        let some = find_unpushed(g, c, status, &mut found);
         return reach_found(h, limit, c, &found, some, len, status, spill, recv, queue);
     }
     find_all(g, c, &mut found);

@@ -1,7 +1,7 @@
 -- The fold over the eight neighbours of an inner cell by their offsets is the fold by the neighbours themselves.
 use Prim.Native.Nat.{ℕ, _+_, _-_, _*_, _^_, _≤_, _<_}
 use mathlib.Core.Path.{_≡_, refl, sym, ap, ap₂, _∙_, subst}
-use mathlib.Core.Logic.{_⊎_}
+use mathlib.Core.Logic.{_⊎_, inr}
 use mathlib.Core.Bool.{Bool, true, false, _&&_, cond}
 use mathlib.Core.List.{List}
 use native.Mathlib.Omega.{arith}
@@ -12,12 +12,11 @@ use lib.Ieee.{Float, nan, lt}
 use borrow.Author.Tests.{eq-eqb, ne-eqb}
 use native.Mathlib.Decide.{ℕ-discrete}
 use Rattle.lists.proofs.TurnLaws.{turns-hold}
-use Rattle.lists.proofs.TableLaws.{length-tabulate}
 use Rattle.grid.specs.Sides.{columnOf, rowOf}
 use Rattle.grid.specs.Directions.{neighbourAt, Adjacent}
 use Rattle.grid.proofs.SidesLaws.{cell-lt, cell-back, cells-bound}
-use Rattle.inner_cells.specs.Inner.{Inner, offsetOf, offsetsOf}
-use Rattle.inner_cells.proofs.InnerLaws.{inner-cell, inner-offset, offset-fits, offset-read}
+use Rattle.inner_cells.specs.Inner.{Inner}
+use Rattle.inner_cells.proofs.InnerLaws.{inner-cell, inner-below}
 use Rattle.spacing.specs.Distances.{nineOf, distanceIn}
 use Rattle.spacing.specs.declared.Distances.{Distances}
 use Rattle.ways.specs.Apart.{apart}
@@ -26,7 +25,7 @@ use Rattle.steps.proofs.PlaceLaws.{near-of, gap-bound, place-read}
 use Rattle.network.specs.declared.Best.{Best}
 use Rattle.network.specs.Passes.{slopeDown, comparedAs, Received}
 use Rattle.network.proofs.ReceiverLaws.{Leading, leading-none, leading-more, leading-done, received-own, compared-inside}
-use Rattle.receiver_blocks.specs.Runs.{finderAs, steepestFrom}
+use Rattle.receiver_blocks.specs.Runs.{offsetFrom, finderAs, steepestFrom}
 
 module _ {w h c : ℕ} (a : Inner w h c) where
   pub inner-inside : c < w * h
@@ -51,20 +50,17 @@ module _ {w h c : ℕ} (a : Inner w h c) where
     pub finder-ahead : f ≤ c + (w + 1)
     finder-ahead = omega (arith, gap-bound finder-near inner-wide)
 
+  -- so does a neighbour
+  pub inner-adjacent : (d : ℕ) → d < 8 → (m : ℕ) → m ≡ neighbourAt w h c (d + 1) → Adjacent w h c m
+  inner-adjacent d l m e =
+      record { direction = d + 1; first = omega arith; last = omega arith; inside = inner-below w h c (d + 1) (omega arith) (omega arith) a _ _ refl e; leads = sym e }
+
 -- the slope down to a finder, as the code works it out
 pub slope-read :
     (ds : Distances) (w : ℕ) (spill : List Float) (c f : ℕ) → Near w c f → 3 ≤ w → (by-place : List Float) (place : ℕ) → by-place ≡ placeDistances ds
     → place ≡ placeOf w c f
     → slopeDown spill c f (getD by-place place nan) ≡ slopeDown spill c f (apart ds w c f)
 slope-read ds w spill c f near wide by-place place e p = ap (slopeDown spill c f) (place-read near ds wide by-place place e p)
-
--- the offsets in fewer bits
-pub offsets-long : (w : ℕ) (os : List ℕ) → os ≡ offsetsOf w → 9 ≡ length os
-unfolding offsetsOf
-offsets-long w os e = sym (ap length e ∙ length-tabulate (offsetOf w) 9)
-
-pub offset-short : (w : ℕ) (os : List ℕ) → os ≡ offsetsOf w → w ≤ 4096 → (d : ℕ) → d < 9 → getD os d 0 ≤ 2 ^ 14
-offset-short w os e wide d l = omega (arith, offset-read w os e d l, offset-fits w d _ _ wide refl refl)
 
 -- b is a, with the offset from c in the place of the cell
 pub record Offset (w c : ℕ) (a b : Best) : Type 0 where
@@ -92,7 +88,7 @@ module _ (ds : Distances) (w h : ℕ) (spill : List Float) (c f : ℕ) (long : l
 
   following-more :
       (d : ℕ) (b : Best) → d < 8 → Following ds w h spill c f d b
-      → Following ds w h spill c f (d + 1) (comparedAs (nineOf ds) spill c (d + 1) (neighbourAt w h c (d + 1)) (offsetOf w (d + 1)) b)
+      → Following ds w h spill c f (d + 1) (comparedAs (nineOf ds) spill c (d + 1) (neighbourAt w h c (d + 1)) (offsetFrom w c (neighbourAt w h c (d + 1))) b)
   following-more d b l p =
       let m : ℕ = neighbourAt w h c (d + 1) in
       let inside = inner-cell w h c (d + 1) (omega arith) (omega arith) a in
@@ -106,17 +102,17 @@ module _ (ds : Distances) (w h : ℕ) (spill : List Float) (c f : ℕ) (long : l
             (λ (x : Float).
             Offset w c (comparedAs (nineOf ds) spill c (d + 1) m m (p .lead))
             (cond (lt (getD spill m nan) (getD spill c nan) && lt x (slopeDown spill c m (distanceIn ds (d + 1))))
-            (record { cell = offsetOf w (d + 1); slope = slopeDown spill c m (distanceIn ds (d + 1)) }) b))
+            (record { cell = offsetFrom w c m; slope = slopeDown spill c m (distanceIn ds (d + 1)) }) b))
             (sym (p .same .slope))
             (offset-where (lt (getD spill m nan) (getD spill c nan) && lt (p .lead .slope) (slopeDown spill c m (distanceIn ds (d + 1)))) m _ _ (p .same)
-            (sym (inner-offset w h c (d + 1) (omega arith) (omega arith) a)));
+            (omega (arith, finder-back a (inr (inner-adjacent a d l m refl)))));
       }
 
   pub following-all : Following ds w h spill c f 8 (steepestFrom (nineOf ds) w h spill c (finderAs ds w spill c f))
   unfolding steepestFrom
   following-all =
-      turns-hold (λ i. comparedAs (nineOf ds) spill c (i + 1) (neighbourAt w h c (i + 1)) (offsetOf w (i + 1))) (Following ds w h spill c f) (finderAs ds w spill c f) 8 following-none
-      (λ i t l p. subst (λ (k : ℕ). Following ds w h spill c f k (comparedAs (nineOf ds) spill c (i + 1) (neighbourAt w h c (i + 1)) (offsetOf w (i + 1)) t)) (add-one i) (following-more i t l p))
+      turns-hold (λ i. comparedAs (nineOf ds) spill c (i + 1) (neighbourAt w h c (i + 1)) (offsetFrom w c (neighbourAt w h c (i + 1)))) (Following ds w h spill c f) (finderAs ds w spill c f) 8 following-none
+      (λ i t l p. subst (λ (k : ℕ). Following ds w h spill c f k (comparedAs (nineOf ds) spill c (i + 1) (neighbourAt w h c (i + 1)) (offsetFrom w c (neighbourAt w h c (i + 1))) t)) (add-one i) (following-more i t l p))
 
   -- the offset that the fold leaves: it leads to a cell, the receiver
   pub offset-enough : w + 1 ≤ c + steepestFrom (nineOf ds) w h spill c (finderAs ds w spill c f) .cell
@@ -141,7 +137,7 @@ module _ (ds : Distances) (w h : ℕ) (spill : List Float) (c f : ℕ) (long : l
 -- the loop over the directions: the neighbour in direction i + 1 against the best so far, as the code works it out
 module _ (by-direction : List Float) (w h : ℕ) (spill : List Float) (c : ℕ) where
   abbrev pub against : ℕ → Best → Best
-  against i = comparedAs by-direction spill c (i + 1) (neighbourAt w h c (i + 1)) (offsetOf w (i + 1))
+  against i = comparedAs by-direction spill c (i + 1) (neighbourAt w h c (i + 1)) (offsetFrom w c (neighbourAt w h c (i + 1)))
 
-  pub against-is : (d m o : ℕ) (best r : Best) → m ≡ neighbourAt w h c (d + 1) → o ≡ offsetOf w (d + 1) → r ≡ comparedAs by-direction spill c (d + 1) m o best → r ≡ against d best
-  against-is d m o best r e f g = g ∙ ap₂ (λ (m o : ℕ). comparedAs by-direction spill c (d + 1) m o best) e f
+  pub against-is : (d m o : ℕ) (best r : Best) → m ≡ neighbourAt w h c (d + 1) → o ≡ offsetFrom w c m → r ≡ comparedAs by-direction spill c (d + 1) m o best → r ≡ against d best
+  against-is d m o best r e f g = g ∙ ap₂ (λ (m o : ℕ). comparedAs by-direction spill c (d + 1) m o best) e (f ∙ ap (offsetFrom w c) e)

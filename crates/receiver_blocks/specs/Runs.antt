@@ -9,7 +9,6 @@ use lib.Dec.{eqb}
 use lib.Ieee.{Float, nan}
 use Rattle.lists.specs.Loops.{turns, tabulate}
 use Rattle.grid.specs.Directions.{neighbourAt, Adjacent}
-use Rattle.inner_cells.specs.Inner.{offsetOf}
 use Rattle.spacing.specs.declared.Distances.{Distances}
 use Rattle.drainage.specs.Ground.{floats, groundBy}
 use Rattle.drainage.specs.Receivers.{receiverOf}
@@ -17,14 +16,18 @@ use Rattle.ways.specs.Apart.{apart}
 use Rattle.network.specs.declared.Best.{Best}
 use Rattle.network.specs.Passes.{slopeDown, comparedAs}
 
--- the finder f of cell c and the slope down to it. The offset o of a cell from c is such that the cell is c + o - (w + 1).
+-- the offset of cell m from cell c: how far it lies behind the cell in the north-west of c, which is c - (w + 1)
+abbrev pub offsetFrom : ℕ → ℕ → ℕ → ℕ
+offsetFrom w c m = m + (w + 1) - c
+
+-- the finder f of cell c, by its offset, and the slope down to it
 abbrev pub finderAs : Distances → ℕ → List Float → ℕ → ℕ → Best
-finderAs ds w spill c f = record { cell = f + (w + 1) - c; slope = slopeDown spill c f (apart ds w c f) }
+finderAs ds w spill c f = record { cell = offsetFrom w c f; slope = slopeDown spill c f (apart ds w c f) }
 
 -- the neighbours of inner cell c, in their order, against the receiver so far, each by its offset
 unfoldable pub steepestFrom : List Float → ℕ → ℕ → List Float → ℕ → Best → Best
 unfolding turns
-steepestFrom by-direction w h spill c = turns 8 (λ i. comparedAs by-direction spill c (i + 1) (neighbourAt w h c (i + 1)) (offsetOf w (i + 1)))
+steepestFrom by-direction w h spill c = turns 8 (λ i. comparedAs by-direction spill c (i + 1) (neighbourAt w h c (i + 1)) (offsetFrom w c (neighbourAt w h c (i + 1))))
 
 -- the offset of the steepest of cell c + i, the offsets and slopes of the receivers so far in two lists
 abbrev pub steepestAt : List Float → ℕ → ℕ → List Float → ℕ → List ℕ → List Float → ℕ → ℕ

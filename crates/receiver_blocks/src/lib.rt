@@ -1,5 +1,7 @@
-// Receivers in the place of finders, for a block of inner cells: the finders of all with the slopes down to them, then the steepest neighbours of all,
-// each cell by its offset, with no test and no branch, then the stores.
+// Receivers in the place of finders, for a block of inner cells: the finders of all with the slopes down to them, then
+// the steepest neighbours of all, each by its offset, with no test and no branch, then the stores.
+use grid::DIRX;
+use grid::DIRY;
 use grid::Sides;
 use inner_cells::beside;
 use network::Best;
@@ -13,24 +15,21 @@ ghost use mathlib.Core.List.{_++_};
 ghost use lib.Dec.{eqb};
 ghost use lib.ListN.{length, drop};
 ghost use Rattle.lists.specs.Loops.{tabulate};
-ghost use Rattle.inner_cells.specs.Inner.{Inner, InnerRun, offsetsOf};
+ghost use Rattle.inner_cells.specs.Inner.{Inner, InnerRun};
 ghost use Rattle.steps.specs.Step.{placeDistances, Near};
 ghost use Rattle.spacing.specs.Distances.{nineOf};
-ghost use Rattle.receiver_blocks.specs.Runs.{finderAs, steepestFrom, steepestAt, NearFinders, Begun, Leads, Stored, RunReceived};
+ghost use Rattle.receiver_blocks.specs.Runs.{offsetFrom, finderAs, steepestFrom, steepestAt, NearFinders, Begun, Leads, Stored, RunReceived};
 
-// The offsets as u32: a receiver so far has its offset beside its slope in as many bits, so that as many are chosen at a time.
-pub fn narrow(os: &[usize; 9], width: usize) -> [u32; 9]
-    requires { ⌜ now os ≡ offsetsOf width ⌝ }
+// The offset of cell m from an inner cell c on a grid of that width. It stands for m beside its slope, in as many bits,
+// so that as many are chosen at a time.
+fn offset(width: usize, c: usize, m: usize) -> u32
     requires { ⌜ width ≤ 4096 ⌝ }
-    ensures { λ r. ⌜ r ≡ offsetsOf width ⌝ }
+    requires { ⌜ c ≤ m + (width + 1) ⌝ }
+    requires { ⌜ m ≤ c + (width + 1) ⌝ }
+    requires { ⌜ c < 2 ^ 24 ⌝ }
+    ensures { λ r. ⌜ r ≡ offsetFrom width c m ⌝ }
 {
-    let mut short: [u32; 9] = [0; 9];
-    let mut d: usize = 0;
-    while d < 9 {
-        short[d] = os[d] as u32;
-        d += 1;
-    }
-    short
+    (m + (width + 1) - c) as u32
 }
 
 // The slope from cell c down to its finder f.
@@ -80,32 +79,23 @@ fn finder_block(
     while i < n {
         let f = recv[c + i] as usize;
         slopes[i] = finder_slope(w, ds, by_place, spill, c + i, f);
-        cells[i] = (f + (w + 1) - (c + i)) as u32;
+        cells[i] = offset(w, c + i, f);
         i += 1;
     }
 }
 
 // The steepest neighbour of an inner cell against the receiver so far, by their offsets.
-fn steepest_inside(
-    size: Sides,
-    os: &[usize; 9],
-    short: &[u32; 9],
-    by_direction: &[f32; 9],
-    spill: &[f32],
-    c: usize,
-    best: Best,
-) -> u32
+fn steepest_inside(size: Sides, by_direction: &[f32; 9], spill: &[f32], c: usize, best: Best) -> u32
     requires { ⌜ Inner (size .w) (size .h) c ⌝ }
-    requires { ⌜ now os ≡ offsetsOf (size .w) ⌝ }
-    requires { ⌜ now short ≡ offsetsOf (size .w) ⌝ }
     requires { ⌜ length (now spill) ≡ size .w * size .h ⌝ }
     ensures { λ r. ⌜ r ≡ steepestFrom (now («by_direction» .entry)) (size .w) (size .h) (now (spill .entry)) c best .cell ⌝ }
 {
+    let w = size.w;
     let mut b = best;
     let mut d: usize = 0;
     while d < 8 {
-        let m = beside(size, os, c, d + 1);
-        b = compare(by_direction, spill, c, d + 1, m, short[d + 1], b);
+        let m = beside(size, c, DIRX[d + 1], DIRY[d + 1]);
+        b = compare(by_direction, spill, c, d + 1, m, offset(w, c, m), b);
         d += 1;
     }
     b.cell
@@ -114,8 +104,6 @@ fn steepest_inside(
 // The steepest of n inner cells from cell c on. Nothing lent is written between them, so that several are worked out at a time.
 fn steepest_block(
     size: Sides,
-    os: &[usize; 9],
-    short: &[u32; 9],
     by_direction: &[f32; 9],
     spill: &[f32],
     c: usize,
@@ -124,8 +112,6 @@ fn steepest_block(
     slopes: &[f32; 64],
 )
     requires { ⌜ InnerRun (size .w) (size .h) c n ⌝ }
-    requires { ⌜ now os ≡ offsetsOf (size .w) ⌝ }
-    requires { ⌜ now short ≡ offsetsOf (size .w) ⌝ }
     requires { ⌜ length (now spill) ≡ size .w * size .h ⌝ }
     requires { ⌜ n ≤ 64 ⌝ }
     requires { ⌜ length (now cells) ≡ 64 ⌝ }
@@ -137,7 +123,7 @@ fn steepest_block(
             cell: cells[i],
             slope: slopes[i],
         };
-        cells[i] = steepest_inside(size, os, short, by_direction, spill, c + i, best);
+        cells[i] = steepest_inside(size, by_direction, spill, c + i, best);
         i += 1;
     }
 }
@@ -173,8 +159,6 @@ fn store_block(size: Sides, recv: &mut [u32], c: usize, n: usize, cells: &[u32; 
 pub fn receive_block(
     size: Sides,
     ds: Distances,
-    os: &[usize; 9],
-    short: &[u32; 9],
     by_place: &[f32; 5],
     by_direction: &[f32; 9],
     spill: &[f32],
@@ -184,8 +168,6 @@ pub fn receive_block(
 )
     requires { ⌜ InnerRun (size .w) (size .h) c n ⌝ }
     requires { ⌜ NearFinders (size .w) (size .h) c (c + n) (now recv) ⌝ }
-    requires { ⌜ now os ≡ offsetsOf (size .w) ⌝ }
-    requires { ⌜ now short ≡ offsetsOf (size .w) ⌝ }
     requires { ⌜ now «by_place» ≡ placeDistances ds ⌝ }
     requires { ⌜ length (now spill) ≡ size .w * size .h ⌝ }
     requires { ⌜ length (now recv) ≡ size .w * size .h ⌝ }
@@ -206,16 +188,6 @@ pub fn receive_block(
         &mut cells,
         &mut slopes,
     );
-    steepest_block(
-        size,
-        os,
-        short,
-        by_direction,
-        spill,
-        c,
-        n,
-        &mut cells,
-        &slopes,
-    );
+    steepest_block(size, by_direction, spill, c, n, &mut cells, &slopes);
     store_block(size, recv, c, n, &cells);
 }

@@ -1,9 +1,7 @@
 // Receivers in the place of finders, row by row, after flow.rs. The inner cells of a row go in blocks; the cells on the sides of the map go as any cell.
 use grid::Sides;
 use inner_cells::inner_cells;
-use inner_cells::offsets;
 use network::receiver;
-use receiver_blocks::narrow;
 use receiver_blocks::receive_block;
 use spacing::Distances;
 use spacing::direction_distances;
@@ -13,7 +11,7 @@ ghost use mathlib.Core.Path.{_≡_};
 ghost use mathlib.Core.Bool.{Bool};
 ghost use lib.ListN.{length};
 ghost use Rattle.grid.specs.Sides.{InRange};
-ghost use Rattle.inner_cells.specs.Inner.{InnerRun, offsetsOf};
+ghost use Rattle.inner_cells.specs.Inner.{InnerRun};
 ghost use Rattle.spacing.specs.Distances.{nineOf};
 ghost use Rattle.drainage.specs.Ground.{floats, groundBy};
 ghost use Rattle.drainage.specs.Receivers.{receivers};
@@ -25,8 +23,6 @@ ghost use Rattle.receiver_blocks.specs.Runs.{NearFinders, RunReceived};
 fn receive_inner_cells(
     size: Sides,
     ds: Distances,
-    os: &[usize; 9],
-    short: &[u32; 9],
     by_place: &[f32; 5],
     by_direction: &[f32; 9],
     spill: &[f32],
@@ -36,8 +32,6 @@ fn receive_inner_cells(
 )
     requires { ⌜ InnerRun (size .w) (size .h) c n ⌝ }
     requires { ⌜ NearFinders (size .w) (size .h) c (c + n) (now recv) ⌝ }
-    requires { ⌜ now os ≡ offsetsOf (size .w) ⌝ }
-    requires { ⌜ now short ≡ offsetsOf (size .w) ⌝ }
     requires { ⌜ now «by_place» ≡ placeDistances ds ⌝ }
     requires { ⌜ length (now spill) ≡ size .w * size .h ⌝ }
     requires { ⌜ length (now recv) ≡ size .w * size .h ⌝ }
@@ -46,32 +40,10 @@ fn receive_inner_cells(
 {
     let mut i: usize = 0;
     while 64 <= n - i {
-        receive_block(
-            size,
-            ds,
-            os,
-            short,
-            by_place,
-            by_direction,
-            spill,
-            recv,
-            c + i,
-            64,
-        );
+        receive_block(size, ds, by_place, by_direction, spill, recv, c + i, 64);
         i += 64;
     }
-    receive_block(
-        size,
-        ds,
-        os,
-        short,
-        by_place,
-        by_direction,
-        spill,
-        recv,
-        c + i,
-        n - i,
-    );
+    receive_block(size, ds, by_place, by_direction, spill, recv, c + i, n - i);
 }
 
 // The receivers of n cells of row y from column x on.
@@ -107,8 +79,6 @@ fn receive_cells(
 fn receive_row(
     size: Sides,
     ds: Distances,
-    os: &[usize; 9],
-    short: &[u32; 9],
     by_place: &[f32; 5],
     by_direction: &[f32; 9],
     spill: &[f32],
@@ -118,8 +88,6 @@ fn receive_row(
     requires { ⌜ InRange (size .w) (size .h) ⌝ }
     requires { ⌜ y < size .h ⌝ }
     requires { ⌜ NearFinders (size .w) (size .h) (y * size .w) (size .w + y * size .w) (now recv) ⌝ }
-    requires { ⌜ now os ≡ offsetsOf (size .w) ⌝ }
-    requires { ⌜ now short ≡ offsetsOf (size .w) ⌝ }
     requires { ⌜ now «by_place» ≡ placeDistances ds ⌝ }
     requires { ⌜ length (now spill) ≡ size .w * size .h ⌝ }
     requires { ⌜ length (now recv) ≡ size .w * size .h ⌝ }
@@ -129,18 +97,7 @@ fn receive_row(
     let w = size.w;
     let n = inner_cells(size, y);
     receive_cells(size, ds, by_direction, spill, recv, y, 0, 1);
-    receive_inner_cells(
-        size,
-        ds,
-        os,
-        short,
-        by_place,
-        by_direction,
-        spill,
-        recv,
-        1 + y * w,
-        n,
-    );
+    receive_inner_cells(size, ds, by_place, by_direction, spill, recv, 1 + y * w, n);
     receive_cells(size, ds, by_direction, spill, recv, y, 1 + n, w - (1 + n));
 }
 
@@ -152,15 +109,12 @@ pub fn steepest_receivers(g: Sides, ds: Distances, spill: &[f32], recv: &mut [u3
     requires { ⌜ Finders (g .w) (g .h) (now recv) ⌝ }
     ensures { λ _. ⌜ ((base : ℕ → Bool) → now (recv .exit) ≡ receivers floats (groundBy (g .w) (g .h) ds base) (now (spill .entry)) (now (recv .entry))) ⌝ }
 {
-    let w = g.w;
-    let os = offsets(w);
-    let short = narrow(&os, w);
     let by_place = place_distances(ds);
     let by_direction = direction_distances(ds);
     let rows = g.h;
     let mut y: usize = 0;
     while y < rows {
-        receive_row(g, ds, &os, &short, &by_place, &by_direction, spill, recv, y);
+        receive_row(g, ds, &by_place, &by_direction, spill, recv, y);
         y += 1;
     }
 }

@@ -15,7 +15,7 @@ use borrow.Author.Tests.{lt-ltb, le-ltb, eq-eqb, ne-eqb}
 use Rattle.grid.specs.Sides.{cellOf, columnOf, rowOf}
 use Rattle.grid.specs.Directions.{Adjacent}
 use Rattle.grid.proofs.SidesLaws.{cell-back}
-use Rattle.grid.proofs.NeighbourLaws.{stepX, stepY, inside-beside, small-steps, close-step}
+use Rattle.grid.proofs.NeighbourLaws.{stepX, stepY, inside-beside, step-of, close-step}
 use Rattle.spacing.specs.declared.Distances.{Distances}
 use Rattle.drainage.specs.Ways.{WorkList}
 use Rattle.drainage.proofs.WorkListLaws.{entry-lt}
@@ -143,9 +143,9 @@ pub near-of : {w h c r : ℕ} → 0 < w → w ≤ 4096 → (r ≡ c) ⊎ Adjacen
 near-of some wide (inl e) = rw e (record { some = some; wide = wide; west = omega arith; east = omega arith; north = omega arith; south = omega arith })
 near-of {w} {h} {c} {r} some wide (inr a) =
     let b = inside-beside w h c r (a .direction) (a .inside) (a .leads) in
-    let s = small-steps (a .direction) (a .first) (a .last) in
-    let x = close-step (columnOf w c) (stepX (a .direction)) w (columnOf w r) (s .0) (b .column) (b .columns) in
-    let y = close-step (rowOf w c) (stepY (a .direction)) h (rowOf w r) (s .1) (b .row) (b .rows) in
+    let s = step-of (a .direction) in
+    let x = close-step (columnOf w c) (stepX (a .direction)) w (columnOf w r) (s .columns) (b .column) (b .columns) in
+    let y = close-step (rowOf w c) (stepY (a .direction)) h (rowOf w r) (s .rows) (b .row) (b .rows) in
     record { some = some; wide = wide; west = x .0; east = x .1; north = y .0; south = y .1 }
 
 -- ---- near receivers with a work list are cells to add areas along

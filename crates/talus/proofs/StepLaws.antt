@@ -1,61 +1,58 @@
 -- One direction of a cell, by the cell m that lies there.
 use Prim.Native.Nat.{ℕ, suc, _+_, _-_, _*_, _≤_, _<_}
-use mathlib.Core.Path.{_≡_, ap, sym, _∙_, subst}
-use mathlib.Core.Bool.{Bool, true, false, true≢false}
+use mathlib.Core.Path.{_≡_, refl, ap, sym, _∙_, subst}
+use mathlib.Core.Bool.{Bool, true, false, cond, true≢false}
 use mathlib.Core.List.{List}
 use native.Mathlib.Omega.{arith}
-use borrow.Author.Tests.{lt-ltb, le-ltb}
+use lib.Dec.{ltb}
+use lib.IntN.{ℤ}
 use lib.Ieee.{Float}
 use Rattle.lists.specs.Loops.{turns}
 use Rattle.lists.proofs.LoopLaws.{Turning, turning-none, turning-more, turning-done}
-use Rattle.grid.specs.Directions.{neighbourOf, neighbourAt}
+use Rattle.grid.specs.Directions.{steppedOf, steppedAt, neighbourAt}
 use Rattle.grid.proofs.SidesLaws.{cell-lt, column-cell, row-cell}
-use Rattle.inner_cells.specs.Inner.{Inner, offsetsOf}
+use Rattle.inner_cells.specs.Inner.{Inner}
 use Rattle.inner_cells.proofs.InnerLaws.{inner-below}
 use Rattle.talus.specs.Talus.{shedTo, shedStep, gainTo, gainStep}
-use Rattle.talus.specs.Places.{CellAt, InnerIf}
+use Rattle.talus.specs.Places.{CellAt}
 use Rattle.talus.specs.declared.Shed.{Shed}
 
 module _ {w h n x y c : ℕ} (a : CellAt w h n x y c) where
   pub cell-below : c < n
   cell-below = omega (arith, cell-lt w x y (a .place .column) h (a .place .row))
 
-  -- the neighbour of a column and a row is that of their cell
-  pub cell-neighbour : (d : ℕ) → neighbourAt w h c d ≡ neighbourOf w h x y d
-  cell-neighbour d =
+  -- a step from a column and a row is one from their cell
+  pub cell-stepped : (dx dy : ℤ) → steppedAt w h c dx dy ≡ steppedOf w h x y dx dy
+  cell-stepped dx dy =
       let column = column-cell w x y (a .place .column) in
       let row = row-cell w x y (a .place .column) in
       rw (a .cell, column, row)
 
--- a cell of which nothing is said, and an inner one
-pub any-cell : {w h c : ℕ} {os : List ℕ} → InnerIf false w h c os
-any-cell = record { off-sides = λ e. absurd (true≢false (sym e)); offsets = λ e. absurd (true≢false (sym e)) }
+-- a cell of which nothing is said
+pub any-cell : {w h c : ℕ} → false ≡ true → Inner w h c
+any-cell e = absurd (true≢false (sym e))
 
-pub inner-one : {w h c : ℕ} {os : List ℕ} → Inner w h c → os ≡ offsetsOf w → InnerIf true w h c os
-inner-one a o = record { off-sides = λ e. a; offsets = λ e. o }
-
-pub inner-in-map : {inner : Bool} {w h c : ℕ} {os : List ℕ} → InnerIf inner w h c os → (d n m : ℕ) → 1 ≤ d → d < 9 → n ≡ w * h → m ≡ neighbourAt w h c d
+pub inner-in-map : {inner : Bool} {w h c : ℕ} → (inner ≡ true → Inner w h c) → (d n m : ℕ) → 1 ≤ d → d < 9 → n ≡ w * h → m ≡ neighbourAt w h c d
     → inner ≡ true → m < n
-inner-in-map a d n m lo hi cells at e = inner-below _ _ _ d lo (omega arith) (a .off-sides e) n m cells at
+inner-in-map a d n m lo hi cells at e = inner-below _ _ _ d lo (omega arith) (a e) n m cells at
 
 -- cell m lies in direction d, or no cell does
-module _ (w h n : ℕ) (ts hs : List Float) (c d m : ℕ) (cells : n ≡ w * h) (at : neighbourAt w h c d ≡ m) where
-  pub shed-outside : (s : Shed) → n ≤ m → shedStep w h ts hs c d s ≡ s
-  unfolding shedStep
-  shed-outside s l = rw (at, ← cells, le-ltb m n l)
-
-  pub shed-inside : (s : Shed) → m < n → shedStep w h ts hs c d s ≡ shedTo ts hs c m d s
+module _ (w h n : ℕ) (ts hs : List Float) (c d m : ℕ) (cells : n ≡ w * h) (at : m ≡ neighbourAt w h c d) where
+  pub shed-step : (s r : Shed) → r ≡ cond (ltb m n) (shedTo ts hs c m d s) s → r ≡ shedStep w h ts hs c d s
   unfolding shedStep shedTo
-  shed-inside s l = rw (at, ← cells, lt-ltb m n l)
+  shed-step s r e = e ∙ go (ltb m n) refl
+    where
+      go : (b : Bool) → ltb m n ≡ b → cond b (shedTo ts hs c m d s) s ≡ shedStep w h ts hs c d s
+      go true l = rw (← at, ← cells, l)
+      go false l = rw (← at, ← cells, l)
 
-  module _ (moved total : Float) (out : List Float) where
-    pub gain-outside : n ≤ m → gainStep w h ts hs c moved total d out ≡ out
-    unfolding gainStep
-    gain-outside l = rw (at, ← cells, le-ltb m n l)
-
-    pub gain-inside : m < n → gainStep w h ts hs c moved total d out ≡ gainTo ts hs c m moved total d out
-    unfolding gainStep gainTo
-    gain-inside l = rw (at, ← cells, lt-ltb m n l)
+  pub gain-step : (moved total : Float) (out r : List Float) → r ≡ cond (ltb m n) (gainTo ts hs c m moved total d out) out → r ≡ gainStep w h ts hs c moved total d out
+  unfolding gainStep gainTo
+  gain-step moved total out r e = e ∙ go (ltb m n) refl
+    where
+      go : (b : Bool) → ltb m n ≡ b → cond b (gainTo ts hs c m moved total d out) out ≡ gainStep w h ts hs c moved total d out
+      go true l = rw (← at, ← cells, l)
+      go false l = rw (← at, ← cells, l)
 
 -- the state of a loop over the eight directions that has done those below d
 pub record Around {S : Type 0} (f : ℕ → S → S) (start : S) (d : ℕ) (s : S) : Type 0 where

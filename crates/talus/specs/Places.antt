@@ -1,21 +1,13 @@
 -- Where cells lie in their map.
 use Prim.Native.Nat.{ℕ, _+_, _*_, _≤_, _<_}
 use mathlib.Core.Path.{_≡_}
-use mathlib.Core.Bool.{Bool, true}
-use mathlib.Core.List.{List}
 use Rattle.grid.specs.Directions.{Place}
-use Rattle.inner_cells.specs.Inner.{Inner, offsetsOf}
 
 -- column x, row y is cell c of a w × h map of n heights
 pub record CellAt (w h n x y c : ℕ) : Type 0 where
   pub place : Place w h x y
   pub cells : n ≡ w * h
   pub cell : c ≡ x + y * w
-
--- cell c, where it is said to be an inner one, is that, and os has the offsets of its neighbours
-pub record InnerIf (inner : Bool) (w h c : ℕ) (os : List ℕ) : Type 0 where
-  pub off-sides : inner ≡ true → Inner w h c
-  pub offsets : inner ≡ true → os ≡ offsetsOf w
 
 -- n columns from column x on, in row y of a w × h map of `cells` heights
 pub record InRow (w h cells y x n : ℕ) : Type 0 where

@@ -1,6 +1,8 @@
 // Talus on cells and rows: what a cell steeper than its thresholds sheds, and where that goes. Heights are read from `hmap`; gains and losses
 // go to `out`. The thresholds of the directions are an argument, prepared once before the rows.
 use floats::max;
+use grid::DIRX;
+use grid::DIRY;
 use grid::Sides;
 use grid::neighbour;
 use inner_cells::beside;
@@ -11,9 +13,10 @@ ghost use Prim.Native.Nat.{_+_, _*_, _≤_, _<_};
 ghost use lib.ListN.{length};
 ghost use lib.Dec.{ltb};
 ghost use lib.Ieee.{binary32, ofBits, lt};
-ghost use Rattle.grid.specs.Directions.{neighbourAt};
-ghost use Rattle.talus.specs.Talus.{thresholdsOf, excessOver, shedTo, shedStep, shedOf, gainTo, gainStep, gainsOf, slideCell, slideCells};
-ghost use Rattle.talus.specs.Places.{CellAt, InnerIf, InRow};
+ghost use Rattle.grid.specs.Directions.{Step, steppedAt};
+ghost use Rattle.inner_cells.specs.Inner.{Inner};
+ghost use Rattle.talus.specs.Talus.{thresholdsOf, excessOver, shedTo, shedOf, gainTo, gainsOf, slideCell, slideCells};
+ghost use Rattle.talus.specs.Places.{CellAt, InRow};
 
 // The total of the excesses counted so far, and the greatest of them.
 pub struct Shed {
@@ -82,26 +85,17 @@ fn gain_at(
     out[m] = where_counted(e, old + moved * e / total, old);
 }
 
-// The neighbour of cell c in direction d: that of an inner cell lies at an offset.
-fn cell_toward(
-    size: Sides,
-    x: usize,
-    y: usize,
-    c: usize,
-    d: usize,
-    os: &[usize; 9],
-    inner: bool,
-) -> usize
+// The neighbour dx columns and dy rows from cell c: that of an inner cell needs no test.
+fn cell_toward(size: Sides, x: usize, y: usize, c: usize, dx: i32, dy: i32, inner: bool) -> usize
     requires { ⌜ CellAt (size .w) (size .h) (size .w * size .h) x y c ⌝ }
-    requires { ⌜ InnerIf inner (size .w) (size .h) c (now os) ⌝ }
-    requires { ⌜ 1 ≤ d ⌝ }
-    requires { ⌜ d < 9 ⌝ }
-    ensures { λ r. ⌜ r ≡ neighbourAt (size .w) (size .h) c d ⌝ }
+    requires { ⌜ (inner ≡ true → Inner (size .w) (size .h) c) ⌝ }
+    requires { ⌜ Step dx dy ⌝ }
+    ensures { λ r. ⌜ r ≡ steppedAt (size .w) (size .h) c dx dy ⌝ }
 {
     if inner {
-        return beside(size, os, c, d);
+        return beside(size, c, dx, dy);
     }
-    neighbour(size, x, y, d)
+    neighbour(size, x, y, dx, dy)
 }
 
 // Whether cell m is one of a map: a neighbour of an inner cell is, and needs no test.
@@ -115,62 +109,52 @@ fn in_map(m: usize, cells: usize, inner: bool) -> bool
     m < cells
 }
 
-// Direction d: outside the grid there is no neighbour.
+// The excess toward m, in direction d, is counted if m is a cell of the map.
 fn shed_toward(
-    size: Sides,
     ts: &[f32; 9],
     hmap: &[f32],
-    x: usize,
-    y: usize,
     c: usize,
+    m: usize,
     d: usize,
     s: Shed,
-    os: &[usize; 9],
     inner: bool,
 ) -> Shed
-    requires { ⌜ CellAt (size .w) (size .h) (length (now hmap)) x y c ⌝ }
-    requires { ⌜ InnerIf inner (size .w) (size .h) c (now os) ⌝ }
-    requires { ⌜ 1 ≤ d ⌝ }
+    requires { ⌜ c < length (now hmap) ⌝ }
+    requires { ⌜ (inner ≡ true → m < length (now hmap)) ⌝ }
     requires { ⌜ d < 9 ⌝ }
-    ensures { λ r. ⌜ r ≡ shedStep (size .w) (size .h) (now (ts .entry)) (now (hmap .entry)) c d s ⌝ }
+    ensures { λ r. ⌜ r ≡ cond (ltb m (length (now (hmap .entry)))) (shedTo (now (ts .entry)) (now (hmap .entry)) c m d s) s ⌝ }
 {
-    let m = cell_toward(size, x, y, c, d, os, inner);
     if in_map(m, hmap.len(), inner) {
         return shed_at(ts, hmap, c, m, d, s);
     }
     s
 }
 
-// The gain of the neighbour in direction d, if there is one.
+// The gain of m, in direction d, if m is a cell of the map.
 fn gain_toward(
-    size: Sides,
     ts: &[f32; 9],
     hmap: &[f32],
     out: &mut [f32],
-    x: usize,
-    y: usize,
     c: usize,
+    m: usize,
     d: usize,
     moved: f32,
     total: f32,
-    os: &[usize; 9],
     inner: bool,
 )
-    requires { ⌜ CellAt (size .w) (size .h) (length (now hmap)) x y c ⌝ }
     requires { ⌜ length (now out) ≡ length (now hmap) ⌝ }
-    requires { ⌜ InnerIf inner (size .w) (size .h) c (now os) ⌝ }
-    requires { ⌜ 1 ≤ d ⌝ }
+    requires { ⌜ c < length (now hmap) ⌝ }
+    requires { ⌜ (inner ≡ true → m < length (now hmap)) ⌝ }
     requires { ⌜ d < 9 ⌝ }
-    ensures { λ _. ⌜ now (out .exit) ≡ gainStep (size .w) (size .h) (now (ts .entry)) (now (hmap .entry)) c moved total d (now (out .entry)) ⌝ }
+    ensures { λ _. ⌜ now (out .exit) ≡ cond (ltb m (length (now (hmap .entry)))) (gainTo (now (ts .entry)) (now (hmap .entry)) c m moved total d (now (out .entry))) (now (out .entry)) ⌝ }
 {
-    let m = cell_toward(size, x, y, c, d, os, inner);
     if in_map(m, hmap.len(), inner) {
         gain_at(ts, hmap, out, c, m, d, moved, total);
     }
 }
 
-// The total of the excesses of a cell over its eight directions, and the greatest of them. `inner` is a constant at each call, so that no test of it
-// stays in the loop.
+// The total of the excesses of a cell over its eight directions, and the greatest of them. `inner` is a constant at
+// each call, so that no test of it stays in the loop.
 pub fn shed_around(
     size: Sides,
     ts: &[f32; 9],
@@ -178,11 +162,10 @@ pub fn shed_around(
     x: usize,
     y: usize,
     c: usize,
-    os: &[usize; 9],
     inner: bool,
 ) -> Shed
     requires { ⌜ CellAt (size .w) (size .h) (length (now hmap)) x y c ⌝ }
-    requires { ⌜ InnerIf inner (size .w) (size .h) c (now os) ⌝ }
+    requires { ⌜ (inner ≡ true → Inner (size .w) (size .h) c) ⌝ }
     ensures { λ r. ⌜ r ≡ shedOf (size .w) (size .h) (now (ts .entry)) (now (hmap .entry)) c ⌝ }
 {
     let mut s = Shed {
@@ -191,7 +174,8 @@ pub fn shed_around(
     };
     let mut d: usize = 1;
     while d < 9 {
-        s = shed_toward(size, ts, hmap, x, y, c, d, s, os, inner);
+        let m = cell_toward(size, x, y, c, DIRX[d], DIRY[d], inner);
+        s = shed_toward(ts, hmap, c, m, d, s, inner);
         d += 1;
     }
     s
@@ -208,17 +192,17 @@ pub fn gain_around(
     c: usize,
     moved: f32,
     total: f32,
-    os: &[usize; 9],
     inner: bool,
 )
     requires { ⌜ CellAt (size .w) (size .h) (length (now hmap)) x y c ⌝ }
     requires { ⌜ length (now out) ≡ length (now hmap) ⌝ }
-    requires { ⌜ InnerIf inner (size .w) (size .h) c (now os) ⌝ }
+    requires { ⌜ (inner ≡ true → Inner (size .w) (size .h) c) ⌝ }
     ensures { λ _. ⌜ now (out .exit) ≡ gainsOf (size .w) (size .h) (now (ts .entry)) (now (hmap .entry)) c moved total (now (out .entry)) ⌝ }
 {
     let mut d: usize = 1;
     while d < 9 {
-        gain_toward(size, ts, hmap, out, x, y, c, d, moved, total, os, inner);
+        let m = cell_toward(size, x, y, c, DIRX[d], DIRY[d], inner);
+        gain_toward(ts, hmap, out, c, m, d, moved, total, inner);
         d += 1;
     }
 }
@@ -234,7 +218,6 @@ fn slide_cell(
     x: usize,
     y: usize,
     c: usize,
-    os: &[usize; 9],
 )
     requires { ⌜ CellAt (size .w) (size .h) (length (now hmap)) x y c ⌝ }
     requires { ⌜ length (now out) ≡ length (now hmap) ⌝ }
@@ -243,13 +226,13 @@ fn slide_cell(
     if hmap[c] < water {
         return;
     }
-    let s = shed_around(size, ts, hmap, x, y, c, os, false);
+    let s = shed_around(size, ts, hmap, x, y, c, false);
     if s.total <= 0.0 {
         return;
     }
     let moved = strength * s.greatest;
     out[c] = out[c] - moved;
-    gain_around(size, ts, hmap, out, x, y, c, moved, s.total, os, false);
+    gain_around(size, ts, hmap, out, x, y, c, moved, s.total, false);
 }
 
 // The n cells of row y from column x on, from the west.
@@ -263,7 +246,6 @@ pub fn slide_cells(
     y: usize,
     x: usize,
     n: usize,
-    os: &[usize; 9],
 )
     requires { ⌜ InRow (size .w) (size .h) (length (now hmap)) y x n ⌝ }
     requires { ⌜ length (now out) ≡ length (now hmap) ⌝ }
@@ -282,7 +264,6 @@ pub fn slide_cells(
             x + i,
             y,
             x + i + y * w,
-            os,
         );
         i += 1;
     }

@@ -6,6 +6,7 @@ use mathlib.Core.List.{List}
 use native.Mathlib.Omega.{arith}
 use lib.ListN.{getD, set}
 use lib.Seq.{set-getD}
+use borrow.Author.Tests.{lt-ltb}
 use lib.Ieee.{Float, nan, binary32, ofBits, sub, le}
 use Rattle.lists.specs.Loops.{turns}
 use Rattle.lists.proofs.TurnLaws.{turns-same, turns-kept}
@@ -13,7 +14,7 @@ use Rattle.grid.specs.Directions.{neighbourAt}
 use Rattle.inner_cells.proofs.InnerLaws.{inner-cell}
 use Rattle.talus.specs.Talus.{gainStep, gainsOf, slideCell, slideCells}
 use Rattle.talus.proofs.CountedLaws.{gain-counted}
-use Rattle.talus.proofs.StepLaws.{gain-inside}
+use Rattle.talus.proofs.StepLaws.{gain-step}
 use Rattle.talus_directions.specs.Parts.{InnerRow, lossOf, gainOf, slideBy, slideAll}
 use Rattle.talus_directions.proofs.PassLaws.{inner-column}
 use Rattle.talus_blocks.specs.Blocks.{Sheds}
@@ -33,9 +34,9 @@ module _ (w h : ℕ) (ts hs : List Float) (y x : ℕ) (totals moved : List Float
     sheds : (d : ℕ) (t : List Float) → 1 ≤ d → d ≤ 8 → le (getD totals i nan) (ofBits binary32 0) ≡ false
         → gainOf w h ts hs y x totals moved d i t ≡ gainStep w h ts hs (x + i + y * w) (getD moved i nan) (getD totals i nan) d t
     sheds d t lo hi e =
-        gain-counted ts hs (x + i + y * w) (neighbourAt w h (x + i + y * w) d) d (getD moved i nan) (getD totals i nan) t refl (rw e refl)
-        ∙ sym (gain-inside w h (w * h) ts hs (x + i + y * w) d (neighbourAt w h (x + i + y * w) d) refl refl (getD moved i nan) (getD totals i nan) t
-        (inner-cell w h (x + i + y * w) d lo hi (inner-column r i l)))
+        gain-step w h (w * h) ts hs (x + i + y * w) d (neighbourAt w h (x + i + y * w) d) refl refl (getD moved i nan) (getD totals i nan) t _
+        (rw (lt-ltb (neighbourAt w h (x + i + y * w) d) (w * h) (inner-cell w h (x + i + y * w) d lo hi (inner-column r i l)))
+        (gain-counted ts hs (x + i + y * w) (neighbourAt w h (x + i + y * w) d) d (getD moved i nan) (getD totals i nan) t refl (rw e refl)))
 
     loses : (t : List Float) → le (getD totals i nan) (ofBits binary32 0) ≡ false
         → lossOf w y x totals moved i t ≡ set t (x + i + y * w) (sub binary32 (getD t (x + i + y * w) nan) (getD moved i nan))

@@ -10,7 +10,7 @@ ghost use lib.ListN.{length};
 ghost use lib.Ieee.{binary32, ofBits, lt, le};
 ghost use Rattle.talus.specs.Talus.{slideCell, slideCells};
 ghost use Rattle.talus.specs.Places.{CellAt};
-ghost use Rattle.inner_cells.specs.Inner.{Inner, offsetsOf};
+ghost use Rattle.inner_cells.specs.Inner.{Inner};
 ghost use Rattle.talus_directions.specs.Parts.{InnerRow};
 ghost use Rattle.talus_blocks.specs.Blocks.{shedTotal, movedFrom, Sheds, ShedsPut, shedders};
 
@@ -20,7 +20,6 @@ const FEW: u32 = 12;
 // One inner cell, as `slide_cell`, whose total and loss are known.
 fn slide_inside(
     size: Sides,
-    os: &[usize; 9],
     ts: &[f32; 9],
     hmap: &[f32],
     out: &mut [f32],
@@ -33,7 +32,6 @@ fn slide_inside(
     moved: f32,
 )
     requires { ⌜ Inner (size .w) (size .h) c ⌝ }
-    requires { ⌜ now os ≡ offsetsOf (size .w) ⌝ }
     requires { ⌜ CellAt (size .w) (size .h) (length (now hmap)) x y c ⌝ }
     requires { ⌜ length (now out) ≡ length (now hmap) ⌝ }
     requires { ⌜ total ≡ shedTotal (size .w) (size .h) (now ts) (now hmap) water c ⌝ }
@@ -44,7 +42,7 @@ fn slide_inside(
         return;
     }
     out[c] = out[c] - moved;
-    gain_around(size, ts, hmap, out, x, y, c, moved, total, os, true);
+    gain_around(size, ts, hmap, out, x, y, c, moved, total, true);
 }
 
 // The total of a cell of that height: nothing below the water level.
@@ -57,7 +55,6 @@ fn dry_total(height: f32, water: f32, total: f32) -> f32
 // The totals and the losses of n inner cells of row y from column x on. Nothing lent is written between them, so that several are worked out at a time.
 fn shed_block(
     size: Sides,
-    os: &[usize; 9],
     ts: &[f32; 9],
     hmap: &[f32],
     strength: f32,
@@ -69,7 +66,6 @@ fn shed_block(
     moved: &mut [f32; 64],
 )
     requires { ⌜ InnerRow (size .w) (size .h) (length (now hmap)) y x n ⌝ }
-    requires { ⌜ now os ≡ offsetsOf (size .w) ⌝ }
     requires { ⌜ n ≤ 64 ⌝ }
     requires { ⌜ length (now totals) ≡ 64 ⌝ }
     requires { ⌜ length (now moved) ≡ 64 ⌝ }
@@ -79,7 +75,7 @@ fn shed_block(
     let mut i: usize = 0;
     while i < n {
         let c = x + i + y * w;
-        let s = shed_around(size, ts, hmap, x + i, y, c, os, true);
+        let s = shed_around(size, ts, hmap, x + i, y, c, true);
         totals[i] = dry_total(hmap[c], water, s.total);
         moved[i] = strength * s.greatest;
         i += 1;
@@ -110,7 +106,6 @@ fn shedding(totals: &[f32; 64], n: usize) -> u32
 // n inner cells of row y from column x on, one cell after the other.
 fn slide_few(
     size: Sides,
-    os: &[usize; 9],
     ts: &[f32; 9],
     hmap: &[f32],
     out: &mut [f32],
@@ -123,7 +118,6 @@ fn slide_few(
     moved: &[f32; 64],
 )
     requires { ⌜ InnerRow (size .w) (size .h) (length (now hmap)) y x n ⌝ }
-    requires { ⌜ now os ≡ offsetsOf (size .w) ⌝ }
     requires { ⌜ length (now out) ≡ length (now hmap) ⌝ }
     requires { ⌜ n ≤ 64 ⌝ }
     requires { ⌜ Sheds (size .w) (size .h) (now ts) (now hmap) strength water y x n (now totals) (now moved) ⌝ }
@@ -135,7 +129,6 @@ fn slide_few(
         let c = x + i + y * w;
         slide_inside(
             size,
-            os,
             ts,
             hmap,
             out,
@@ -154,7 +147,6 @@ fn slide_few(
 // n inner cells of row y from column x on: first by how much each sheds, then where that goes.
 pub fn slide_block(
     size: Sides,
-    os: &[usize; 9],
     ts: &[f32; 9],
     hmap: &[f32],
     out: &mut [f32],
@@ -165,7 +157,6 @@ pub fn slide_block(
     n: usize,
 )
     requires { ⌜ InnerRow (size .w) (size .h) (length (now hmap)) y x n ⌝ }
-    requires { ⌜ now os ≡ offsetsOf (size .w) ⌝ }
     requires { ⌜ length (now out) ≡ length (now hmap) ⌝ }
     requires { ⌜ n ≤ 64 ⌝ }
     ensures { λ _. ⌜ now (out .exit) ≡ slideCells (size .w) (size .h) (now (ts .entry)) (now (hmap .entry)) strength water y x n (now (out .entry)) ⌝ }
@@ -174,7 +165,6 @@ pub fn slide_block(
     let mut moved: [f32; 64] = [0.0; 64];
     shed_block(
         size,
-        os,
         ts,
         hmap,
         strength,
@@ -192,7 +182,6 @@ pub fn slide_block(
     if k < FEW {
         slide_few(
             size,
-            os,
             ts,
             hmap,
             out,
@@ -206,5 +195,5 @@ pub fn slide_block(
         );
         return;
     }
-    slide_directions(size, os, ts, hmap, out, y, x, n, &totals, &moved);
+    slide_directions(size, ts, hmap, out, y, x, n, &totals, &moved);
 }

@@ -14,9 +14,9 @@ use Rattle.lists.specs.Loops.{turns}
 use Rattle.lists.proofs.TurnLaws.{turns-same}
 use Rattle.grid.specs.Directions.{neighbourAt}
 use Rattle.grid.proofs.SidesLaws.{column-cell}
-use Rattle.grid.proofs.NeighbourLaws.{each-direction}
-use Rattle.inner_cells.specs.Inner.{Inner, offsetOf}
-use Rattle.inner_cells.proofs.InnerLaws.{inner-offset}
+use Rattle.grid.proofs.NeighbourLaws.{stepX, stepY, each-direction}
+use Rattle.inner_cells.specs.Inner.{Inner}
+use Rattle.inner_cells.proofs.InnerLaws.{ahead, inner-from}
 use Rattle.talus.specs.Talus.{excessTo}
 use Rattle.talus_directions.specs.Parts.{InnerRow, lostFrom, gainedBy, changed, losses, gainsToward, slideBy, slideAll}
 use Rattle.talus_directions.proofs.PassLaws.{inner-column}
@@ -33,11 +33,15 @@ changed-apart f g m k t ne =
 abbrev order : ℕ → ℕ
 order a = getD (3 ∷ 2 ∷ 1 ∷ 5 ∷ 0 ∷ 4 ∷ 8 ∷ 7 ∷ 6 ∷ []) a 0
 
+-- how many cells the one in direction d lies behind the one in the north-west
+abbrev behind : ℕ → ℕ → ℕ
+behind w d = ahead (stepX d) + ahead (stepY d) * w
+
 -- its column and row among the nine cells
 record Spot (w a : ℕ) : Type 0 where
   column : ℕ
   row : ℕ
-  offset : offsetOf w (order a) ≡ column + row * w
+  offset : behind w (order a) ≡ column + row * w
   number : column + a ≡ row * 3 + 2
   most : column ≤ 2
 
@@ -79,9 +83,9 @@ abbrev placeOf : ℕ → ℕ → ℕ → ℕ → ℕ
 placeOf w h c zero = c
 placeOf w h c (suc k) = neighbourAt w h c (suc k)
 
-place-offset : (w h c k : ℕ) → Inner w h c → k ≤ 8 → placeOf w h c k + (w + 1) ≡ c + offsetOf w k
-place-offset w h c zero a l = let e : offsetOf w 0 ≡ 1 + 1 * w = refl in omega (arith, e)
-place-offset w h c (suc k) a l = inner-offset w h c (suc k) (omega arith) l a
+place-offset : (w h c k : ℕ) → Inner w h c → k ≤ 8 → placeOf w h c k + (w + 1) ≡ c + behind w k
+place-offset w h c zero a l = let e : behind w 0 ≡ 1 + 1 * w = refl in omega (arith, e)
+place-offset w h c (suc k) a l = inner-from w h c (suc k) (omega arith) l a
 
 -- the heights after each of the nine loops
 pub record Looped (w h : ℕ) (ts hs : List Float) (y x : ℕ) (totals moved : List Float) (n : ℕ) (out : List Float) (o₁ o₂ o₃ o₄ o₅ o₆ o₇ o₈ o₉ : List Float) : Type 0 where

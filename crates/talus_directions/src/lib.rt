@@ -1,5 +1,7 @@
 // Where blocks of inner cells of a talus pass shed to: one direction after the other is done for all cells of a block, with no test and no branch.
 // A height still gets its losses and gains in the order of the cells.
+use grid::DIRX;
+use grid::DIRY;
 use grid::Sides;
 use inner_cells::beside;
 use talus::excess;
@@ -7,7 +9,6 @@ ghost use mathlib.Core.Path.{_≡_};
 ghost use Prim.Native.Nat.{_<_, _≤_};
 ghost use lib.ListN.{length};
 ghost use Rattle.talus.specs.Places.{InRow};
-ghost use Rattle.inner_cells.specs.Inner.{offsetsOf};
 ghost use Rattle.talus_directions.specs.Parts.{InnerRow, lostFrom, gainedBy, losses, gainsToward, slideAll};
 
 // A height after the loss of its cell, if the cell sheds.
@@ -56,7 +57,6 @@ fn lose_block(
 // The gains of the neighbours in direction d of n inner cells of row y from column x on.
 fn gain_block(
     size: Sides,
-    os: &[usize; 9],
     ts: &[f32; 9],
     hmap: &[f32],
     out: &mut [f32],
@@ -68,7 +68,6 @@ fn gain_block(
     moved: &[f32; 64],
 )
     requires { ⌜ InnerRow (size .w) (size .h) (length (now hmap)) y x n ⌝ }
-    requires { ⌜ now os ≡ offsetsOf (size .w) ⌝ }
     requires { ⌜ length (now out) ≡ length (now hmap) ⌝ }
     requires { ⌜ n ≤ 64 ⌝ }
     requires { ⌜ 1 ≤ d ⌝ }
@@ -77,10 +76,12 @@ fn gain_block(
 {
     let w = size.w;
     let t = ts[d];
+    let dx = DIRX[d];
+    let dy = DIRY[d];
     let mut i: usize = 0;
     while i < n {
         let c = x + i + y * w;
-        let m = beside(size, os, c, d);
+        let m = beside(size, c, dx, dy);
         let e = excess(hmap, c, m, t);
         out[m] = gained(e, totals[i], moved[i], out[m]);
         i += 1;
@@ -91,7 +92,6 @@ fn gain_block(
 // from the south and the south-east, in the order of the cells; so in the own row, with the loss between, and in the row below.
 pub fn slide_directions(
     size: Sides,
-    os: &[usize; 9],
     ts: &[f32; 9],
     hmap: &[f32],
     out: &mut [f32],
@@ -102,18 +102,17 @@ pub fn slide_directions(
     moved: &[f32; 64],
 )
     requires { ⌜ InnerRow (size .w) (size .h) (length (now hmap)) y x n ⌝ }
-    requires { ⌜ now os ≡ offsetsOf (size .w) ⌝ }
     requires { ⌜ length (now out) ≡ length (now hmap) ⌝ }
     requires { ⌜ n ≤ 64 ⌝ }
     ensures { λ _. ⌜ now (out .exit) ≡ slideAll (size .w) (size .h) (now (ts .entry)) (now (hmap .entry)) y x (now (totals .entry)) (now (moved .entry)) n (now (out .entry)) ⌝ }
 {
-    gain_block(size, os, ts, hmap, out, y, x, n, 3, totals, moved);
-    gain_block(size, os, ts, hmap, out, y, x, n, 2, totals, moved);
-    gain_block(size, os, ts, hmap, out, y, x, n, 1, totals, moved);
-    gain_block(size, os, ts, hmap, out, y, x, n, 5, totals, moved);
+    gain_block(size, ts, hmap, out, y, x, n, 3, totals, moved);
+    gain_block(size, ts, hmap, out, y, x, n, 2, totals, moved);
+    gain_block(size, ts, hmap, out, y, x, n, 1, totals, moved);
+    gain_block(size, ts, hmap, out, y, x, n, 5, totals, moved);
     lose_block(size, out, y, x, n, totals, moved);
-    gain_block(size, os, ts, hmap, out, y, x, n, 4, totals, moved);
-    gain_block(size, os, ts, hmap, out, y, x, n, 8, totals, moved);
-    gain_block(size, os, ts, hmap, out, y, x, n, 7, totals, moved);
-    gain_block(size, os, ts, hmap, out, y, x, n, 6, totals, moved);
+    gain_block(size, ts, hmap, out, y, x, n, 4, totals, moved);
+    gain_block(size, ts, hmap, out, y, x, n, 8, totals, moved);
+    gain_block(size, ts, hmap, out, y, x, n, 7, totals, moved);
+    gain_block(size, ts, hmap, out, y, x, n, 6, totals, moved);
 }

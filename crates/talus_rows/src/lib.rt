@@ -1,8 +1,7 @@
-// Rows of a talus pass. The neighbours of an inner cell lie at eight offsets from it, prepared from the direction tables once for each row,
-// and need no test; they are slid in blocks. The cells on the sides of the map are slid as any cell.
+// Rows of a talus pass. The inner cells of a row, whose neighbours need no test, are slid in blocks. The cells on the
+// sides of the map are slid as any cell.
 use grid::Sides;
 use inner_cells::inner_cells;
-use inner_cells::offsets;
 use talus::slide_cells;
 use talus_blocks::slide_block;
 ghost use mathlib.Core.Path.{_≡_};
@@ -10,7 +9,6 @@ ghost use Prim.Native.Nat.{min, _≤_};
 ghost use lib.ListN.{length};
 ghost use Rattle.talus.specs.Talus.{slideCells, slideRow};
 ghost use Rattle.talus.specs.Places.{InRow};
-ghost use Rattle.inner_cells.specs.Inner.{offsetsOf};
 ghost use Rattle.talus_directions.specs.Parts.{InnerRow};
 
 // At most a block of n cells.
@@ -23,7 +21,6 @@ fn block_of(n: usize) -> usize
 // The n inner cells of row y, block by block.
 fn slide_inner_cells(
     size: Sides,
-    os: &[usize; 9],
     ts: &[f32; 9],
     hmap: &[f32],
     out: &mut [f32],
@@ -33,14 +30,13 @@ fn slide_inner_cells(
     n: usize,
 )
     requires { ⌜ InnerRow (size .w) (size .h) (length (now hmap)) y 1 n ⌝ }
-    requires { ⌜ now os ≡ offsetsOf (size .w) ⌝ }
     requires { ⌜ length (now out) ≡ length (now hmap) ⌝ }
     ensures { λ _. ⌜ now (out .exit) ≡ slideCells (size .w) (size .h) (now (ts .entry)) (now (hmap .entry)) strength water y 1 n (now (out .entry)) ⌝ }
 {
     let mut i: usize = 0;
     while i < n {
         let some = block_of(n - i);
-        slide_block(size, os, ts, hmap, out, strength, water, y, 1 + i, some);
+        slide_block(size, ts, hmap, out, strength, water, y, 1 + i, some);
         i += some;
     }
 }
@@ -62,19 +58,7 @@ pub fn slide_row(
 {
     let w = size.w;
     let n = inner_cells(size, y);
-    let os = offsets(w);
-    slide_cells(size, ts, hmap, out, strength, water, y, 0, 1, &os);
-    slide_inner_cells(size, &os, ts, hmap, out, strength, water, y, n);
-    slide_cells(
-        size,
-        ts,
-        hmap,
-        out,
-        strength,
-        water,
-        y,
-        1 + n,
-        w - (1 + n),
-        &os,
-    );
+    slide_cells(size, ts, hmap, out, strength, water, y, 0, 1);
+    slide_inner_cells(size, ts, hmap, out, strength, water, y, n);
+    slide_cells(size, ts, hmap, out, strength, water, y, 1 + n, w - (1 + n));
 }

@@ -6,21 +6,21 @@ use Rattle.flood.proofs.leave.Statement.{statement}
 use Rattle.flood.proofs.leave.Tie as tie
 
 returns : tie.Need-returns
-returns c = onward-none _ _ _ _ _ _ _ _ _ _ (c .if1 .taken) (c .before .before .before .before .before .before .before .pre .1 .1 .1 .0)
+returns c = onward-none _ _ _ _ _ _ _ _ _ _ (c .if1 .taken) (c .before .before .before .before .before .before .before .pre .1 .1 .0)
 
 cast-order : tie.Need-cast-order
-cast-order c = omega (arith, c .if1 .left, c .before .before .before .before .before .before .before .pre .1 .1 .0 .few, c .before .before .before .before .before .before .before .pre .1 .1 .0 .heights)
+cast-order c = omega (arith, c .if1 .left, c .before .before .before .before .before .before .before .pre .1 .0 .few, c .before .before .before .before .before .before .before .pre .1 .0 .heights)
 
 mul-order : tie.Need-mul-order
-mul-order c = omega (arith, c .before .before .before .before .before .before .before .pre .1 .1 .1 .1 (c .if1 .left) .room)
+mul-order c = omega (arith, c .before .before .before .before .before .before .before .pre .1 .1 .1 (c .if1 .left) .room)
 
 slice-write-order : tie.Need-slice-write-order
-slice-write-order c = c .before .before .before .before .before .before .before .pre .1 .1 .1 .1 (c .if1 .left) .room
+slice-write-order c = c .before .before .before .before .before .before .before .pre .1 .1 .1 (c .if1 .left) .room
 
 reach-all-requires : tie.Need-reach-all-requires
 reach-all-requires c κs = let p = c .before .before .before .before .before .before .before .before .before .before .before .pre in
-    let v = p .1 .1 .1 .1 (c .before .before .before .before .if1 .left) in
-    (p .0, (p .1 .0, (p .1 .1 .0, (p .1 .1 .1 .0, (omega (arith, c .before .before .before .before .if1 .left, p .1 .1 .0 .heights), (v .left, v .level))))))
+    let v = p .1 .1 .1 (c .before .before .before .before .if1 .left) in
+    (p .0, (p .1 .0, (p .1 .1 .0, (omega (arith, c .before .before .before .before .if1 .left, p .1 .0 .heights), (v .left, v .level)))))
 
 same-length : tie.Need-same-length
 same-length c = search needs

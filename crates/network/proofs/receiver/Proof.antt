@@ -1,12 +1,11 @@
-use Prim.Native.Nat.{_^_}
-use Prim.Native.Nat.{_-_, _*_, _≤_, _<_}
+use Prim.Native.Nat.{_+_, _-_, _*_, _^_, _≤_, _<_}
 use native.Mathlib.Omega.{arith}
 use mathlib.Core.Path.{_∙_}
 use mathlib.Core.Logic.{inr}
 use Rattle.grid.specs.Sides.{cellOf}
 use Rattle.grid.specs.Directions.{Adjacent}
 use Rattle.grid.proofs.SidesLaws.{cell-lt, cells-bound}
-use Rattle.grid.proofs.NeighbourLaws.{neighbour-cell}
+use Rattle.grid.proofs.NeighbourLaws.{entry-step, entry-neighbour, neighbour-cell}
 use Rattle.network.proofs.ReceiverLaws.{Leading, leading-none, leading-more, leading-done, received-own}
 use Rattle.network.proofs.receiver.Statement.{statement}
 use Rattle.network.proofs.receiver.Tie as tie
@@ -57,14 +56,29 @@ loop-holds c = (omega arith, leading-none _ _ _ _ _ _ (inside (c .before .before
 add-neighbour : tie.Need-add-neighbour Inv-loop μ-loop
 add-neighbour c = omega arith
 
+mul-neighbour : tie.Need-mul-neighbour Inv-loop μ-loop
+mul-neighbour c = omega arith
+
+array-copy-out-neighbour : tie.Need-array-copy-out-neighbour Inv-loop μ-loop
+array-copy-out-neighbour c = omega arith
+
+add-neighbour-2 : tie.Need-add-neighbour-2 Inv-loop μ-loop
+add-neighbour-2 c = omega arith
+
+mul-neighbour-2 : tie.Need-mul-neighbour-2 Inv-loop μ-loop
+mul-neighbour-2 c = omega arith
+
+array-copy-out-neighbour-2 : tie.Need-array-copy-out-neighbour-2 Inv-loop μ-loop
+array-copy-out-neighbour-2 c = omega arith
+
 neighbour-requires : tie.Need-neighbour-requires Inv-loop μ-loop
-neighbour-requires c κs = (c .before .before .before .before .before .before .before .pre .1 .0, omega arith)
+neighbour-requires c κs = (c .before .before .before .before .before .before .before .before .before .pre .1 .0, entry-step (c .before .before .before .loop .d + 1))
 
 add-compare-toward : tie.Need-add-compare-toward Inv-loop μ-loop
 add-compare-toward c = omega arith
 
 compare-toward-requires : tie.Need-compare-toward-requires Inv-loop μ-loop
-compare-toward-requires c κs = (c .before .before .before .before .before .before .before .before .pre .0, (c .before .before .before .before .before .before .before .before .pre .1 .1 .0, (small (c .before .before .before .before .before .before .before), (inside (c .before .before .before .before .before .before .before), omega arith))))
+compare-toward-requires c κs = (c .before .before .before .before .before .before .before .before .before .before .pre .0, (c .before .before .before .before .before .before .before .before .before .before .pre .1 .1 .0, (small (c .before .before .before .before .before .before .before .before .before), (inside (c .before .before .before .before .before .before .before .before .before), omega arith))))
 
 add-d : tie.Need-add-d Inv-loop μ-loop
 add-d c = omega arith
@@ -73,7 +87,7 @@ loop-less : tie.Need-loop-less Inv-loop μ-loop
 loop-less c = omega arith
 
 loop-again : tie.Need-loop-again Inv-loop μ-loop
-loop-again c = (omega arith, leading-more _ _ _ _ _ _ _ _ _ _ (c .before .before .before .loop .inv .1) (c .before .neighbour .ensures ∙ neighbour-cell _ _ _ _ _ (c .before .before .before .before .before .before .before .before .before .pre .1 .0 .column)) (c .compare-toward .ensures))
+loop-again c = (omega arith, leading-more _ _ _ _ _ _ _ _ _ _ (c .before .before .before .before .before .loop .inv .1) (entry-neighbour _ _ _ _ (c .before .before .before .before .before .loop .d + 1) (c .before .neighbour .ensures) ∙ neighbour-cell _ _ _ _ _ (c .before .before .before .before .before .before .before .before .before .before .before .pre .1 .0 .column)) (c .compare-toward .ensures))
 
 returns-2 : tie.Need-returns-2 Inv-loop μ-loop
 returns-2 c = leading-done _ _ _ _ _ _ _ _ (c .before .before .before .before .before .if1 .left) (c .before .loop .inv .0) (c .loop-test .left) (c .before .loop .inv .1)
@@ -94,6 +108,11 @@ receiver-spec =
     receiver-distance-requires
     loop-holds
     add-neighbour
+    mul-neighbour
+    array-copy-out-neighbour
+    add-neighbour-2
+    mul-neighbour-2
+    array-copy-out-neighbour-2
     neighbour-requires
     add-compare-toward
     compare-toward-requires

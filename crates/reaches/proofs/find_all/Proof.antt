@@ -1,8 +1,9 @@
-use Prim.Native.Nat.{suc, _-_}
+use Prim.Native.Nat.{suc, _+_, _-_}
 use native.Mathlib.Omega.{arith}
 use Rattle.lists.proofs.FillLaws.{Filling, filling-none, filling-more, filling-done}
 use Rattle.grid.specs.Directions.{neighbourAt}
 use Rattle.grid.proofs.SidesLaws.{some-column, place-of}
+use Rattle.grid.proofs.NeighbourLaws.{entry-step, entry-neighbour}
 use Rattle.reaches.proofs.ByLaws.{near-next}
 use Rattle.reaches.proofs.find_all.Statement.{statement}
 use Rattle.reaches.proofs.find_all.Tie as tie
@@ -25,8 +26,23 @@ loop-holds c = filling-none
 add-neighbour : tie.Need-add-neighbour Inv-loop μ-loop
 add-neighbour c = omega arith
 
+mul-neighbour : tie.Need-mul-neighbour Inv-loop μ-loop
+mul-neighbour c = omega arith
+
+array-copy-out-neighbour : tie.Need-array-copy-out-neighbour Inv-loop μ-loop
+array-copy-out-neighbour c = omega arith
+
+add-neighbour-2 : tie.Need-add-neighbour-2 Inv-loop μ-loop
+add-neighbour-2 c = omega arith
+
+mul-neighbour-2 : tie.Need-mul-neighbour-2 Inv-loop μ-loop
+mul-neighbour-2 c = omega arith
+
+array-copy-out-neighbour-2 : tie.Need-array-copy-out-neighbour-2 Inv-loop μ-loop
+array-copy-out-neighbour-2 c = omega arith
+
 neighbour-requires : tie.Need-neighbour-requires Inv-loop μ-loop
-neighbour-requires c κs = (place-of (c .before .before .before .before .pre .0) _ (c .before .before .before .before .pre .1 .0), omega arith)
+neighbour-requires c κs = (place-of (c .before .before .before .before .before .before .pre .0) _ (c .before .before .before .before .before .before .pre .1 .0), entry-step (c .before .before .before .loop .d + 1))
 
 mul-found : tie.Need-mul-found Inv-loop μ-loop
 mul-found c = omega arith
@@ -41,7 +57,7 @@ loop-less : tie.Need-loop-less Inv-loop μ-loop
 loop-less c = omega arith
 
 loop-again : tie.Need-loop-again Inv-loop μ-loop
-loop-again c = filling-more (c .before .before .loop .inv) (near-next _ _ _ (c .before .before .loop .d) _ (c .neighbour .ensures)) (omega (arith, c .before .before .before .before .before .pre .1 .1, c .before .loop-test .taken))
+loop-again c = filling-more (c .before .before .before .before .loop .inv) (near-next _ _ _ (c .before .before .before .before .loop .d) _ (entry-neighbour _ _ _ _ (c .before .before .before .before .loop .d + 1) (c .neighbour .ensures))) (omega (arith, c .before .before .before .before .before .before .before .pre .1 .1, c .before .before .before .loop-test .taken))
 
 returns : tie.Need-returns Inv-loop μ-loop
 returns c = filling-done (c .before .loop .inv) 8 (c .before .before .before .before .pre .1 .1) (c .loop-test .left)
@@ -56,6 +72,11 @@ find-all-spec =
     div-y
     loop-holds
     add-neighbour
+    mul-neighbour
+    array-copy-out-neighbour
+    add-neighbour-2
+    mul-neighbour-2
+    array-copy-out-neighbour-2
     neighbour-requires
     mul-found
     element-write-found

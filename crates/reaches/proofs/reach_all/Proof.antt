@@ -17,12 +17,12 @@ is-inner-requires c κs = search needs
 find-unpushed-requires : tie.Need-find-unpushed-requires
 find-unpushed-requires c κs =
     let p = c .before .before .before .before .before .before .before .before .before .pre in
-    (is-inner _ _ _ (p .1 .1 .1 .1 .0) (p .0 .wide) (p .0 .high) (sym (c .before .before .before .is-inner .ensures) ∙ c .before .before .if1 .taken), (p .1 .0, (p .1 .1 .0 .statuses, refl)))
+    (is-inner _ _ _ (p .1 .1 .1 .0) (p .0 .wide) (p .0 .high) (sym (c .before .before .before .is-inner .ensures) ∙ c .before .before .if1 .taken), (p .1 .0 .statuses, refl))
 
 reach-found-requires : tie.Need-reach-found-requires
 reach-found-requires c κs =
     let f = c .before .before .before .before .before .find-unpushed .ensures in
-    let p = c .before .before .before .before .before .before .before .before .before .before .before .before .before .before .before .pre .1 .1 in
+    let p = c .before .before .before .before .before .before .before .before .before .before .before .before .before .before .before .pre .1 in
     (f .long, (f .few, (sizes-whole (p .0), (p .1 .0, (omega (arith, p .1 .1 .0, p .0 .heights), p .1 .1 .1)))))
 
 same-length : tie.Need-same-length
@@ -46,7 +46,7 @@ find-all-requires c κs = search needs
 reach-found-requires-2 : tie.Need-reach-found-requires-2
 reach-found-requires-2 c κs =
     let a = c .before .before .before .before .before .before .before .before .before .before .before .before .before .before .args in
-    let p = c .before .before .before .before .before .before .before .before .before .before .before .before .before .before .pre .1 .1 in
+    let p = c .before .before .before .before .before .before .before .before .before .before .before .before .before .before .pre .1 in
     (ap length (c .before .before .before .before .before .find-all .ensures) ∙ length-tabulate (λ i. neighbourAt (a .g .w) (a .g .h) (a .c) (suc i)) 8, (omega arith, (sizes-whole (p .0), (p .1 .0, (omega (arith, p .1 .1 .0, p .0 .heights), p .1 .1 .1)))))
 
 same-length-5 : tie.Need-same-length-5

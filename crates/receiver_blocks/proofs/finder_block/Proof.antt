@@ -52,35 +52,28 @@ mul-slopes c = omega (arith, c .before .before .loop-test .taken, c .before .bef
 element-write-slopes : tie.Need-element-write-slopes Inv-loop μ-loop
 element-write-slopes c = omega (arith, c .before .before .loop-test .taken, c .before .before .before .before .before .before .pre .1 .1 .1 .1 .1 .0)
 
-add-cells : tie.Need-add-cells Inv-loop μ-loop
-add-cells c = omega (arith, cell (c .before .before) .wide)
+add-offset : tie.Need-add-offset Inv-loop μ-loop
+add-offset c = omega (arith, inner-inside (cell (c .before .before)), inner-few (cell (c .before .before)))
 
-add-cells-2 : tie.Need-add-cells-2 Inv-loop μ-loop
-add-cells-2 c = omega (arith, cell (c .before .before) .wide, near-inside _ _ _ _ (inner-inside (cell (c .before .before))) (finder (c .before .before)), inner-few (cell (c .before .before)))
-
-add-cells-3 : tie.Need-add-cells-3 Inv-loop μ-loop
-add-cells-3 c = omega (arith, inner-inside (cell (c .before .before)), inner-few (cell (c .before .before)))
-
-sub-cells : tie.Need-sub-cells Inv-loop μ-loop
-sub-cells c = finder-back (cell (c .before .before)) (finder (c .before .before))
-
-cast-cells : tie.Need-cast-cells Inv-loop μ-loop
-cast-cells c = omega (arith, finder-ahead (cell (c .before .before)) (finder (c .before .before)), cell (c .before .before) .wide)
+offset-requires : tie.Need-offset-requires Inv-loop μ-loop
+offset-requires c κs =
+    let a = cell (c .before .before) in
+    (a .wide, (finder-back a (finder (c .before .before)), (finder-ahead a (finder (c .before .before)), omega (arith, inner-inside a, inner-few a))))
 
 mul-cells : tie.Need-mul-cells Inv-loop μ-loop
-mul-cells c = omega (arith, c .before .before .loop-test .taken, c .before .before .before .before .before .before .pre .1 .1 .1 .1 .1 .0)
+mul-cells c = omega (arith, c .before .before .before .loop-test .taken, c .before .before .before .before .before .before .before .pre .1 .1 .1 .1 .1 .0)
 
 element-write-cells : tie.Need-element-write-cells Inv-loop μ-loop
-element-write-cells c = omega (arith, c .before .before .loop-test .taken, c .before .before .before .before .before .before .pre .1 .1 .1 .1 .1 .0)
+element-write-cells c = omega (arith, c .before .before .before .loop-test .taken, c .before .before .before .before .before .before .before .pre .1 .1 .1 .1 .1 .0)
 
 add-i : tie.Need-add-i Inv-loop μ-loop
-add-i c = omega (arith, c .before .before .loop-test .taken, c .before .before .before .before .before .before .pre .1 .1 .1 .1 .1 .0)
+add-i c = omega (arith, c .before .before .before .loop-test .taken, c .before .before .before .before .before .before .before .pre .1 .1 .1 .1 .1 .0)
 
 loop-less : tie.Need-loop-less Inv-loop μ-loop
-loop-less c = omega (arith, c .before .before .loop-test .taken)
+loop-less c = omega (arith, c .before .before .before .loop-test .taken)
 
 loop-again : tie.Need-loop-again Inv-loop μ-loop
-loop-again c = (omega (arith, c .before .before .loop-test .taken), (filling-more (c .before .before .before .loop .inv .1 .0) refl (omega (arith, c .before .before .loop-test .taken, c .before .before .before .before .before .before .pre .1 .1 .1 .1 .1)), filling-more (c .before .before .before .loop .inv .1 .1) (c .finder-slope .ensures) (omega (arith, c .before .before .loop-test .taken, c .before .before .before .before .before .before .pre .1 .1 .1 .1 .1))))
+loop-again c = (omega (arith, c .before .before .before .loop-test .taken), (filling-more (c .before .before .before .before .loop .inv .1 .0) (c .offset .ensures) (omega (arith, c .before .before .before .loop-test .taken, c .before .before .before .before .before .before .before .pre .1 .1 .1 .1 .1)), filling-more (c .before .before .before .before .loop .inv .1 .1) (c .before .finder-slope .ensures) (omega (arith, c .before .before .before .loop-test .taken, c .before .before .before .before .before .before .before .pre .1 .1 .1 .1 .1))))
 
 returns : tie.Need-returns Inv-loop μ-loop
 returns c = record { offsets = stored (c .before .loop .inv .1 .0) (c .before .loop .inv .0) (c .loop-test .left); downs = stored (c .before .loop .inv .1 .1) (c .before .loop .inv .0) (c .loop-test .left) }
@@ -100,11 +93,8 @@ finder-block-spec =
     finder-slope-requires
     mul-slopes
     element-write-slopes
-    add-cells
-    add-cells-2
-    add-cells-3
-    sub-cells
-    cast-cells
+    add-offset
+    offset-requires
     mul-cells
     element-write-cells
     add-i

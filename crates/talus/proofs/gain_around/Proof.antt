@@ -1,23 +1,49 @@
 use Prim.Native.Nat.{_-_}
 use mathlib.Core.Path.{_≡_, refl, _∙_}
+use native.Mathlib.Omega.{arith}
 use borrow.Author.Needs.{needs}
 use lib.ListN.{length}
+use Rattle.grid.specs.Directions.{neighbourAt}
+use Rattle.grid.proofs.NeighbourLaws.{entry-step, entry-neighbour}
 use Rattle.talus.specs.Talus.{gainStep, gainsOf}
-use Rattle.talus.proofs.StepLaws.{Around, around-none, around-more, around-done}
+use Rattle.talus.proofs.StepLaws.{cell-below, inner-in-map, gain-step, Around, around-none, around-more, around-done}
 use Rattle.talus.proofs.gain_around.Statement.{statement}
 use Rattle.talus.proofs.gain_around.Tie as tie
 
 abbrev Inv-loop : tie.InvT-loop
-Inv-loop size ts hmap out₀ x y c moved total os inner d₀ out d = Around (gainStep (size .w) (size .h) ts hmap c moved total) out₀ d out × (length out ≡ length out₀)
+Inv-loop size ts hmap out₀ x y c moved total inner d₀ out d = Around (gainStep (size .w) (size .h) ts hmap c moved total) out₀ d out × (length out ≡ length out₀)
 
 abbrev μ-loop : tie.MeasureT-loop
-μ-loop size ts hmap out₀ x y c moved total os inner d₀ out d = 9 - d
+μ-loop size ts hmap out₀ x y c moved total inner d₀ out d = 9 - d
 
 loop-holds : tie.Need-loop-holds Inv-loop μ-loop
 loop-holds c = (around-none _ _, refl)
 
+mul-cell-toward : tie.Need-mul-cell-toward Inv-loop μ-loop
+mul-cell-toward c = omega arith
+
+array-copy-out-cell-toward : tie.Need-array-copy-out-cell-toward Inv-loop μ-loop
+array-copy-out-cell-toward c = omega arith
+
+mul-cell-toward-2 : tie.Need-mul-cell-toward-2 Inv-loop μ-loop
+mul-cell-toward-2 c = omega arith
+
+array-copy-out-cell-toward-2 : tie.Need-array-copy-out-cell-toward-2 Inv-loop μ-loop
+array-copy-out-cell-toward-2 c = omega arith
+
+cell-toward-requires : tie.Need-cell-toward-requires Inv-loop μ-loop
+cell-toward-requires c κs =
+    let p = c .before .before .before .before .before .before .pre in
+    (record { place = p .0 .place; cells = refl; cell = p .0 .cell }, (p .1 .1, entry-step (c .before .before .before .loop .d)))
+
+-- the neighbour of this turn
+near : (c : tie.After-cell-toward Inv-loop μ-loop) → c .cell-toward .result ≡ neighbourAt (c .before .before .before .before .before .before .before .args .size .w) (c .before .before .before .before .before .before .before .args .size .h) (c .before .before .before .before .before .before .before .args .c) (c .before .before .before .before .loop .d)
+near c = entry-neighbour _ _ _ _ (c .before .before .before .before .loop .d) (c .cell-toward .ensures)
+
 gain-toward-requires : tie.Need-gain-toward-requires Inv-loop μ-loop
-gain-toward-requires c κs = (c .before .before .before .before .before .pre .0, (c .before .before .loop .inv .1 ∙ c .before .before .before .before .before .pre .1 .0, (c .before .before .before .before .before .pre .1 .1, (c .before .before .loop .inv .0 .first, c .before .loop-test .taken))))
+gain-toward-requires c κs =
+    let p = c .before .before .before .before .before .before .before .before .pre in
+    (c .before .before .before .before .before .loop .inv .1 ∙ p .1 .0, (cell-below (p .0), (inner-in-map (p .1 .1) (c .before .before .before .before .before .loop .d) _ _ (c .before .before .before .before .before .loop .inv .0 .first) (c .before .before .before .before .loop-test .taken) (p .0 .cells) (near (c .before)), c .before .before .before .before .loop-test .taken)))
 
 add-d : tie.Need-add-d Inv-loop μ-loop
 add-d c = search needs
@@ -26,7 +52,11 @@ loop-less : tie.Need-loop-less Inv-loop μ-loop
 loop-less c = search needs
 
 loop-again : tie.Need-loop-again Inv-loop μ-loop
-loop-again c = (around-more _ _ _ _ _ (c .before .before .before .before .before .loop .inv .0) (c .before .before .before .before .loop-test .taken) (c .before .before .gain-toward .ensures), c .before .before .gain-toward .kept .1 .1 .1 .0 ∙ c .before .before .before .before .before .loop .inv .1)
+loop-again c = (
+  around-more _ _ _ _ _ (c .before .before .before .before .before .before .before .before .loop .inv .0) (c .before .before .before .before .before .before .before .loop-test .taken)
+      (gain-step _ _ _ _ _ _ (c .before .before .before .before .before .before .before .before .loop .d) _ (c .before .before .before .before .before .before .before .before .before .before .before .pre .0 .cells) (near (c .before .before .before .before)) _ _ _ _ (c .before .before .gain-toward .ensures)),
+  c .before .before .gain-toward .kept .1 .1 .0 ∙ c .before .before .before .before .before .before .before .before .loop .inv .1,
+)
 
 same-length : tie.Need-same-length Inv-loop μ-loop
 same-length c = c .before .loop .inv .1
@@ -42,6 +72,11 @@ gain-around-spec =
     Inv-loop
     μ-loop
     loop-holds
+    mul-cell-toward
+    array-copy-out-cell-toward
+    mul-cell-toward-2
+    array-copy-out-cell-toward-2
+    cell-toward-requires
     gain-toward-requires
     add-d
     loop-less

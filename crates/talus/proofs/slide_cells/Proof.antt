@@ -7,10 +7,10 @@ use Rattle.talus.proofs.slide_cells.Statement.{statement}
 use Rattle.talus.proofs.slide_cells.Tie as tie
 
 abbrev Inv-loop : tie.InvT-loop
-Inv-loop size ts hmap out₀ strength water y x n os w i₀ out i = Passing (λ k. slideCell (size .w) (size .h) ts hmap strength water (x + k + y * size .w)) n i out₀ out
+Inv-loop size ts hmap out₀ strength water y x n w i₀ out i = Passing (λ k. slideCell (size .w) (size .h) ts hmap strength water (x + k + y * size .w)) n i out₀ out
 
 abbrev μ-loop : tie.MeasureT-loop
-μ-loop size ts hmap out₀ strength water y x n os w i₀ out i = n - i
+μ-loop size ts hmap out₀ strength water y x n w i₀ out i = n - i
 
 loop-holds : tie.Need-loop-holds Inv-loop μ-loop
 loop-holds c = passing-none

@@ -6,7 +6,7 @@ use Rattle.talus_blocks.proofs.slide_block.Statement.{statement}
 use Rattle.talus_blocks.proofs.slide_block.Tie as tie
 
 shed-block-requires : tie.Need-shed-block-requires
-shed-block-requires c κs = (c .before .before .before .before .pre .0, (c .before .before .before .before .pre .1 .0, (c .before .before .before .before .pre .1 .1 .1, (refl, refl))))
+shed-block-requires c κs = (c .before .before .before .before .pre .0, (c .before .before .before .before .pre .1 .1, (refl, refl)))
 
 shedding-requires : tie.Need-shedding-requires
 shedding-requires c κs = search needs
@@ -15,7 +15,7 @@ returns : tie.Need-returns
 returns c = block-still _ _ _ _ _ _ _ _ _ _ _ _ (sheds-put (c .before .before .before .shed-block .ensures)) (sym (c .before .shedding .ensures) ∙ c .if1 .taken)
 
 slide-few-requires : tie.Need-slide-few-requires
-slide-few-requires c κs = (c .before .before .before .before .before .before .before .before .before .before .before .before .pre .0, (c .before .before .before .before .before .before .before .before .before .before .before .before .pre .1 .0, (c .before .before .before .before .before .before .before .before .before .before .before .before .pre .1 .1 .0, (c .before .before .before .before .before .before .before .before .before .before .before .before .pre .1 .1 .1, sheds-put (c .before .before .before .before .before .before .before .shed-block .ensures)))))
+slide-few-requires c κs = (c .before .before .before .before .before .before .before .before .before .before .before .before .pre .0, (c .before .before .before .before .before .before .before .before .before .before .before .before .pre .1 .0, (c .before .before .before .before .before .before .before .before .before .before .before .before .pre .1 .1, sheds-put (c .before .before .before .before .before .before .before .shed-block .ensures))))
 
 same-length : tie.Need-same-length
 same-length c = search needs

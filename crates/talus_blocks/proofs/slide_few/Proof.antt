@@ -9,17 +9,17 @@ use Rattle.talus_blocks.proofs.slide_few.Statement.{statement}
 use Rattle.talus_blocks.proofs.slide_few.Tie as tie
 
 abbrev Inv-loop : tie.InvT-loop
-Inv-loop size os ts hmap out₀ strength water y x n totals moved w i₀ out i = Passing (λ k. slideCell (size .w) (size .h) ts hmap strength water (x + k + y * size .w)) n i out₀ out
+Inv-loop size ts hmap out₀ strength water y x n totals moved w i₀ out i = Passing (λ k. slideCell (size .w) (size .h) ts hmap strength water (x + k + y * size .w)) n i out₀ out
 
 abbrev μ-loop : tie.MeasureT-loop
-μ-loop size os ts hmap out₀ strength water y x n totals moved w i₀ out i = n - i
+μ-loop size ts hmap out₀ strength water y x n totals moved w i₀ out i = n - i
 
 -- the cell of this turn is one of the map's, and one of the block's
 below : (c : tie.In-loop Inv-loop μ-loop) → c .before .before .before .before .args .x + c .before .loop .i + c .before .before .before .before .args .y * c .before .before .before .before .args .size .w < length (c .before .before .before .before .args .hmap .now)
 below c = row-cell-below (c .before .loop .i) (c .before .before .before .before .pre .0 .row) (c .loop-test .taken)
 
 few : (c : tie.In-loop Inv-loop μ-loop) → c .before .loop .i < 64
-few c = omega (arith, c .loop-test .taken, c .before .before .before .before .pre .1 .1 .1 .0)
+few c = omega (arith, c .loop-test .taken, c .before .before .before .before .pre .1 .1 .0)
 
 loop-holds : tie.Need-loop-holds Inv-loop μ-loop
 loop-holds c = passing-none
@@ -49,7 +49,7 @@ element-copy-out-slide-inside-2 : tie.Need-element-copy-out-slide-inside-2 Inv-l
 element-copy-out-slide-inside-2 c = few (c .before .before)
 
 slide-inside-requires : tie.Need-slide-inside-requires Inv-loop μ-loop
-slide-inside-requires c κs = (inner-column (c .before .before .before .before .before .before .before .pre .0) (c .before .before .before .before .loop .i) (c .before .before .before .loop-test .taken), (c .before .before .before .before .before .before .before .pre .1 .0, (row-cell-at (c .before .before .before .before .loop .i) (c .before .before .before .before .before .before .before .pre .0 .row) (c .before .before .before .loop-test .taken), (c .before .before .before .before .loop .inv .long ∙ c .before .before .before .before .before .before .before .pre .1 .1 .0, (c .before .before .before .before .before .before .before .pre .1 .1 .1 .1 .total (c .before .before .before .before .loop .i) (c .before .before .before .loop-test .taken), c .before .before .before .before .before .before .before .pre .1 .1 .1 .1 .loss (c .before .before .before .before .loop .i) (c .before .before .before .loop-test .taken))))))
+slide-inside-requires c κs = (inner-column (c .before .before .before .before .before .before .before .pre .0) (c .before .before .before .before .loop .i) (c .before .before .before .loop-test .taken), (row-cell-at (c .before .before .before .before .loop .i) (c .before .before .before .before .before .before .before .pre .0 .row) (c .before .before .before .loop-test .taken), (c .before .before .before .before .loop .inv .long ∙ c .before .before .before .before .before .before .before .pre .1 .0, (c .before .before .before .before .before .before .before .pre .1 .1 .1 .total (c .before .before .before .before .loop .i) (c .before .before .before .loop-test .taken), c .before .before .before .before .before .before .before .pre .1 .1 .1 .loss (c .before .before .before .before .loop .i) (c .before .before .before .loop-test .taken)))))
 
 add-i : tie.Need-add-i Inv-loop μ-loop
 add-i c = omega (arith, few (c .before .before .before .before .before .before))
@@ -58,7 +58,7 @@ loop-less : tie.Need-loop-less Inv-loop μ-loop
 loop-less c = omega (arith, c .before .before .before .before .before .before .loop-test .taken)
 
 loop-again : tie.Need-loop-again Inv-loop μ-loop
-loop-again c = passing-more (c .before .before .before .before .before .before .before .loop .inv) (c .before .before .before .before .before .before .loop-test .taken) (c .before .before .slide-inside .kept .1 .1 .1 .1 .0) (c .before .before .slide-inside .ensures)
+loop-again c = passing-more (c .before .before .before .before .before .before .before .loop .inv) (c .before .before .before .before .before .before .loop-test .taken) (c .before .before .slide-inside .kept .1 .1 .1 .0) (c .before .before .slide-inside .ensures)
 
 same-length : tie.Need-same-length Inv-loop μ-loop
 same-length c = c .before .loop .inv .long
