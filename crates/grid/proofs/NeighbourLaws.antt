@@ -9,7 +9,7 @@ use lib.IntN.{ℤ, pos, negsuc, negℤ, natAbs}
 use lib.ListN.{getD}
 use mir.Syntax.{w32}
 use mir.Val.{ofZ, toZ}
-use lib.Dec.{ltb, lit≤}
+use lib.Dec.{ltb}
 use borrow.Author.Tests.{lt-ltb, le-ltb, ltb-true}
 use Rattle.lists.proofs.TestLaws.{clash, not-second}
 use Rattle.grid.specs.Sides.{cellOf, columnOf, rowOf}

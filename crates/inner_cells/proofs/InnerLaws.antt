@@ -1,16 +1,16 @@
 -- Inner cells: their neighbours are all in the grid.
-use Prim.Native.Nat.{ℕ, zero, suc, _+_, _-_, _*_, _^_, _≤_, _<_}
-use mathlib.Core.Path.{_≡_, refl, sym, ap, ap₂, _∙_, subst}
+use Prim.Native.Nat.{ℕ, zero, suc, _+_, _-_, _*_, _≤_, _<_}
+use mathlib.Core.Path.{_≡_, refl, sym, ap, _∙_, subst}
 use mathlib.Core.Bool.{Bool, true, false, cond, _||_, not, true≢false}
 use native.Mathlib.Nat.{mul-le-mul, le-refl}
 use native.Mathlib.Omega.{arith}
 use lib.Dec.{eqb, ltb}
 use lib.IntN.{ℤ, pos, negsuc, natAbs}
-use borrow.Author.Tests.{ltb-true, ltb-false, eqb-false}
+use borrow.Author.Tests.{ltb-false, eqb-false}
 use Rattle.grid.specs.Sides.{cellOf, columnOf, rowOf}
 use Rattle.grid.specs.Base.{borderAt}
 use Rattle.grid.specs.Directions.{Step, shiftedOf, steppedAt, neighbourAt}
-use Rattle.grid.proofs.SidesLaws.{cell-lt, cell-back, column-cell, row-cell, column-lt, row-lt, cells-bound}
+use Rattle.grid.proofs.SidesLaws.{cell-lt, cell-back, column-cell, row-cell, column-lt, row-lt}
 use Rattle.grid.proofs.BaseLaws.{border-ends}
 use Rattle.grid.proofs.NeighbourLaws.{stepX, stepY, by-step, within, shift-ahead, shift-behind, step-of}
 use Rattle.inner_cells.specs.Inner.{Inner, InnerRun, innerOf}

@@ -1,6 +1,6 @@
 -- `beside` in signed arithmetic of 64 bits: what the machine reads back of each sum and product is the number itself.
 use Prim.Native.Nat.{ℕ, zero, suc, _+_, _-_, _*_, _^_, _≤_, _<_}
-use mathlib.Core.Path.{_≡_, refl, sym, ap, _∙_}
+use mathlib.Core.Path.{_≡_, ap, _∙_}
 use native.Mathlib.Omega.{arith}
 use lib.Dec.{T}
 use lib.IntN.{ℤ, pos, negsuc, natAbs, negℤ, _+ℤ_, _*ℤ_}
@@ -15,7 +15,7 @@ use Rattle.grid.proofs.ShiftedLaws.{read-small}
 use Rattle.inner_cells.specs.Inner.{Inner}
 use Rattle.inner_cells.proofs.InnerLaws.{ahead, inner-behind, step-cell, step-from}
 
--- c moved by a step of at most one, and a moved by as many rows of w cells
+-- c moved by a step of at most one
 column-moved : (z : ℤ) (c : ℕ) → natAbs z ≤ 1 → 1 ≤ c → pos c +ℤ z ≡ pos (c + ahead z - 1)
 column-moved (pos zero) c s l = ap pos (omega arith)
 column-moved (pos (suc zero)) c s l = ap pos (omega arith)
@@ -36,6 +36,7 @@ back w l =
     let e : 1 * w ≡ suc (w - 1) = omega arith in
     ap (λ (k : ℕ). negℤ (pos k)) e
 
+-- a moved by as many rows of w cells
 rows-moved : (z : ℤ) (w a : ℕ) → natAbs z ≤ 1 → 1 ≤ w → w ≤ a → pos a +ℤ (z *ℤ pos w) ≡ pos (a + ahead z * w - w)
 rows-moved (pos zero) w a s l m = ap pos (omega arith)
 rows-moved (pos (suc zero)) w a s l m = ap pos (omega arith)

@@ -1,7 +1,6 @@
 use mathlib.Core.Path.{sym, _∙_}
 use Rattle.grid.proofs.NeighbourLaws.{read-step, read-stepped}
 use Rattle.talus.proofs.StepLaws.{cell-stepped}
-use borrow.Author.Needs.{needs}
 use Rattle.talus.proofs.cell_toward.Statement.{statement}
 use Rattle.talus.proofs.cell_toward.Tie as tie
 

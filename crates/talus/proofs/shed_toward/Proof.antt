@@ -1,6 +1,5 @@
 use mathlib.Core.Path.{sym, _∙_}
 use borrow.Author.Tests.{ltb-true}
-use borrow.Author.Needs.{needs}
 use Rattle.talus.proofs.shed_toward.Statement.{statement}
 use Rattle.talus.proofs.shed_toward.Tie as tie
 
