@@ -5,7 +5,6 @@ use floats::fract;
 use floats::index;
 use floats::is_finite;
 use grid::Sides;
-use grid::all_finite;
 use grid::bad_sides;
 use grid::first_not_finite;
 use resample::bad_length;
@@ -96,7 +95,8 @@ pub fn bilinear(v: &[f32], x: f32, y: f32, size: Sides) -> Value
     if bad_sides(size) {
         return Value::Refused(Refusal::Side);
     }
-    if bad_length(v.len(), size) {
+    let n = v.len();
+    if bad_length(n, size) {
         return Value::Refused(Refusal::Length);
     }
     if bad_coordinate(x, size.w) {
@@ -105,8 +105,9 @@ pub fn bilinear(v: &[f32], x: f32, y: f32, size: Sides) -> Value
     if bad_coordinate(y, size.h) {
         return Value::Refused(Refusal::Setting);
     }
-    if !all_finite(v) {
-        return Value::Refused(Refusal::Height(first_not_finite(v)));
+    let bad = first_not_finite(size, v);
+    if bad != n {
+        return Value::Refused(Refusal::Height(bad));
     }
     let s = sample(v, x, y, size);
     if !is_finite(s) {

@@ -71,7 +71,7 @@ fn refusal(size: Sides, h: &[f32], water_level: f32, l: Lent) -> Answer
     if !is_finite(water_level) {
         return Answer::Refused(Refusal::Setting);
     }
-    let bad = first_not_finite(h);
+    let bad = first_not_finite(size, h);
     if bad != n {
         return Answer::Refused(Refusal::Height(bad));
     }

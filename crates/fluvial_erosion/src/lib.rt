@@ -256,7 +256,7 @@ fn refusal(
     if bad_incision(params) {
         return Answer::Refused(Refusal::Setting);
     }
-    let height = first_not_finite(hmap);
+    let height = first_not_finite(size, hmap);
     if height != n {
         return Answer::Refused(Refusal::Height(height));
     }

@@ -3,6 +3,7 @@ use answers::Answer;
 use answers::Refusal;
 use answers::outside;
 use floats::is_finite;
+use grid::Sides;
 use grid::first_not_finite;
 ghost use Prim.Native.Nat.{_-_, _^_, _<_};
 ghost use mathlib.Core.Path.{_≡_};
@@ -152,7 +153,7 @@ pub fn get_min_max(v: &[f32]) -> Extent
     ensures { λ r. ⌜ extentOf r ≡ getMinMaxAnswer (now (v .entry)) ⌝ }
 {
     let n = v.len();
-    let bad = first_not_finite(v);
+    let bad = first_not_finite(Sides { w: n, h: 1 }, v);
     if bad != n {
         return Extent::Refused(Refusal::Height(bad));
     }
@@ -221,7 +222,7 @@ pub fn normalize(v: &mut [f32], target_min: f32, target_max: f32) -> Answer
         return Answer::Refused(Refusal::Setting);
     }
     let n = v.len();
-    let bad = first_not_finite(v);
+    let bad = first_not_finite(Sides { w: n, h: 1 }, v);
     if bad != n {
         return Answer::Refused(Refusal::Height(bad));
     }

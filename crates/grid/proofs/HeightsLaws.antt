@@ -11,9 +11,8 @@ use lib.Ieee.{Float, nan}
 use lib.Ieee.Scale.{finite}
 use borrow.Author.Tests.{eq-eqb, ne-eqb, eqb-true}
 use Rattle.lists.specs.Loops.{tabulate}
-use Rattle.lists.specs.Firsts.{First}
 use Rattle.lists.proofs.LoopLaws.{at-end, below-suc}
-use Rattle.lists.proofs.TableLaws.{length-tabulate, getD-tabulate, tabulate-getD}
+use Rattle.lists.proofs.TableLaws.{tabulate-getD}
 use Rattle.grid.specs.Heights.{firstNotFinite, allFinite, FiniteBelow, FirstBad}
 
 pub below-none : (hs : List Float) (n : ℕ) → n ≤ 0 → FiniteBelow hs n
@@ -75,31 +74,6 @@ first-below (x ∷ xs) = go (finite x) refl (first-below xs)
     go : (b : Bool) → finite x ≡ b → FiniteBelow xs (firstNotFinite xs) → FiniteBelow (x ∷ xs) (cond b (suc (firstNotFinite xs)) 0)
     go true e p = below-cons e p
     go false e p = below-none (x ∷ xs) 0 (omega arith)
-
--- which is not, where there is one
-first-fails : (hs : List Float) → firstNotFinite hs < length hs → finite (getD hs (firstNotFinite hs) nan) ≡ false
-unfolding firstNotFinite
-first-fails [] l = absurd (omega arith)
-first-fails (x ∷ xs) l = go (finite x) refl (first-fails xs) l
-  where
-    go : (b : Bool) → finite x ≡ b → (firstNotFinite xs < length xs → finite (getD xs (firstNotFinite xs) nan) ≡ false)
-        → cond b (suc (firstNotFinite xs)) 0 < suc (length xs) → finite (getD (x ∷ xs) (cond b (suc (firstNotFinite xs)) 0) nan) ≡ false
-    go true e r l = r (omega arith)
-    go false e r l = e
-
--- of values f 0, f 1, …
-pub first-table : (f : ℕ → Float) (n : ℕ) → First n (λ i. finite (f i)) (firstNotFinite (tabulate n f))
-first-table f n = record {
-  bound = le;
-  earlier = λ i l. sym (at i (omega (arith, le))) ∙ first-below (tabulate n f) .each i l;
-  fails = λ l. sym (at (firstNotFinite (tabulate n f)) l) ∙ first-fails (tabulate n f) (omega (arith, length-tabulate f n));
-}
-  where
-    le : firstNotFinite (tabulate n f) ≤ n
-    le = omega (arith, first-le (tabulate n f), length-tabulate f n)
-
-    at : (i : ℕ) → i < n → finite (getD (tabulate n f) i nan) ≡ finite (f i)
-    at i l = ap finite (getD-tabulate f n i nan l)
 
 -- all heights are finite exactly if none is the first bad one
 pub below-all : {hs : List Float} → FiniteBelow hs (length hs) → allFinite hs ≡ true

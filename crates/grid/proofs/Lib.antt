@@ -4,4 +4,5 @@ pub mod ShiftedLaws
 pub mod NeighbourLaws
 pub mod ReachLaws
 pub mod HeightsLaws
+pub mod WalkLaws
 pub mod BaseLaws

@@ -173,29 +173,40 @@ pub fn all_finite(hs: &[f32]) -> bool
     good
 }
 
-// Searches for the first height that is not finite; their number where every height is finite.
-fn search_heights(hs: &[f32]) -> usize
+// Searches the rows for the first cell whose height is not finite; w × h where every height is finite.
+fn search_rows(g: Sides, hs: &[f32]) -> usize
+    requires { ⌜ length (now hs) ≡ g .w * g .h ⌝ }
     ensures { λ r. ⌜ r ≡ firstNotFinite (now (hs .entry)) ⌝ }
 {
-    let n = hs.len();
-    let mut i: usize = 0;
-    while i < n {
-        if !is_finite(hs[i]) {
-            return i;
+    let w = g.w;
+    let h = g.h;
+    let mut y: usize = 0;
+    'rows: loop {
+        if h <= y {
+            break 'rows w * h;
         }
-        i += 1;
+        let mut x: usize = 0;
+        while x < w {
+            let cell = x + y * w;
+            if !is_finite(hs[cell]) {
+                break 'rows cell;
+            }
+            x += 1;
+        }
+        y += 1;
     }
-    n
 }
 
-// The first cell whose height is not finite; the number of cells where every height is finite. They are searched only where there is one.
-pub fn first_not_finite(hs: &[f32]) -> usize
+// The first cell, row by row, whose height is not finite; w × h where every height is finite. The rows are searched
+// only where there is one.
+pub fn first_not_finite(g: Sides, hs: &[f32]) -> usize
+    requires { ⌜ length (now hs) ≡ g .w * g .h ⌝ }
     ensures { λ r. ⌜ r ≡ firstNotFinite (now (hs .entry)) ⌝ }
 {
     if all_finite(hs) {
         return hs.len();
     }
-    search_heights(hs)
+    search_rows(g, hs)
 }
 
 // Copies the heights of a map, for a pass to change.

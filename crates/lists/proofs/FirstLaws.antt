@@ -59,10 +59,6 @@ first-stop h l e = record { bound = l; earlier = h; fails = λ k. e }
 pub first-end : {n : ℕ} {p : ℕ → Bool} → ((i : ℕ) → i < n → p i ≡ true) → First n p n
 first-end h = record { bound = omega arith; earlier = h; fails = λ k. absurd (omega arith) }
 
--- a test that says the same is failed first by the same number
-pub first-same : {n f : ℕ} {p q : ℕ → Bool} → ((i : ℕ) → i < n → q i ≡ p i) → First n p f → First n q f
-first-same e s = record { bound = s .bound; earlier = λ i l. e i (omega (arith, s .bound)) ∙ s .earlier i l; fails = λ l. e _ l ∙ s .fails l }
-
 -- row after row of w numbers
 module _ (p : ℕ → Bool) (w y : ℕ) (passed : (c : ℕ) → c < y * w → p c ≡ true) {x : ℕ} (s : First w (λ i. p (i + y * w)) x) where
   in-row : (c : ℕ) → c < x + y * w → p c ≡ true

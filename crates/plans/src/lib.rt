@@ -186,7 +186,7 @@ pub fn refusal(size: Sides, hmap: &[f32], bad: bool, scratch: usize) -> Answer
     if bad {
         return Answer::Refused(Refusal::Setting);
     }
-    let cell = first_not_finite(hmap);
+    let cell = first_not_finite(size, hmap);
     if cell != n {
         return Answer::Refused(Refusal::Height(cell));
     }

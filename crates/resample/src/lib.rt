@@ -6,7 +6,6 @@ use floats::ratio;
 use floats::round;
 use floats::to_count;
 use grid::Sides;
-use grid::all_finite;
 use grid::bad_sides;
 use grid::first_not_finite;
 use grid::longest;
@@ -99,14 +98,16 @@ pub fn map_refusal(map: &[f32], size: Sides, dsize: Sides, dlen: usize) -> Answe
     if bad_reduced(dsize, size) {
         return Answer::Refused(Refusal::ReducedSide);
     }
-    if bad_length(map.len(), size) {
+    let n = map.len();
+    if bad_length(n, size) {
         return Answer::Refused(Refusal::Length);
     }
     if bad_length(dlen, dsize) {
         return Answer::Refused(Refusal::Length);
     }
-    if !all_finite(map) {
-        return Answer::Refused(Refusal::Height(first_not_finite(map)));
+    let bad = first_not_finite(size, map);
+    if bad != n {
+        return Answer::Refused(Refusal::Height(bad));
     }
     Answer::Done
 }

@@ -1,21 +1,18 @@
--- The heights of a stream: each stands inside it; the first that is not finite; and the map that they fill, row by row.
+-- The heights of a stream: each stands inside it; the test of each is that of its cell; and the map that they fill, row by row.
 use Prim.Native.Nat.{ℕ, _+_, _-_, _*_, _^_, _≤_, _<_}
-use mathlib.Core.Path.{_≡_, ap, ap₂, _∙_}
-use mathlib.Core.List.{List, _++_}
+use mathlib.Core.Path.{_≡_, sym, ap, ap₂, _∙_}
+use mathlib.Core.Bool.{Bool}
+use mathlib.Core.List.{List}
 use native.Mathlib.Omega.{arith}
-use lib.ListN.{length, take}
-use lib.Seq.{take-at}
-use lib.Ieee.{Float}
+use lib.ListN.{length, getD}
+use lib.Ieee.{Float, nan}
 use lib.Ieee.Scale.{finite}
 use borrow.Rule.Slice.PartMut.{putMid}
-use Rattle.lists.specs.Firsts.{First}
-use Rattle.lists.proofs.FirstLaws.{first-only, first-same}
-use Rattle.lists.proofs.TableLaws.{length-tabulate}
+use Rattle.lists.proofs.TableLaws.{length-tabulate, getD-tabulate}
 use Rattle.lists.proofs.FillLaws.{Filling}
 use Rattle.resample.proofs.RowFillLaws.{stored-row-at}
-use Rattle.grid.specs.Heights.{firstNotFinite}
-use Rattle.grid.proofs.SidesLaws.{column-cell, row-cell, cells-bound, row-few}
-use Rattle.grid.proofs.HeightsLaws.{first-table}
+use Rattle.grid.specs.Sides.{cellOf}
+use Rattle.grid.proofs.SidesLaws.{column-cell, row-cell, cell-lt, cells-bound, row-few}
 use Rattle.stream.proofs.RecordLaws.{rows-end}
 use Rattle.stream.specs.Stream.{heightAt, rowHeights, cellAt, heightsAt, Framed}
 
@@ -41,18 +38,13 @@ module _ (s : List ℕ) (rows w : ℕ) where
   unfolding rowHeights
   rows-more y p inside e = stored-row-at (heightAt s rows w) w y p inside e
 
-  pub row-length : (y : ℕ) {row : List Float} → row ≡ rowHeights s rows w y → length row ≡ w
-  unfolding rowHeights
-  row-length y e = ap length e ∙ length-tabulate (λ x. heightAt s rows w x y) w
-
-  -- the first bad height of row y, which stands at the front of an array, as one of the grid
-  pub row-first : (y : ℕ) {x : ℕ} {row : List Float} (rest : List Float) → x ≡ firstNotFinite (take w (row ++ rest)) → row ≡ rowHeights s rows w y
-      → First w (λ i. finite (cellAt s rows w (i + y * w))) x
-  unfolding rowHeights
-  row-first y {x} {row} rest e g =
-      rw (e ∙ ap firstNotFinite (take-at row rest w (row-length y g) ∙ g))
-      (first-same (λ i l. ap finite (ap₂ (heightAt s rows w) (column-cell w i y l) (row-cell w i y l))) (first-table (λ i. heightAt s rows w i y) w))
-
-  pub heights-first : (h : ℕ) {x : ℕ} → First (w * h) (λ c. finite (cellAt s rows w c)) x → x ≡ firstNotFinite (heightsAt s rows w h)
+  -- the test of a height of the stream is the test of its cell
+  pub height-is : (h : ℕ) {x y : ℕ} → x < w → y < h → {v : Float} → v ≡ heightAt s rows w x y → {b : Bool} → b ≡ finite v
+      → b ≡ finite (getD (heightsAt s rows w h) (cellOf w x y) nan)
   unfolding heightsAt
-  heights-first h p = first-only p (first-table (cellAt s rows w) (w * h))
+  height-is h {x} {y} hx hy e g =
+      g
+      ∙ ap finite
+      (e
+      ∙ sym (ap₂ (heightAt s rows w) (column-cell w x y hx) (row-cell w x y hx))
+      ∙ sym (getD-tabulate (cellAt s rows w) (w * h) (cellOf w x y) nan (cell-lt w x y hx h hy)))

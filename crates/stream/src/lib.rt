@@ -1,8 +1,8 @@
 // The stream of document 01, read: bytes to the run that they ask for, or to a refusal (specs/Stream.antt).
 use answers::Refusal;
+use floats::is_finite;
 use grid::Sides;
 use grid::bad_sides;
-use grid::first_not_finite;
 use plans::bad_fluvial;
 use plans::bad_thermal;
 use runs::FluvialSettings;
@@ -237,17 +237,21 @@ fn first_bad_height(bytes: &[u8], rows: usize, size: Sides) -> usize
 {
     let w = size.w;
     let h = size.h;
-    let mut row: [f32; 4096] = [0.0; 4096];
     let mut y: usize = 0;
-    while y < h {
-        read_row(bytes, rows, size, y, &mut row[..w]);
-        let x = first_not_finite(&row[..w]);
-        if x < w {
-            return x + y * w;
+    'rows: loop {
+        if h <= y {
+            break 'rows w * h;
+        }
+        let mut x: usize = 0;
+        while x < w {
+            let cell = x + y * w;
+            if !is_finite(height_at(bytes, rows, size, x, y)) {
+                break 'rows cell;
+            }
+            x += 1;
         }
         y += 1;
     }
-    w * h
 }
 
 // Writes the heights of the stream into the map.

@@ -175,7 +175,7 @@ pub fn slide_pass(
     if bad_pass(params, from, to, progress) {
         return refused(Refusal::Setting, progress);
     }
-    let bad = first_not_finite(hmap);
+    let bad = first_not_finite(size, hmap);
     if bad != n {
         return refused(Refusal::Height(bad), progress);
     }

@@ -4,7 +4,6 @@ use answers::Refusal;
 use bilinear::mixed;
 use floats::is_finite;
 use grid::Sides;
-use grid::all_finite;
 use grid::first_not_finite;
 use resample::map_refusal;
 use sample_rows::columns;
@@ -115,12 +114,14 @@ pub fn add_finite(map: &mut [f32], size: Sides, delta: &[f32], dsize: Sides) -> 
 pub fn add_upsampled(map: &mut [f32], size: Sides, delta: &[f32], dsize: Sides) -> Answer
     ensures { λ r. ⌜ Added (now (map .entry)) (size .w) (size .h) (now (delta .entry)) (dsize .w) (dsize .h) r (now (map .exit)) ⌝ }
 {
-    let refusal = map_refusal(map, size, dsize, delta.len());
+    let n = delta.len();
+    let refusal = map_refusal(map, size, dsize, n);
     if let Answer::Refused(_) = refusal {
         return refusal;
     }
-    if !all_finite(delta) {
-        return Answer::Refused(Refusal::Height(first_not_finite(delta)));
+    let bad = first_not_finite(dsize, delta);
+    if bad != n {
+        return Answer::Refused(Refusal::Height(bad));
     }
     if !add_finite(map, size, delta, dsize) {
         return Answer::Refused(Refusal::RunOff);

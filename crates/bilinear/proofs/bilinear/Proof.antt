@@ -1,5 +1,6 @@
 use Rattle.bilinear.proofs.CornerLaws.{grid-good}
 use Rattle.bilinear.specs.Places.{Grid}
+use Rattle.grid.proofs.HeightsLaws.{all-finite, not-all-finite}
 use Rattle.resample.proofs.RefusalLaws.{sides-good}
 use borrow.Author.Tests.{not-true, not-false}
 use lib.ListN.{length}
@@ -37,14 +38,11 @@ bad-coordinate-requires-2 c κs = good (c .before .before) .h-high
 returns-4 : tie.Need-returns-4
 returns-4 c = rw (sym (c .before .before .before .before .before .before .before .bad-sides .ensures) ∙ c .before .before .before .before .before .before .if1 .left, sym (c .before .before .before .before .before .bad-length .ensures) ∙ c .before .before .before .before .if2 .left, sym (c .before .before .before .bad-coordinate .ensures) ∙ c .before .before .if3 .left, sym (c .before .bad-coordinate2 .ensures) ∙ c .if4 .taken)
 
-all-finite-requires : tie.Need-all-finite-requires
-all-finite-requires c κs = search needs
-
 first-not-finite-requires : tie.Need-first-not-finite-requires
-first-not-finite-requires c κs = search needs
+first-not-finite-requires c κs = good (c .before .before .before .before) .size
 
 returns-5 : tie.Need-returns-5
-returns-5 c = rw (sym (c .before .before .before .before .before .before .before .before .before .before .bad-sides .ensures) ∙ c .before .before .before .before .before .before .before .before .before .if1 .left, sym (c .before .before .before .before .before .before .before .before .bad-length .ensures) ∙ c .before .before .before .before .before .before .before .if2 .left, sym (c .before .before .before .before .before .before .bad-coordinate .ensures) ∙ c .before .before .before .before .before .if3 .left, sym (c .before .before .before .before .bad-coordinate2 .ensures) ∙ c .before .before .before .if4 .left, sym (c .before .before .all-finite .ensures) ∙ not-true _ (c .before .if5 .taken), c .first-not-finite .ensures)
+returns-5 c = rw (sym (c .before .before .before .before .before .before .before .before .before .bad-sides .ensures) ∙ c .before .before .before .before .before .before .before .before .if1 .left, sym (c .before .before .before .before .before .before .before .bad-length .ensures) ∙ c .before .before .before .before .before .before .if2 .left, sym (c .before .before .before .before .before .bad-coordinate .ensures) ∙ c .before .before .before .before .if3 .left, sym (c .before .before .before .bad-coordinate2 .ensures) ∙ c .before .before .if4 .left, not-all-finite _ _ (c .before .first-not-finite .ensures) (c .if5 .taken), c .before .first-not-finite .ensures)
 
 sample-requires : tie.Need-sample-requires
 sample-requires c κs = good (c .before .before .before .before .before .before)
@@ -53,10 +51,10 @@ is-finite-requires : tie.Need-is-finite-requires
 is-finite-requires c κs = search needs
 
 returns-6 : tie.Need-returns-6
-returns-6 c = rw (sym (c .before .before .before .before .before .before .before .before .before .before .before .before .bad-sides .ensures) ∙ c .before .before .before .before .before .before .before .before .before .before .before .if1 .left, sym (c .before .before .before .before .before .before .before .before .before .before .bad-length .ensures) ∙ c .before .before .before .before .before .before .before .before .before .if2 .left, sym (c .before .before .before .before .before .before .before .before .bad-coordinate .ensures) ∙ c .before .before .before .before .before .before .before .if3 .left, sym (c .before .before .before .before .before .before .bad-coordinate2 .ensures) ∙ c .before .before .before .before .before .if4 .left, sym (c .before .before .before .before .all-finite .ensures) ∙ not-false _ (c .before .before .before .if5 .left), ← c .before .before .sample .ensures, sym (c .before .is-finite .ensures) ∙ not-true _ (c .if6 .taken))
+returns-6 c = rw (sym (c .before .before .before .before .before .before .before .before .before .before .before .before .bad-sides .ensures) ∙ c .before .before .before .before .before .before .before .before .before .before .before .if1 .left, sym (c .before .before .before .before .before .before .before .before .before .before .bad-length .ensures) ∙ c .before .before .before .before .before .before .before .before .before .if2 .left, sym (c .before .before .before .before .before .before .before .before .bad-coordinate .ensures) ∙ c .before .before .before .before .before .before .before .if3 .left, sym (c .before .before .before .before .before .before .bad-coordinate2 .ensures) ∙ c .before .before .before .before .before .if4 .left, all-finite _ _ (c .before .before .before .before .first-not-finite .ensures) (c .before .before .before .if5 .left), ← c .before .before .sample .ensures, sym (c .before .is-finite .ensures) ∙ not-true _ (c .if6 .taken))
 
 returns-7 : tie.Need-returns-7
-returns-7 c = rw (sym (c .before .before .before .before .before .before .before .before .before .before .before .before .bad-sides .ensures) ∙ c .before .before .before .before .before .before .before .before .before .before .before .if1 .left, sym (c .before .before .before .before .before .before .before .before .before .before .bad-length .ensures) ∙ c .before .before .before .before .before .before .before .before .before .if2 .left, sym (c .before .before .before .before .before .before .before .before .bad-coordinate .ensures) ∙ c .before .before .before .before .before .before .before .if3 .left, sym (c .before .before .before .before .before .before .bad-coordinate2 .ensures) ∙ c .before .before .before .before .before .if4 .left, sym (c .before .before .before .before .all-finite .ensures) ∙ not-false _ (c .before .before .before .if5 .left), ← c .before .before .sample .ensures, sym (c .before .is-finite .ensures) ∙ not-false _ (c .if6 .left))
+returns-7 c = rw (sym (c .before .before .before .before .before .before .before .before .before .before .before .before .bad-sides .ensures) ∙ c .before .before .before .before .before .before .before .before .before .before .before .if1 .left, sym (c .before .before .before .before .before .before .before .before .before .before .bad-length .ensures) ∙ c .before .before .before .before .before .before .before .before .before .if2 .left, sym (c .before .before .before .before .before .before .before .before .bad-coordinate .ensures) ∙ c .before .before .before .before .before .before .before .if3 .left, sym (c .before .before .before .before .before .before .bad-coordinate2 .ensures) ∙ c .before .before .before .before .before .if4 .left, all-finite _ _ (c .before .before .before .before .first-not-finite .ensures) (c .before .before .before .if5 .left), ← c .before .before .sample .ensures, sym (c .before .is-finite .ensures) ∙ not-false _ (c .if6 .left))
 
 pub bilinear-spec : {M : Type 1} → statement M
 bilinear-spec =
@@ -70,7 +68,6 @@ bilinear-spec =
     returns-3
     bad-coordinate-requires-2
     returns-4
-    all-finite-requires
     first-not-finite-requires
     returns-5
     sample-requires

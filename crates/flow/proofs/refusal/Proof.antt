@@ -37,7 +37,7 @@ returns-3 c =
     answer-is (a .size .w) (a .size .h) (a .h .now) (a .water-level) (a .l) false false false _ (sym (c .before .before .before .before .before .before .bad-sides .ensures) ∙ c .before .before .before .before .before .if1 .left) (sym (c .before .before .before .bad-lengths .ensures) ∙ c .before .before .if2 .left) (sym (c .before .is-finite .ensures) ∙ not-true _ (c .if3 .taken)) refl
 
 first-not-finite-requires : tie.Need-first-not-finite-requires
-first-not-finite-requires c κs = search needs
+first-not-finite-requires c κs = sym (c .before .before .before .before .before .before .before .before .pre) ∙ enough _ _ _ (sym (c .before .before .before .bad-lengths .ensures) ∙ c .before .before .if2 .left) .heights
 
 returns-4 : tie.Need-returns-4
 returns-4 c =

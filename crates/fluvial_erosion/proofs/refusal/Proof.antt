@@ -51,7 +51,7 @@ returns-3 : tie.Need-returns-3
 returns-3 c = let a = c .before .before .before .before .before .before .before .before .before .before .args in ends-setting (a .size .w) (a .size .h) (a .hmap .now) (a .params) (a .recv .now) (a .order .now) (a .result) (a .scratch) (sides (c .before .before .before .before .before)) (lengths (c .before .before)) (c .before .bad-incision .ensures) (c .if3 .taken)
 
 first-not-finite-requires : tie.Need-first-not-finite-requires
-first-not-finite-requires c κs = search needs
+first-not-finite-requires c κs = sized _ _ _ _ _ _ (lengths (c .before .before)) .map
 
 returns-4 : tie.Need-returns-4
 returns-4 c = let a = c .before .before .before .before .before .before .before .before .before .before .before .before .args in ends-height (a .size .w) (a .size .h) (a .hmap .now) (a .params) (a .recv .now) (a .order .now) (a .result) (a .scratch) (sides (c .before .before .before .before .before .before .before)) (lengths (c .before .before .before .before)) (setting (c .before .before)) (height-found _ (sized _ _ _ _ _ _ (lengths (c .before .before .before .before)) .map) (c .before .first-not-finite .ensures) (c .if4 .taken)) (c .before .first-not-finite .ensures)

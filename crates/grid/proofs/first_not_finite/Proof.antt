@@ -10,11 +10,11 @@ all-finite-requires c κs = search needs
 returns : tie.Need-returns
 returns c = sym (first-none _ (all-below _ (sym (c .before .all-finite .ensures) ∙ c .if1 .taken)))
 
-search-heights-requires : tie.Need-search-heights-requires
-search-heights-requires c κs = search needs
+search-rows-requires : tie.Need-search-rows-requires
+search-rows-requires c κs = search needs
 
 returns-2 : tie.Need-returns-2
-returns-2 c = c .search-heights .ensures
+returns-2 c = c .search-rows .ensures
 
 pub first-not-finite-spec : {M : Type 1} → statement M
-first-not-finite-spec = tie.close (tie.spec all-finite-requires returns search-heights-requires returns-2)
+first-not-finite-spec = tie.close (tie.spec all-finite-requires returns search-rows-requires returns-2)

@@ -25,7 +25,7 @@ returns-4 : tie.Need-returns-4
 returns-4 c = rw (sym (c .before .before .before .before .before .bad-sides .ensures) ∙ c .before .before .before .before .if1 .left, eq-eqb _ _ (c .before .before .if2 .left), le-ltb _ _ (c .before .if3 .left), c .if4 .taken)
 
 first-not-finite-requires : tie.Need-first-not-finite-requires
-first-not-finite-requires c κs = search needs
+first-not-finite-requires c κs = c .before .before .if2 .left
 
 returns-5 : tie.Need-returns-5
 returns-5 c = rw (sym (c .before .before .before .before .before .before .before .bad-sides .ensures) ∙ c .before .before .before .before .before .before .if1 .left, eq-eqb _ _ (c .before .before .before .before .if2 .left), le-ltb _ _ (c .before .before .before .if3 .left), c .before .before .if4 .left, not-all-finite _ _ (c .before .first-not-finite .ensures) (λ e. c .if5 .taken (e ∙ c .before .before .before .before .if2 .left)), c .before .first-not-finite .ensures)

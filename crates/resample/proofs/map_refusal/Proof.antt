@@ -1,5 +1,6 @@
 use mathlib.Core.Path.{sym, _∙_}
-use borrow.Author.Tests.{not-true, not-false}
+use borrow.Author.Tests.{eqb-true, not-false}
+use Rattle.grid.proofs.HeightsLaws.{all-finite, not-all-finite}
 use Rattle.resample.proofs.RefusalLaws.{sides-good, reduced-small}
 use borrow.Author.Needs.{needs}
 use Rattle.resample.proofs.map_refusal.Statement.{statement}
@@ -30,17 +31,14 @@ returns-4 : tie.Need-returns-4
 returns-4 c = rw (sym (c .before .before .before .before .before .before .before .bad-sides .ensures) ∙ c .before .before .before .before .before .before .if1 .left, sym (c .before .before .before .before .before .bad-reduced .ensures) ∙ c .before .before .before .before .if2 .left, sym (c .before .before .before .bad-length .ensures) ∙ c .before .before .if3 .left, sym (c .before .bad-length2 .ensures) ∙ c .if4 .taken)
 
 -- the full map is its grid's
-all-finite-requires : tie.Need-all-finite-requires
-all-finite-requires c κs = search needs
-
 first-not-finite-requires : tie.Need-first-not-finite-requires
-first-not-finite-requires c κs = search needs
+first-not-finite-requires c κs = eqb-true _ _ (not-false _ (sym (c .before .before .before .bad-length .ensures) ∙ c .before .before .if3 .left))
 
 returns-5 : tie.Need-returns-5
-returns-5 c = rw (sym (c .before .before .before .before .before .before .before .before .before .before .bad-sides .ensures) ∙ c .before .before .before .before .before .before .before .before .before .if1 .left, sym (c .before .before .before .before .before .before .before .before .bad-reduced .ensures) ∙ c .before .before .before .before .before .before .before .if2 .left, sym (c .before .before .before .before .before .before .bad-length .ensures) ∙ c .before .before .before .before .before .if3 .left, sym (c .before .before .before .before .bad-length2 .ensures) ∙ c .before .before .before .if4 .left, sym (c .before .before .all-finite .ensures) ∙ not-true _ (c .before .if5 .taken), c .first-not-finite .ensures)
+returns-5 c = rw (sym (c .before .before .before .before .before .before .before .before .before .bad-sides .ensures) ∙ c .before .before .before .before .before .before .before .before .if1 .left, sym (c .before .before .before .before .before .before .before .bad-reduced .ensures) ∙ c .before .before .before .before .before .before .if2 .left, sym (c .before .before .before .before .before .bad-length .ensures) ∙ c .before .before .before .before .if3 .left, sym (c .before .before .before .bad-length2 .ensures) ∙ c .before .before .if4 .left, not-all-finite _ _ (c .before .first-not-finite .ensures) (c .if5 .taken), c .before .first-not-finite .ensures)
 
 returns-6 : tie.Need-returns-6
-returns-6 c = rw (sym (c .before .before .before .before .before .before .before .before .before .bad-sides .ensures) ∙ c .before .before .before .before .before .before .before .before .if1 .left, sym (c .before .before .before .before .before .before .before .bad-reduced .ensures) ∙ c .before .before .before .before .before .before .if2 .left, sym (c .before .before .before .before .before .bad-length .ensures) ∙ c .before .before .before .before .if3 .left, sym (c .before .before .before .bad-length2 .ensures) ∙ c .before .before .if4 .left, sym (c .before .all-finite .ensures) ∙ not-false _ (c .if5 .left))
+returns-6 c = rw (sym (c .before .before .before .before .before .before .before .before .before .bad-sides .ensures) ∙ c .before .before .before .before .before .before .before .before .if1 .left, sym (c .before .before .before .before .before .before .before .bad-reduced .ensures) ∙ c .before .before .before .before .before .before .if2 .left, sym (c .before .before .before .before .before .bad-length .ensures) ∙ c .before .before .before .before .if3 .left, sym (c .before .before .before .bad-length2 .ensures) ∙ c .before .before .if4 .left, all-finite _ _ (c .before .first-not-finite .ensures) (c .if5 .left))
 
 pub map-refusal-spec : {M : Type 1} → statement M
 map-refusal-spec =
@@ -54,7 +52,6 @@ map-refusal-spec =
     returns-3
     bad-length-requires-2
     returns-4
-    all-finite-requires
     first-not-finite-requires
     returns-5
     returns-6)

@@ -1,68 +1,74 @@
-use Prim.Native.Nat.{ℕ, _*_, _-_, _≤_, _<_}
-use mathlib.Core.Path.{_≡_, sym}
-use mathlib.Core.Bool.{true}
+use Prim.Native.Nat.{_-_}
 use native.Mathlib.Omega.{arith}
-use lib.ListN.{length, length-replicate, length-drop, length-append}
-use lib.Seq.{length-take-le}
-use lib.Ieee.{Float, binary32, ofBits}
-use lib.Ieee.Scale.{finite}
 use borrow.Author.Needs.{needs}
-use Rattle.lists.proofs.FirstLaws.{rows-more, rows-stop, rows-end}
-use Rattle.stream.specs.Stream.{cellAt}
-use Rattle.stream.proofs.CellLaws.{cells-few, row-inside, row-length, row-first, heights-first}
+use Rattle.grid.proofs.WalkLaws.{Sought, sought-none, sought-more, sought-bad, sought-row, sought-done}
+use Rattle.stream.specs.Stream.{heightsAt}
+use Rattle.stream.proofs.CellLaws.{cells-few, row-inside, heights-length, height-is}
 use Rattle.stream.proofs.first_bad_height.Statement.{statement}
 use Rattle.stream.proofs.first_bad_height.Tie as tie
 
 abbrev Inv-loop : tie.InvT-loop
-Inv-loop bytes rows size w h row₀ y₀ row y = (y ≤ h) × ((length row ≡ 4096) × ((c : ℕ) → c < y * w → finite (cellAt bytes rows w c) ≡ true))
+Inv-loop bytes rows size w h y x₀ x = Sought w (heightsAt bytes rows w h) x y
 
 abbrev μ-loop : tie.MeasureT-loop
-μ-loop bytes rows size w h row₀ y₀ row y = h - y
+μ-loop bytes rows size w h y x₀ x = w - x
 
-loop-holds : tie.Need-loop-holds Inv-loop μ-loop
-loop-holds c = (omega arith, (length-replicate {A = Float} 4096 (ofBits binary32 0), λ i l. absurd (omega arith)))
+abbrev Inv-rows : tie.InvT-rows
+Inv-rows bytes rows size w h y₀ y = Sought w (heightsAt bytes rows w h) 0 y
 
-array-borrow-prefix-row : tie.Need-array-borrow-prefix-row Inv-loop μ-loop
-array-borrow-prefix-row c = omega (arith, c .before .before .before .pre .sides .wide, c .before .loop .inv .1 .0)
+abbrev μ-rows : tie.MeasureT-rows
+μ-rows bytes rows size w h y₀ y = h - y
 
-slice-aggregate-read-row : tie.Need-slice-aggregate-read-row Inv-loop μ-loop
-slice-aggregate-read-row c = sym (length-take-le _ _ (omega (arith, c .before .before .before .before .pre .sides .wide, c .before .before .loop .inv .1 .0)))
+rows-holds : tie.Need-rows-holds Inv-loop μ-loop Inv-rows μ-rows
+rows-holds c = sought-none
 
-read-row-requires : tie.Need-read-row-requires Inv-loop μ-loop
-read-row-requires c κs = (c .before .before .before .before .pre, (c .before .loop-test .taken, length-take-le _ _ (omega (arith, c .before .before .before .before .pre .sides .wide, c .before .before .loop .inv .1 .0))))
+mul-result : tie.Need-mul-result Inv-loop μ-loop Inv-rows μ-rows
+mul-result c = omega (arith, cells-few (c .before .before .before .pre))
 
-array-share-prefix-row : tie.Need-array-share-prefix-row Inv-loop μ-loop
-array-share-prefix-row c = simp length-append (omega (arith, row-length _ _ _ (c .before .before .before .before .loop .y) (c .before .read-row .ensures)))
+loop-holds : tie.Need-loop-holds Inv-loop μ-loop Inv-rows μ-rows
+loop-holds c = c .before .rows .inv
 
-slice-aggregate-first-not-finite : tie.Need-slice-aggregate-first-not-finite Inv-loop μ-loop
-slice-aggregate-first-not-finite c = sym (length-take-le _ _ (simp length-append (omega (arith, row-length _ _ _ (c .before .before .before .before .before .loop .y) (c .before .before .read-row .ensures)))))
+mul-cell : tie.Need-mul-cell Inv-loop μ-loop Inv-rows μ-rows
+mul-cell c = omega (arith, row-inside (c .before .before .before .before .before .pre) (c .before .before .if1 .left), c .loop-test .taken)
 
-first-not-finite-requires : tie.Need-first-not-finite-requires Inv-loop μ-loop
-first-not-finite-requires c κs = search needs
+add-cell : tie.Need-add-cell Inv-loop μ-loop Inv-rows μ-rows
+add-cell c = omega (arith, row-inside (c .before .before .before .before .before .pre) (c .before .before .if1 .left), c .loop-test .taken)
 
-mul-result : tie.Need-mul-result Inv-loop μ-loop
-mul-result c = omega (arith, row-inside (c .before .before .before .before .before .before .before .before .before .pre) (c .before .before .before .before .before .before .loop-test .taken), c .if1 .taken)
+height-at-requires : tie.Need-height-at-requires Inv-loop μ-loop Inv-rows μ-rows
+height-at-requires c κs = (c .before .before .before .before .before .pre, (c .loop-test .taken, c .before .before .if1 .left))
 
-add-result : tie.Need-add-result Inv-loop μ-loop
-add-result c = omega (arith, row-inside (c .before .before .before .before .before .before .before .before .before .pre) (c .before .before .before .before .before .before .loop-test .taken), c .if1 .taken)
+is-finite-requires : tie.Need-is-finite-requires Inv-loop μ-loop Inv-rows μ-rows
+is-finite-requires c κs = search needs
 
-returns : tie.Need-returns Inv-loop μ-loop
-returns c = heights-first _ _ _ _ (rows-stop _ _ _ (c .before .before .before .before .before .before .before .loop .inv .1 .1) (row-first _ _ _ (c .before .before .before .before .before .before .before .loop .y) _ (c .before .first-not-finite .ensures) (c .before .before .before .before .read-row .ensures)) (c .if1 .taken) (c .before .before .before .before .before .before .loop-test .taken))
+add-x : tie.Need-add-x Inv-loop μ-loop Inv-rows μ-rows
+add-x c = omega arith
 
-add-y : tie.Need-add-y Inv-loop μ-loop
-add-y c = omega (arith, c .before .before .before .before .before .before .loop-test .taken, c .before .before .before .before .before .before .before .before .before .pre .sides .high)
+loop-less : tie.Need-loop-less Inv-loop μ-loop Inv-rows μ-rows
+loop-less c = omega arith
 
-loop-less : tie.Need-loop-less Inv-loop μ-loop
-loop-less c = omega (arith, c .before .before .before .before .before .before .loop-test .taken)
+loop-again : tie.Need-loop-again Inv-loop μ-loop Inv-rows μ-rows
+loop-again c =
+    let x = c .before .before .before .loop-test .taken in
+    let y = c .before .before .before .before .before .if1 .left in
+    sought-more (c .before .before .before .before .loop .inv) (height-is _ _ _ _ x y (c .before .before .height-at .ensures) (c .before .is-finite .ensures)) (c .if2 .left)
 
-loop-again : tie.Need-loop-again Inv-loop μ-loop
-loop-again c = (omega (arith, c .before .before .before .before .before .before .loop-test .taken), (simp (length-append, length-drop) (omega (arith, row-length _ _ _ (c .before .before .before .before .before .before .before .loop .y) (c .before .before .before .before .read-row .ensures), c .before .before .before .before .before .before .before .before .before .pre .sides .wide, c .before .before .before .before .before .before .before .loop .inv .1 .0)), rows-more _ _ _ (c .before .before .before .before .before .before .before .loop .inv .1 .1) (row-first _ _ _ (c .before .before .before .before .before .before .before .loop .y) _ (c .before .first-not-finite .ensures) (c .before .before .before .before .read-row .ensures)) (c .if1 .left)))
+add-y : tie.Need-add-y Inv-loop μ-loop Inv-rows μ-rows
+add-y c = omega arith
 
-mul-result-2 : tie.Need-mul-result-2 Inv-loop μ-loop
-mul-result-2 c = omega (arith, cells-few (c .before .before .before .pre))
+rows-less : tie.Need-rows-less Inv-loop μ-loop Inv-rows μ-rows
+rows-less c = omega arith
 
-returns-2 : tie.Need-returns-2 Inv-loop μ-loop
-returns-2 c = heights-first _ _ _ _ (rows-end _ _ _ _ (c .before .loop .inv .1 .1) (c .before .loop .inv .0) (c .loop-test .left))
+rows-again : tie.Need-rows-again Inv-loop μ-loop Inv-rows μ-rows
+rows-again c = sought-row (c .before .loop .inv) (c .loop-test .left)
+
+returns : tie.Need-returns Inv-loop μ-loop Inv-rows μ-rows
+returns c = sought-done (c .before .rows .inv) (heights-length _ _ _ _) (c .if1 .taken)
+
+returns-2 : tie.Need-returns-2 Inv-loop μ-loop Inv-rows μ-rows
+returns-2 c =
+    let x = c .before .before .before .loop-test .taken in
+    let y = c .before .before .before .before .before .if1 .left in
+    sought-bad (c .before .before .before .before .loop .inv) (height-is _ _ _ _ x y (c .before .before .height-at .ensures) (c .before .is-finite .ensures)) (heights-length _ _ _ _) x y (c .if2 .taken)
 
 pub first-bad-height-spec : {M : Type 1} → statement M
 first-bad-height-spec =
@@ -70,18 +76,20 @@ first-bad-height-spec =
     (tie.spec
     Inv-loop
     μ-loop
-    loop-holds
-    array-borrow-prefix-row
-    slice-aggregate-read-row
-    read-row-requires
-    array-share-prefix-row
-    slice-aggregate-first-not-finite
-    first-not-finite-requires
+    Inv-rows
+    μ-rows
+    rows-holds
     mul-result
-    add-result
-    returns
-    add-y
+    loop-holds
+    mul-cell
+    add-cell
+    height-at-requires
+    is-finite-requires
+    add-x
     loop-less
     loop-again
-    mul-result-2
+    add-y
+    rows-less
+    rows-again
+    returns
     returns-2)

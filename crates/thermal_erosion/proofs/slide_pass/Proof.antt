@@ -39,7 +39,7 @@ returns-4 : tie.Need-returns-4
 returns-4 c = rw (c .refused4 .ensures) (slide-setting _ _ _ _ _ _ _ _ _ (sym (c .before .before .before .before .before .before .before .bad-sides .ensures) ∙ c .before .before .before .before .before .before .if1 .left) (c .before .before .before .before .if2 .left) (c .before .before .before .if3 .left) (sym (c .before .before .bad-pass .ensures) ∙ c .before .if4 .taken))
 
 first-not-finite-requires : tie.Need-first-not-finite-requires
-first-not-finite-requires c κs = search needs
+first-not-finite-requires c κs = c .before .before .before .if2 .left
 
 refused-requires-5 : tie.Need-refused-requires-5
 refused-requires-5 c κs = search needs
