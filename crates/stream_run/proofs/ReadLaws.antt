@@ -6,8 +6,9 @@ use mathlib.Core.List.{List}
 use borrow.Author.Tests.{ltb-false}
 use lib.Dec.{ltb}
 use Rattle.lists.proofs.TestLaws.{either}
-use Rattle.answers.proofs.OutcomeLaws.{not-refused, not-refused-unless}
-use Rattle.answers.specs.Outcome.{Outcome, gives, refused, refusedAt}
+use Rattle.answers.specs.Outcome.{Outcome, gives, refused, refusedAt, refusalOf, numberOf}
+use Rattle.answers.specs.declared.Refusal.{Refusal}
+use Rattle.answers.proofs.OutcomeLaws.{refusal-by, not-refused, not-refused-unless}
 use Rattle.grid.specs.Sides.{badSides}
 use Rattle.grid.specs.Heights.{firstNotFinite, allFinite}
 use Rattle.grid.specs.declared.Sides.{Sides}
@@ -19,7 +20,7 @@ use Rattle.output.specs.Output.{forInput}
 use Rattle.stream_run.specs.StreamRun.{AcceptedStream}
 
 -- what an accepted stream gives is what stands in it
-pub read-accepted : (s : List ℕ) (p : Parsed) → gives p ≡ readStream true s → (parsedOf s (headerAt s) ≡ p) × AcceptedStream s (headerAt s)
+read-accepted : (s : List ℕ) (p : Parsed) → gives p ≡ readStream true s → (parsedOf s (headerAt s) ≡ p) × AcceptedStream s (headerAt s)
 unfolding readStream
 read-accepted s p e =
     let w = number2 s 2 in
@@ -59,8 +60,6 @@ refused-input s =
     allowed : (b : Bool) (x y : Outcome Parsed) → inputOnly x ≡ true → inputOnly y ≡ true → inputOnly (cond b x y) ≡ true
     allowed = either (λ o. inputOnly o ≡ true)
 
-pub refused-number : (s : List ℕ) (number : ℕ) → readStream true s ≡ refused number → forInput number ≡ true
-refused-number s number e = ap inputOnly (sym e) ∙ refused-input s
-
-pub refused-number-at : (s : List ℕ) (number place : ℕ) → readStream true s ≡ refusedAt number place → forInput number ≡ true
-refused-number-at s number place e = ap inputOnly (sym e) ∙ refused-input s
+pub refused-number : (s : List ℕ) (why : Refusal) → readStream true s ≡ refusalOf why → forInput (numberOf why) ≡ true
+refused-number s why e =
+    sym (refusal-by (λ o n p. inputOnly (o Parsed) ≡ forInput n) (λ n l. refl) (λ n p l. refl) why) ∙ ap inputOnly (sym e) ∙ refused-input s

@@ -1,28 +1,28 @@
--- The writer behind the run of a stream writes the bytes of the definition.
+-- The writer writes the bytes of the definition: of the run of an accepted stream, and of a refused stream.
 use Prim.Native.Nat.{ℕ, _+_, _*_, _≤_}
 use mathlib.Core.Path.{_≡_, refl, sym, ap, ap₂, subst, _∙_}
 use mathlib.Core.Bool.{Bool, true, false, not, _||_, cond}
-use mathlib.Core.List.{List, _++_}
+use mathlib.Core.List.{List, [], _++_}
 use native.Mathlib.Omega.{arith}
 use borrow.Author.Tests.{ltb-false, eqb-true, eq-eqb}
 use lib.Dec.{eqb, ltb}
-use lib.ListN.{length, take, drop, length-append, length-drop}
-use lib.Seq.{take-at}
+use lib.ListN.{length, take, drop, length-append}
+use lib.Seq.{length-take-le, take-at}
 use lib.Ieee.{Float}
-use Rattle.answers.specs.Outcome.{Outcome, gives, refused, refusedAt, numberIn}
-use Rattle.answers.proofs.OutcomeLaws.{not-refused}
+use Rattle.answers.specs.Outcome.{Outcome, gives, refused, refusalOf, numberIn}
+use Rattle.answers.specs.declared.Refusal.{Refusal}
+use Rattle.answers.proofs.OutcomeLaws.{refusal-by, not-refused}
 use Rattle.grid.specs.Sides.{badSides}
-use Rattle.grid.specs.declared.Sides.{Sides}
 use Rattle.grid.proofs.SidesLaws.{in-range}
-use Rattle.erosion.specs.Ending.{outcomeOf}
-use Rattle.stream.specs.Stream.{Parsed, readStream}
+use Rattle.erosion.specs.Ending.{Ending, outcomeOf, ranTo, endedWith, refusedTo}
+use Rattle.erosion.specs.declared.RunAnswer.{RunAnswer}
+use Rattle.stream.specs.Stream.{Parsed, heightsAt, parsedOf, readStream}
+use Rattle.stream.specs.declared.Header.{Header}
 use Rattle.output.specs.Output.{gridRecord, rowRecords, endRecord, forInput, outputOf, outputBy, numberOf, rowsLength, writtenOf, leftOf, writtenBy, Wrote}
 use Rattle.output.specs.declared.Written.{Written}
 use Rattle.output.proofs.OutputLaws.{rows-length}
-use Rattle.stream_run.specs.StreamRun.{askedRun, StreamEnd, refusedEnd, ranEnd, endOf, lentTo, shown, outputFrom, reliefOf, Relief}
-use Rattle.stream_run.specs.declared.StreamAnswer.{StreamAnswer}
-use Rattle.stream_run.proofs.ReadLaws.{read-accepted, refused-number, refused-number-at}
-use Rattle.stream_run.proofs.EndLaws.{lent-enough}
+use Rattle.stream_run.specs.StreamRun.{askedRun, outputFrom, reliefOf, Relief}
+use Rattle.stream_run.proofs.ReadLaws.{accepted-stream, refused-number}
 
 number-in : (n : ℕ) → numberIn (outcomeOf n) ≡ n
 number-in n = go (eqb n 0) refl
@@ -50,115 +50,81 @@ module _ (w h : ℕ) (sides : badSides w h ≡ false) (map : List Float) (full :
       go true = refl
       go false = rw (sides, eq-eqb (length map) (w * h) full, whole-length)
 
-module _ (w h number : ℕ) (e : forInput number ≡ true) where
-  input-fits : (cells room : ℕ) → writtenOf w h number cells room ≡ fits room (endRecord number 0 0 0)
-  unfolding writtenOf
-  input-fits cells room = rw e
+module _ (w h number incisions passes questions : ℕ) (map : List Float) (e : forInput number ≡ true) where
+  input-fits : (room : ℕ) → writtenOf w h number (length map) room ≡ fits room (outputOf w h number incisions passes questions map)
+  unfolding writtenOf outputOf
+  input-fits room = rw e
 
-  input-output : (incisions passes questions : ℕ) (map : List Float) → outputOf w h number incisions passes questions map ≡ endRecord number 0 0 0
+  input-output : outputOf w h number incisions passes questions map ≡ endRecord number 0 0 0
   unfolding outputOf
-  input-output incisions passes questions map = rw e
+  input-output = rw e
 
 relief-is : (s : List ℕ) {o : Outcome Parsed} → readStream true s ≡ o → reliefOf s ≡ outputFrom o
 unfolding reliefOf
 relief-is s e = ap outputFrom e
 
--- what the writer is to write, and what it answers, where the output is `bytes`
-record Written-as (s : List ℕ) (r : StreamAnswer) (map : List Float) : Type 0 where
-  answer : (room : ℕ) → writtenOf (r .size .w) (r .size .h) (numberOf (r .run)) (length (take (r .size .w * r .size .h) map)) room ≡ fits room (reliefOf s)
-  bytes : outputBy (r .size .w) (r .size .h) (r .run) (take (r .size .w * r .size .h) map) ≡ reliefOf s
+-- a writer of the definition's bytes
+module _ (s : List ℕ) (w h : ℕ) (map : List Float) (r : RunAnswer) (fit : (room : ℕ) → writtenOf w h (numberOf r) (length map) room ≡ fits room (outputBy w h r map))
+    (same : outputBy w h r map ≡ reliefOf s) where
+  answer-fits : (room : ℕ) → writtenOf w h (numberOf r) (length map) room ≡ fits room (reliefOf s)
+  answer-fits room = fit room ∙ ap (fits room) same
 
-module _ (s : List ℕ) (old : List Float) (full : length old ≡ 4096) (r : StreamAnswer) (map : List Float) (kept : length map ≡ length old)
-    (e : shown r map ≡ endOf (lentTo (length old) (readStream true s)) old) where
-  -- an accepted stream
-  module _ (p : Parsed) (f : readStream true s ≡ gives p) where
-    few : p .header .size .w * p .header .size .h ≤ 4096
-    few =
-        let a = read-accepted s p (sym f) in
-        subst (λ (q : Parsed). q .header .size .w * q .header .size .h ≤ 4096) (a .0) (a .1 .few)
-
-    sides : badSides (p .header .size .w) (p .header .size .h) ≡ false
-    sides =
-        let a = read-accepted s p (sym f) in
-        subst (λ (q : Parsed). badSides (q .header .size .w) (q .header .size .h) ≡ false) (a .0) (in-range (a .1 .framed .sides))
-
-    ended : shown r map ≡ ranEnd (p .header .size) (askedRun (p .header) (p .heights)) old
-    ended =
-        e ∙ ap (λ (o : Outcome Parsed). endOf (lentTo (length old) o) old) f ∙ lent-enough p old (omega (arith, few))
-
-    same-size : r .size ≡ p .header .size
-    same-size = ap (λ (x : StreamEnd). x .size) ended
-
-    same-number : numberOf (r .run) ≡ askedRun (p .header) (p .heights) .number
-    same-number = ap (λ (x : StreamEnd). numberIn (x .ending .outcome)) ended ∙ number-in (askedRun (p .header) (p .heights) .number)
-
-    same-map : map ≡ askedRun (p .header) (p .heights) .map ++ drop (p .header .size .w * p .header .size .h) old
-    same-map = ap (λ (x : StreamEnd). x .ending .map) ended
-
-    cells : length (askedRun (p .header) (p .heights) .map) ≡ p .header .size .w * p .header .size .h
-    cells =
-        omega (arith, few, ap length same-map, length-append (askedRun (p .header) (p .heights) .map) (drop (p .header .size .w * p .header .size .h) old), length-drop (p .header .size .w * p .header .size .h) old)
-
-    front : take (r .size .w * r .size .h) map ≡ askedRun (p .header) (p .heights) .map
-    front =
-        ap₂ (λ (g : Sides) (l : List Float). take (g .w * g .h) l) same-size same-map
-        ∙ take-at (askedRun (p .header) (p .heights) .map) (drop (p .header .size .w * p .header .size .h) old) (p .header .size .w * p .header .size .h) cells
-
-    whole-as : Written-as s r map
-    whole-as =
-        record {
-          answer =
-              λ room. (λ i. writtenOf (same-size i .w) (same-size i .h) (same-number i) (length (front i)) room)
-              ∙ written-fits (p .header .size .w) (p .header .size .h) sides (askedRun (p .header) (p .heights) .map) cells _ _ _ _ room
-              ∙ ap (fits room) (sym (relief-is s f));
-          bytes =
-              (λ i. outputOf (same-size i .w) (same-size i .h) (same-number i) (ended i .ending .incisions) (ended i .ending .passes) (ended i .ending .questions) (front i))
-              ∙ sym (relief-is s f);
-        }
-
-  -- a refused one
-  module _ (number : ℕ) (o : Outcome (Unit {0})) (g : numberIn o ≡ number) (f : reliefOf s ≡ endRecord number 0 0 0) (h : shown r map ≡ refusedEnd o old) (t : forInput number ≡ true) where
-    its-number : numberOf (r .run) ≡ number
-    its-number = ap (λ (x : StreamEnd). numberIn (x .ending .outcome)) h ∙ g
-
-    refused-as : Written-as s r map
-    refused-as =
-        record {
-          answer =
-              λ room. ap (λ (n : ℕ). writtenOf (r .size .w) (r .size .h) n (length (take (r .size .w * r .size .h) map)) room) its-number
-              ∙ input-fits (r .size .w) (r .size .h) number t _ room ∙ ap (fits room) (sym f);
-          bytes =
-              ap (λ (n : ℕ). outputOf (r .size .w) (r .size .h) n (r .run .incisions) (r .run .passes) (r .run .questions) (take (r .size .w * r .size .h) map)) its-number
-              ∙ input-output (r .size .w) (r .size .h) number t _ _ _ _ ∙ sym f;
-        }
-
-  pub relief-cells : r .size .w * r .size .h ≤ 4096
-  relief-cells = go (readStream true s) refl
-    where
-      go : (o : Outcome Parsed) → readStream true s ≡ o → r .size .w * r .size .h ≤ 4096
-      go (gives p) f = subst (λ (g : Sides). g .w * g .h ≤ 4096) (sym (same-size p f)) (few p f)
-      go (refused number) f =
-          subst (λ (g : Sides). g .w * g .h ≤ 4096) (sym (ap (λ (x : StreamEnd). x .size) (e ∙ ap (λ (o : Outcome Parsed). endOf (lentTo (length old) o) old) f))) (omega arith)
-      go (refusedAt number place) f =
-          subst (λ (g : Sides). g .w * g .h ≤ 4096) (sym (ap (λ (x : StreamEnd). x .size) (e ∙ ap (λ (o : Outcome Parsed). endOf (lentTo (length old) o) old) f))) (omega arith)
-
-  written-as : Written-as s r map
-  written-as = go (readStream true s) refl
-    where
-      go : (o : Outcome Parsed) → readStream true s ≡ o → Written-as s r map
-      go (gives p) f = whole-as p f
-      go (refused number) f =
-          refused-as number (refused number) refl (relief-is s f) (e ∙ ap (λ (o : Outcome Parsed). endOf (lentTo (length old) o) old) f) (refused-number s number f)
-      go (refusedAt number place) f =
-          refused-as number (refusedAt number place) refl (relief-is s f) (e ∙ ap (λ (o : Outcome Parsed). endOf (lentTo (length old) o) old) f)
-          (refused-number-at s number place f)
-
-  pub relief-by : {out : List ℕ} {answer : Written} {new : List ℕ} → Wrote (r .size .w) (r .size .h) (take (r .size .w * r .size .h) map) (r .run) out answer new → Relief s out answer new
-  relief-by {out} {answer} {new} m =
+  relief-by : {old : List ℕ} {answer : Written} {new : List ℕ} → Wrote w h map r old answer new → Relief s old answer new
+  relief-by {old} {answer} {new} m =
       record {
-        answers = m .answers ∙ written-as .answer (length out);
-        leaves = m .leaves ∙ ap₂ (λ (o : Outcome ℕ) (b : List ℕ). leftOf o out b) (written-as .answer (length out)) (written-as .bytes);
+        answers = m .answers ∙ answer-fits (length old);
+        leaves = m .leaves ∙ ap₂ (λ (o : Outcome ℕ) (b : List ℕ). leftOf o old b) (answer-fits (length old)) same;
       }
+
+-- an accepted stream
+module _ (s : List ℕ) (head : Header) (e : gives (parsedOf s head) ≡ readStream true s) where
+  -- its run, written
+  module _ (r : RunAnswer) (map : List Float) (f : endedWith r map ≡ ranTo (askedRun head (heightsAt s (head .rows) (head .size .w) (head .size .h))))
+      (full : length map ≡ head .size .w * head .size .h) where
+    ran-number : numberOf r ≡ askedRun head (heightsAt s (head .rows) (head .size .w) (head .size .h)) .number
+    ran-number =
+        ap (λ (x : Ending). numberIn (x .outcome)) f ∙ number-in (askedRun head (heightsAt s (head .rows) (head .size .w) (head .size .h)) .number)
+
+    ran-output : outputBy (head .size .w) (head .size .h) r map ≡ reliefOf s
+    ran-output =
+        (λ i. outputOf (head .size .w) (head .size .h) (ran-number i) (f i .incisions) (f i .passes) (f i .questions) (f i .map))
+        ∙ sym (relief-is s (sym e))
+
+    ran-relief : {old : List ℕ} {answer : Written} {new : List ℕ} → Wrote (head .size .w) (head .size .h) map r old answer new → Relief s old answer new
+    ran-relief =
+        relief-by s (head .size .w) (head .size .h) map r
+        (written-fits (head .size .w) (head .size .h) (in-range (accepted-stream s head e .framed .sides)) map full (numberOf r) (r .incisions) (r .passes) (r .questions))
+        ran-output
+
+  -- the part of a longer map that is lent to it
+  module _ (old : List Float) (room : 4096 ≡ length old) where
+    part-length : length (take (head .size .w * head .size .h) old) ≡ head .size .w * head .size .h
+    part-length = length-take-le (head .size .w * head .size .h) old (omega (arith, room, accepted-stream s head e .few))
+
+    module _ (part : List Float) (kept : length part ≡ length (take (head .size .w * head .size .h) old)) where
+      pub part-again : head .size .w * head .size .h ≤ length (part ++ drop (head .size .w * head .size .h) old)
+      part-again = omega (arith, kept, part-length, length-append part (drop (head .size .w * head .size .h) old))
+
+      pub part-relief : (r : RunAnswer) → endedWith r part ≡ ranTo (askedRun head (heightsAt s (head .rows) (head .size .w) (head .size .h))) → {out : List ℕ} {answer : Written} {new : List ℕ}
+          → Wrote (head .size .w) (head .size .h) (take (head .size .w * head .size .h) (part ++ drop (head .size .w * head .size .h) old)) r out answer new → Relief s out answer new
+      part-relief r f {out} {answer} {new} m =
+          ran-relief r part f (kept ∙ part-length)
+          (subst (λ (l : List Float). Wrote (head .size .w) (head .size .h) l r out answer new)
+          (take-at part (drop (head .size .w * head .size .h) old) (head .size .w * head .size .h) (kept ∙ part-length)) m)
+
+-- a refused one
+pub refusal-wrote : (why : Refusal) {r : RunAnswer} → r ≡ refusedTo why → {old : List ℕ} {answer : Written} {new : List ℕ} → Wrote 0 0 [] r old answer new
+    → Wrote 0 0 [] (refusedTo why) old answer new
+refusal-wrote why e {old} {answer} {new} m = subst (λ (r : RunAnswer). Wrote 0 0 [] r old answer new) e m
+
+module _ (s : List ℕ) (why : Refusal) (e : readStream true s ≡ refusalOf why) where
+  end-alone : reliefOf s ≡ endRecord (numberIn (refusalOf why)) 0 0 0
+  end-alone = relief-is s e ∙ refusal-by (λ o n p. outputFrom (o Parsed) ≡ endRecord n 0 0 0) (λ n l. refl) (λ n p l. refl) why
+
+  pub refusal-relief : {old : List ℕ} {answer : Written} {new : List ℕ} → Wrote 0 0 [] (refusedTo why) old answer new → Relief s old answer new
+  refusal-relief =
+      relief-by s 0 0 [] (refusedTo why) (input-fits 0 0 (numberIn (refusalOf why)) 0 0 0 [] (refused-number s why e))
+      (input-output 0 0 (numberIn (refusalOf why)) 0 0 0 [] (refused-number s why e) ∙ sym end-alone)
 
 -- what was written lies inside the slice
 pub relief-inside : (s old : List ℕ) (n : ℕ) {answer : Written} {new : List ℕ} → Relief s old answer new → answer ≡ Written.Bytes n → n ≤ length old

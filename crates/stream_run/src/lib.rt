@@ -1,4 +1,4 @@
-// Runs a stream of document 01: bytes to the eroded map with its answer, and bytes to the output bytes of `relief`.
+// Runs a stream of document 01: input bytes to the output bytes of `relief`.
 use answers::Refusal;
 use erosion::RunAnswer;
 use erosion::refused;
@@ -16,21 +16,17 @@ use stream::read_stream;
 use thermal_run::gen_thermal_erosion;
 ghost use mathlib.Core.Path.{_≡_};
 ghost use mathlib.Core.Bool.{true};
+ghost use mathlib.Core.List.{[]};
 ghost use Prim.Native.Nat.{_*_};
 ghost use lib.ListN.{length};
 ghost use Rattle.runs.specs.Run.{ours, runBy, thermalRun};
 ghost use Rattle.runs.specs.Refusals.{badFluvial, badThermal};
 ghost use Rattle.plans.specs.Accepted.{Accepted};
-ghost use Rattle.answers.specs.Outcome.{gives, refusalOf};
-ghost use Rattle.erosion.specs.Ending.{endedWith, ranTo};
+ghost use Rattle.answers.specs.Outcome.{gives};
+ghost use Rattle.erosion.specs.Ending.{endedWith, ranTo, refusedTo};
 ghost use Rattle.stream.specs.Stream.{heightsAt, parsedOf, badSettings, readStream};
-ghost use Rattle.stream_run.specs.StreamRun.{askedRun, AcceptedStream, refusedEnd, endOf, lentTo, shown, Relief};
-
-// What running a stream answers: the sides of its grid, 0 × 0 where it is refused, and the answer of its run.
-pub struct StreamAnswer {
-    pub size: Sides,
-    pub run: RunAnswer,
-}
+ghost use Rattle.output.specs.Output.{Wrote};
+ghost use Rattle.stream_run.specs.StreamRun.{askedRun, AcceptedStream, Relief};
 
 // Scratch for the 4,096 cells that the program takes.
 fn heights() -> [f32; 4096]
@@ -105,8 +101,9 @@ fn run_asked(head: Header, map: &mut [f32]) -> RunAnswer
     }
 }
 
-// Loads the map of an accepted stream, and runs it.
-fn run_loaded(bytes: &[u8], head: Header, map: &mut [f32]) -> RunAnswer
+// Runs an accepted stream on a map of exactly its cells. It asks nothing of the map's heights: those of the stream are
+// written over them.
+fn run_stream(bytes: &[u8], head: Header, map: &mut [f32]) -> RunAnswer
     requires { ⌜ AcceptedStream (now bytes) head ⌝ }
     requires { ⌜ length (now map) ≡ head .size .w * head .size .h ⌝ }
     ensures { λ r. ⌜ endedWith r (now (map .exit)) ≡ ranTo (askedRun head (heightsAt (now (bytes .entry)) (head .rows) (head .size .w) (head .size .h))) ⌝ }
@@ -117,51 +114,32 @@ fn run_loaded(bytes: &[u8], head: Header, map: &mut [f32]) -> RunAnswer
     run_asked(head, map)
 }
 
-// A stream that is refused.
-fn refused_stream(why: Refusal, map: &[f32]) -> StreamAnswer
-    ensures { λ r. ⌜ shown r (now (map .entry)) ≡ refusedEnd (refusalOf why) (now (map .entry)) ⌝ }
-{
-    StreamAnswer {
-        size: Sides { w: 0, h: 0 },
-        run: refused(why),
-    }
-}
-
-// Runs an accepted stream on the front of the map, if the map has room for its grid.
-fn run_header(bytes: &[u8], head: Header, map: &mut [f32]) -> StreamAnswer
-    requires { ⌜ AcceptedStream (now bytes) head ⌝ }
-    ensures { λ r. ⌜ shown r (now (map .exit)) ≡ endOf (lentTo (length (now (map .entry))) (gives (parsedOf (now (bytes .entry)) head))) (now (map .entry)) ⌝ }
+// Writes the output of an accepted stream, run on a map of its own.
+fn write_run(bytes: &[u8], head: Header, out: &mut [u8]) -> Written
+    requires { ⌜ gives (parsedOf (now bytes) head) ≡ readStream true (now bytes) ⌝ }
+    ensures { λ a. ⌜ Relief (now (bytes .entry)) (now (out .entry)) a (now (out .exit)) ⌝ }
 {
     let size = head.size;
     let n = size.w * size.h;
-    if map.len() < n {
-        return refused_stream(Refusal::Length, map);
-    }
-    let run = run_loaded(bytes, head, &mut map[..n]);
-    StreamAnswer {
-        size: size,
-        run: run,
-    }
+    let mut map = heights();
+    let run = run_stream(bytes, head, &mut map[..n]);
+    write_output(size, &map[..n], run, out)
 }
 
-// Runs a stream: its heights go into the front of the map and are eroded there. On 1 to 9 nothing is written.
-pub fn run_stream(bytes: &[u8], map: &mut [f32]) -> StreamAnswer
-    ensures { λ r. ⌜ shown r (now (map .exit)) ≡ endOf (lentTo (length (now (map .entry))) (readStream true (now (bytes .entry)))) (now (map .entry)) ⌝ }
+// Writes the output of a refused stream: the end record alone.
+fn write_refusal(why: Refusal, out: &mut [u8]) -> Written
+    ensures { λ a. ⌜ Wrote 0 0 [] (refusedTo why) (now (out .entry)) a (now (out .exit)) ⌝ }
 {
-    let read = read_stream(true, bytes);
-    match read {
-        Read::Accepted(head) => run_header(bytes, head, map),
-        Read::Refused(why) => refused_stream(why, map),
-    }
+    write_output(Sides { w: 0, h: 0 }, &[], refused(why), out)
 }
 
 // Input bytes to output bytes: what the program `relief` does.
 pub fn relief(bytes: &[u8], out: &mut [u8]) -> Written
     ensures { λ a. ⌜ Relief (now (bytes .entry)) (now (out .entry)) a (now (out .exit)) ⌝ }
 {
-    let mut map = heights();
-    let end = run_stream(bytes, &mut map);
-    let size = end.size;
-    let run = end.run;
-    write_output(size, &map[..size.w * size.h], run, out)
+    let read = read_stream(true, bytes);
+    match read {
+        Read::Accepted(head) => write_run(bytes, head, out),
+        Read::Refused(why) => write_refusal(why, out),
+    }
 }

@@ -1,4 +1,4 @@
-use Rattle.stream_run.proofs.EndLaws.{asked-accepted, asked-ran}
+use Rattle.stream_run.proofs.AskedLaws.{asked-accepted, asked-ran}
 use borrow.Author.Needs.{needs}
 use Rattle.stream_run.proofs.run_asked.Statement.{statement}
 use Rattle.stream_run.proofs.run_asked.Tie as tie
