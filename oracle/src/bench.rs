@@ -56,12 +56,24 @@ fn median(mut v: Vec<f64>) -> f64 {
 
 /// Runs both by turns and prints a row of the table: the medians in milliseconds, and the source's over the library's.
 fn row(call: &str, side: usize, kind: &str, ours: &mut dyn FnMut(), theirs: &mut dyn FnMut()) {
+    row_of(call, side, kind, SECONDS, &mut || timed(ours), &mut || timed(theirs))
+}
+
+/// The same by the times that each side gives, measured for so many seconds.
+fn row_of(
+    call: &str,
+    side: usize,
+    kind: &str,
+    seconds: f64,
+    ours: &mut dyn FnMut() -> f64,
+    theirs: &mut dyn FnMut() -> f64,
+) {
     let (mut a, mut b) = (Vec::new(), Vec::new());
     let least = if side > 2000 { ROUNDS_ABOVE_2000 } else { ROUNDS };
     let began = cpu_seconds();
-    while a.len() < least || (a.len() < MOST_ROUNDS && cpu_seconds() - began < SECONDS) {
-        b.push(timed(theirs));
-        a.push(timed(ours));
+    while a.len() < least || (a.len() < MOST_ROUNDS && cpu_seconds() - began < seconds) {
+        b.push(theirs());
+        a.push(ours());
     }
     let (a, b) = (median(a) * 1e3, median(b) * 1e3);
     let digits = if a < 10.0 { 3 } else { 1 };
@@ -137,6 +149,7 @@ fn route(side: usize, kind: &str, h: &[f32]) {
 }
 
 /// One incision along the flood's network with the source's k for strength 0.6: areas along the list, a copy of the heights, the cut.
+/// `incise` checks the network that it is lent.
 fn incise(side: usize, kind: &str, h: &[f32]) {
     let size = (side, side);
     let s = Incision { k: 8.0 * 0.6 * (side as f32 / 512.0), uplift: 0.0, water_level: WATER };
@@ -153,13 +166,33 @@ fn incise(side: usize, kind: &str, h: &[f32]) {
     };
     let mut checked = || assert!(calls::incise(size, h, &s, lent, &mut ours, &mut area) == 0);
     row("incise", side, kind, &mut checked, &mut source);
-    let called = ours.clone();
-    let accepted = calls::Accepted::of(size, h, &s, lent).expect("incise accepts the flood's network");
-    let mut unchecked = || accepted.incise_into(h, &s, &mut ours, &mut area);
-    row("incise_into", side, kind, &mut unchecked, &mut source);
-    same_floats("heights", &called, &theirs);
-    same_floats("heights", &ours, &theirs);
-    same_floats("areas", &area, &net.area);
+    let carved = incise_alone(side, kind, h, &s, &mut source);
+    for (heights, areas) in [(&ours, &area), (&carved.spill, &carved.area)] {
+        same_floats("heights", heights, &theirs);
+        same_floats("areas", areas, &net.area);
+    }
+}
+
+/// The incision as a run does it, `incise_into`, with nothing checked: the time of a routing and the incision along it
+/// in one call, less the time of the routing alone in the same slices. These two go by turns after a call that does not
+/// count, so that each finds in the caches what the other left: three times in a round, and the median difference. The
+/// source is timed after a turn of its own that does not count.
+fn incise_alone(side: usize, kind: &str, h: &[f32], s: &Incision, source: &mut dyn FnMut()) -> calls::Network {
+    let size = (side, side);
+    let mut net = calls::Network::new(h.len());
+    let mut ours = || {
+        assert!(net.carve(size, h, s) == 0);
+        let differences = [(); 3].map(|_| {
+            let routing = timed(&mut || assert!(net.route(size, h, s.water_level) == 0));
+            timed(&mut || assert!(net.carve(size, h, s) == 0)) - routing
+        });
+        median(differences.to_vec())
+    };
+    row_of("incise_into", side, kind, 3.0 * SECONDS, &mut ours, &mut || {
+        source();
+        timed(source)
+    });
+    net
 }
 
 /// One talus pass with the source's threshold for talus 0.5 and its strength 0.5.

@@ -44,26 +44,6 @@ pub fn fresh() -> Progress
     }
 }
 
-// A report without the test of its ranges, for passes and runs: a question if p is far enough from the last one, and yes if it is the stop-th.
-pub fn ask(m: Progress, p: f32, stop: u32) -> Progress
-    requires { ⌜ m .asked < 2 ^ 32 - 1 ⌝ }
-    ensures { λ r. ⌜ r ≡ reportOf m p stop ⌝ }
-{
-    if m.stopped {
-        return m;
-    }
-    if p - m.last >= 0.01 {
-        let had = m.asked;
-        let asked = had + 1;
-        return Progress {
-            last: p,
-            asked: asked,
-            stopped: asked == stop,
-        };
-    }
-    m
-}
-
 // Refusal 4 of a report: p, the last p or the number of questions outside its range.
 pub fn bad_report(m: Progress, p: f32) -> bool
     ensures { λ r. ⌜ r ≡ badReport m p ⌝ }
@@ -78,6 +58,27 @@ pub fn bad_report(m: Progress, p: f32) -> bool
 }
 
 impl Progress {
+    // A report without the test of its ranges, for passes and runs: a question if p is far enough from the last one,
+    // and yes if it is the stop-th.
+    pub fn ask(self, p: f32, stop: u32) -> Progress
+        requires { ⌜ self .asked < 2 ^ 32 - 1 ⌝ }
+        ensures { λ r. ⌜ r ≡ reportOf self p stop ⌝ }
+    {
+        if self.stopped {
+            return self;
+        }
+        if p - self.last >= 0.01 {
+            let had = self.asked;
+            let asked = had + 1;
+            return Progress {
+                last: p,
+                asked: asked,
+                stopped: asked == stop,
+            };
+        }
+        self
+    }
+
     // Reports p: whether to go on, and the record after it. The stop-th question asked gets yes; 0 means never.
     pub fn report(self, p: f32, stop: u32) -> Reported
         ensures { λ r. ⌜ ReportMade self p stop r ⌝ }
@@ -88,7 +89,7 @@ impl Progress {
                 progress: self,
             };
         }
-        let after = ask(self, p, stop);
+        let after = self.ask(p, stop);
         if after.stopped {
             return Reported {
                 go: Go::Stop,

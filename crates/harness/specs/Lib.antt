@@ -1,2 +1,3 @@
--- What an exported report promises, in the public call's own definitions.
+-- What the exports promise beyond the public calls' own definitions.
+pub mod Carve
 pub mod Reporting

@@ -1,5 +1,6 @@
 // Routing, single passes and reports by the C convention, for the oracle's bench and comparison: a slice passes as pointer and length, an answer
 // is one u64 (specs/Word.antt of harness_calls). No part of the public calls.
+use answers::Answer;
 use fluvial_erosion::FluvialParams;
 use generators::Go;
 use generators::Progress;
@@ -9,15 +10,12 @@ use harness_calls::word;
 use spacing::square_distances;
 use thermal_erosion::ThermalParams;
 ghost use mathlib.Core.Path.{_≡_};
-ghost use Prim.Native.Nat.{_*_};
-ghost use lib.ListN.{length};
 ghost use Rattle.generators.specs.Marks.{goOf};
-ghost use Rattle.spacing.specs.Distances.{squareDistances};
 ghost use Rattle.flow.specs.Route.{Routed};
 ghost use Rattle.fluvial_erosion.specs.Incise.{InciseMade};
-ghost use Rattle.fluvial_erosion.specs.Along.{Drains, Lengths, Carved};
 ghost use Rattle.thermal_erosion.specs.SlidePass.{SlideMade};
 ghost use Rattle.harness_calls.specs.Word.{wordOf, Exported};
+ghost use Rattle.harness.specs.Carve.{CarveMade};
 ghost use Rattle.harness.specs.Reporting.{goValue, Reporting};
 
 // The network of a map.
@@ -75,23 +73,49 @@ pub extern "C" fn harness_incise(
     word(fluvial_erosion::incise(size, hmap, params, recv, order, out, area))
 }
 
-// The incision alone, as a run does it with the network of its own routing, for the bench: nothing is checked, so it is asked for networks that `incise` has accepted.
+// A routing and the incision along the network that it found. It refuses what `route` refuses; k and uplift are not
+// tested.
+fn carve(
+    size: Sides,
+    hmap: &[f32],
+    params: FluvialParams,
+    order: &mut [u32],
+    recv: &mut [u32],
+    out: &mut [f32],
+    area: &mut [f32],
+    queue: &mut [u32],
+    status: &mut [u8],
+) -> Answer
+    ensures { λ r. ⌜ CarveMade (size .w) (size .h) (now (hmap .entry)) params (now (order .entry)) (now (recv .entry)) (now (out .entry)) (now (area .entry)) (now (queue .entry)) (now (status .entry)) r (now (order .exit)) (now (recv .exit)) (now (out .exit)) (now (area .exit)) (now (queue .exit)) (now (status .exit)) ⌝ }
+{
+    let water = params.water_level;
+    let answer = flow::route(size, hmap, water, order, recv, out, area, queue, status);
+    let Answer::Done = answer else {
+        return answer;
+    };
+    let ds = square_distances();
+    fluvial_erosion::incise_into(size, hmap, params, ds, recv, order, out, area);
+    Answer::Done
+}
+
+// Routes a map and incises it along the network found: the heights incised in `out`. For the bench, where its time
+// less that of `route` is the time of the incision alone.
 #[no_mangle]
-pub extern "C" fn harness_incise_into(
+pub extern "C" fn harness_carve(
     w: usize,
     h: usize,
     hmap: &[f32],
     k: f32,
     uplift: f32,
     water_level: f32,
-    recv: &[u32],
-    order: &[u32],
+    order: &mut [u32],
+    recv: &mut [u32],
     out: &mut [f32],
     area: &mut [f32],
-)
-    requires { ⌜ Drains w h (now recv) (now order) ⌝ }
-    requires { ⌜ Lengths (w * h) (length (now hmap)) (length (now out)) (length (now area)) ⌝ }
-    ensures { λ _. ⌜ Carved w h (now (hmap .entry)) (record { k = k; uplift = uplift; «water_level» = «water_level» }) squareDistances (now (recv .entry)) (now (order .entry)) (now (out .exit)) (now (area .exit)) ⌝ }
+    queue: &mut [u32],
+    status: &mut [u8],
+) -> u64
+    ensures { λ r. ⌜ Exported (λ a. CarveMade w h (now (hmap .entry)) (record { k = k; uplift = uplift; «water_level» = «water_level» }) (now (order .entry)) (now (recv .entry)) (now (out .entry)) (now (area .entry)) (now (queue .entry)) (now (status .entry)) a (now (order .exit)) (now (recv .exit)) (now (out .exit)) (now (area .exit)) (now (queue .exit)) (now (status .exit))) r ⌝ }
 {
     let size = Sides { w, h };
     let params = FluvialParams {
@@ -99,8 +123,7 @@ pub extern "C" fn harness_incise_into(
         uplift,
         water_level,
     };
-    let ds = square_distances();
-    fluvial_erosion::incise_into(size, hmap, params, ds, recv, order, out, area);
+    word(carve(size, hmap, params, order, recv, out, area, queue, status))
 }
 
 // A talus pass; the record is read and written in place.

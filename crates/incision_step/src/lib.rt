@@ -6,7 +6,6 @@ use erosion::ended;
 use flow::route_grid;
 use fluvial_erosion::FluvialParams;
 use fluvial_erosion::incise_along;
-use generators::ask;
 use grid::Sides;
 use grid::all_finite;
 use grid::copy_heights;
@@ -64,7 +63,7 @@ pub fn open_iteration(
     requires { ⌜ noBase (gridGround (size .w) (size .h) land (now hmap)) ≡ false ⌝ }
     ensures { λ e. ⌜ _≡_ {A = Worked} (record { heights = now (hmap .exit); reached = e }) (afterOpening (size .w) (size .h) land params p stop (now (hmap .entry)) r) ⌝ }
 {
-    let marks = ask(r.marks, p, stop);
+    let marks = r.marks.ask(p, stop);
     if marks.stopped {
         return ended(21, marks, r);
     }

@@ -4,7 +4,6 @@ use answers::Refusal;
 use answers::outside;
 use floats::is_finite;
 use generators::Progress;
-use generators::ask;
 use generators::bad_report;
 use grid::Sides;
 use grid::all_finite;
@@ -66,7 +65,7 @@ pub fn slide_pass_into(
             return marks;
         }
         slide_row(size, ts, hmap, out, strength, water, y);
-        marks = ask(marks, fraction(from, to, h, y), stop);
+        marks = marks.ask(fraction(from, to, h, y), stop);
         y += 1;
     }
     marks

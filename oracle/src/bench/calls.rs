@@ -22,29 +22,6 @@ macro_rules! lend {
 pub(crate) use lend;
 
 mod exported {
-    /// An incision along receivers and a list.
-    macro_rules! incision {
-        ($name:ident -> $answer:ty) => {
-            pub fn $name(
-                w: usize,
-                h: usize,
-                hmap: *const f32,
-                hmap_len: usize,
-                k: f32,
-                uplift: f32,
-                water_level: f32,
-                recv: *const u32,
-                recv_len: usize,
-                order: *const u32,
-                order_len: usize,
-                out: *mut f32,
-                out_len: usize,
-                area: *mut f32,
-                area_len: usize,
-            ) -> $answer;
-        };
-    }
-
     extern "C" {
         pub fn milofavurn_square_root(x: f32) -> u64;
 
@@ -68,8 +45,45 @@ mod exported {
             status_len: usize,
         ) -> u64;
 
-        incision!(harness_incise -> u64);
-        incision!(harness_incise_into -> ());
+        pub fn harness_incise(
+            w: usize,
+            h: usize,
+            hmap: *const f32,
+            hmap_len: usize,
+            k: f32,
+            uplift: f32,
+            water_level: f32,
+            recv: *const u32,
+            recv_len: usize,
+            order: *const u32,
+            order_len: usize,
+            out: *mut f32,
+            out_len: usize,
+            area: *mut f32,
+            area_len: usize,
+        ) -> u64;
+
+        pub fn harness_carve(
+            w: usize,
+            h: usize,
+            hmap: *const f32,
+            hmap_len: usize,
+            k: f32,
+            uplift: f32,
+            water_level: f32,
+            order: *mut u32,
+            order_len: usize,
+            recv: *mut u32,
+            recv_len: usize,
+            out: *mut f32,
+            out_len: usize,
+            area: *mut f32,
+            area_len: usize,
+            queue: *mut u32,
+            queue_len: usize,
+            status: *mut u8,
+            status_len: usize,
+        ) -> u64;
 
         pub fn harness_slide_pass(
             w: usize,
@@ -119,6 +133,12 @@ impl Network {
         lend!(exported::harness_route; value [size.0, size.1] read [hmap] value [water_level]
             write [self.order, self.recv, self.spill, self.area, self.queue, self.status])
     }
+
+    /// A routing and the incision along it; the heights incised stand where a routing alone leaves the spill heights.
+    pub fn carve(&mut self, size: Sides, hmap: &[f32], s: &Incision) -> u64 {
+        lend!(exported::harness_carve; value [size.0, size.1] read [hmap] value [s.k, s.uplift, s.water_level]
+            write [self.order, self.recv, self.spill, self.area, self.queue, self.status])
+    }
 }
 
 /// Receivers and a list that an incision is lent.
@@ -128,37 +148,10 @@ pub struct Lent<'a> {
     pub list: &'a [u32],
 }
 
-macro_rules! incise {
-    ($f:path, $size:expr, $hmap:expr, $s:expr, $lent:expr, $out:expr, $area:expr) => {
-        lend!($f; value [$size.0, $size.1] read [$hmap] value [$s.k, $s.uplift, $s.water_level]
-            read [$lent.recv, $lent.list] write [$out, $area])
-    };
-}
-
 /// An incision of `hmap` into `out` along receivers and a list.
 pub fn incise(size: Sides, hmap: &[f32], s: &Incision, lent: Lent, out: &mut [f32], area: &mut [f32]) -> u64 {
-    incise!(exported::harness_incise, size, hmap, s, lent, out, area)
-}
-
-/// A network that `incise` has accepted: what `incise_into` asks of receivers and list, and does not test.
-pub struct Accepted<'a> {
-    size: Sides,
-    lent: Lent<'a>,
-}
-
-impl<'a> Accepted<'a> {
-    /// The lent network, if `incise` accepts it with these heights and settings.
-    pub fn of(size: Sides, hmap: &[f32], s: &Incision, lent: Lent<'a>) -> Option<Accepted<'a>> {
-        let (mut out, mut area) = (vec![0.0; hmap.len()], vec![0.0; hmap.len()]);
-        (incise(size, hmap, s, lent, &mut out, &mut area) == 0).then_some(Accepted { size, lent })
-    }
-
-    /// The incision alone, as a run does it; every slice holds the grid's cells.
-    pub fn incise_into(&self, hmap: &[f32], s: &Incision, out: &mut [f32], area: &mut [f32]) {
-        let n = self.size.0 * self.size.1;
-        assert!([hmap.len(), out.len(), area.len()] == [n; 3]);
-        incise!(exported::harness_incise_into, self.size, hmap, s, self.lent, out, area)
-    }
+    lend!(exported::harness_incise; value [size.0, size.1] read [hmap] value [s.k, s.uplift, s.water_level]
+        read [lent.recv, lent.list] write [out, area])
 }
 
 /// The root of x, of crates/layout_calls.

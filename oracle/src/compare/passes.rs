@@ -153,6 +153,17 @@ fn incised(t: &mut Tally, call: &'static str, l: &Land, s: &Incision, lent: &Len
     (w, ours)
 }
 
+/// Routing and incision in one call, which does not test its result for run-offs: the network of the routing alone, and
+/// the heights of the incision along its list.
+fn carved(t: &mut Tally, l: &Land, s: &Incision, net: &Network, incised: &(u64, Vec<f32>)) {
+    let mut ours = Network::new(l.h.len());
+    let w = ours.carve(l.size, &l.h, s);
+    let network = ours.order == net.order && ours.recv == net.recv && same(&ours.area, &net.area);
+    let alike = w == 0 && network && (incised.0 >> 32 == 22 || same(&ours.spill, &incised.1));
+    let input = || format!("k {}, uplift {}, water {}, {}", s.k, s.uplift, s.water_level, shown(l.size, &l.h));
+    t.compared("route and incise in one call", 0, alike, l.h.len(), input);
+}
+
 /// Along the flood's own list and along another list of its receivers: each against the source, and one against the other.
 fn both_lists(t: &mut Tally, r: &mut Random, l: &Land, s: &Incision, net: &Network) {
     let n = l.h.len();
@@ -160,6 +171,7 @@ fn both_lists(t: &mut Tally, r: &mut Random, l: &Land, s: &Incision, net: &Netwo
     let other = another_list(r, &net.recv);
     let a = incised(t, "incise, the flood's list", l, s, &lent(&net.order));
     let b = incised(t, "incise, another list", l, s, &lent(&other));
+    carved(t, l, s, net, &a);
     let alike = a.0 == b.0 && (a.0 >> 32 == 22 || same(&a.1, &b.1));
     let input = || format!("k {}, uplift {}, {}, {other:?}", s.k, s.uplift, shown(l.size, &l.h));
     t.compared("one list against the other", (a.0 >> 32) as u32, alike, n, input);

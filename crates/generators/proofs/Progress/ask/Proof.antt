@@ -1,8 +1,8 @@
 use mathlib.Core.Path.{sym}
 use borrow.Author.Needs.{needs}
 use Rattle.generators.proofs.MarksLaws.{report-stopped, report-asks, report-quiet}
-use Rattle.generators.proofs.ask.Statement.{statement}
-use Rattle.generators.proofs.ask.Tie as tie
+use Rattle.generators.proofs.Progress.ask.Statement.{statement}
+use Rattle.generators.proofs.Progress.ask.Tie as tie
 
 returns : tie.Need-returns
 returns c = sym (report-stopped _ _ _ (c .if1 .taken))

@@ -1,0 +1,2 @@
+-- Laws of the routing and incision in one call.
+pub mod CarveLaws
