@@ -43,7 +43,7 @@ near c = entry-neighbour _ _ _ _ (c .before .before .before .before .loop .d) (c
 shed-toward-requires : tie.Need-shed-toward-requires Inv-loop μ-loop
 shed-toward-requires c κs =
     let p = c .before .before .before .before .before .before .pre in
-    (cell-below (p .0), (inner-in-map (p .1) (c .before .before .before .before .loop .d) _ _ (c .before .before .before .before .loop .inv .first) (c .before .before .before .loop-test .taken) (p .0 .cells) (near c), c .before .before .before .loop-test .taken))
+    (cell-below (p .0), (inner-in-map (p .1) (c .before .before .before .before .loop .d) _ _ (c .before .before .before .before .loop .inv .first) (c .before .before .before .loop-test .taken) (p .0 .cells) (near c), omega (arith, c .before .before .before .loop-test .taken)))
 
 add-d : tie.Need-add-d Inv-loop μ-loop
 add-d c = search needs
