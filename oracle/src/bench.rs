@@ -173,17 +173,18 @@ fn incise(side: usize, kind: &str, h: &[f32]) {
     }
 }
 
-/// The incision as a run does it, `incise_into`, with nothing checked: the time of a routing and the incision along it
-/// in one call, less the time of the routing alone in the same slices. These two go by turns after a call that does not
-/// count, so that each finds in the caches what the other left: three times in a round, and the median difference. The
-/// source is timed after a turn of its own that does not count.
+/// The incision with its areas, `incise_into`, with nothing checked: the time of a routing and the incision along it in
+/// one call, less the time of the routing alone in the same slices. Each comes after such a call that does not count, so
+/// that both find the same in the caches: three times in a round, and the median difference. The source is timed after a
+/// turn of its own that does not count.
 fn incise_alone(side: usize, kind: &str, h: &[f32], s: &Incision, source: &mut dyn FnMut()) -> calls::Network {
     let size = (side, side);
     let mut net = calls::Network::new(h.len());
     let mut ours = || {
-        assert!(net.carve(size, h, s) == 0);
         let differences = [(); 3].map(|_| {
+            assert!(net.carve(size, h, s) == 0);
             let routing = timed(&mut || assert!(net.route(size, h, s.water_level) == 0));
+            assert!(net.carve(size, h, s) == 0);
             timed(&mut || assert!(net.carve(size, h, s) == 0)) - routing
         });
         median(differences.to_vec())

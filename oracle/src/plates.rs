@@ -138,6 +138,14 @@ fn zeros_of_both_signs() {
     assert_eq!(route((3, 3), &h, -1.0).order[..4], [0, 4, 1, 2]);
 }
 
+/// A mix of the largest float with itself is finite at every fraction.
+#[test]
+fn mixes_of_the_largest_float() {
+    for d in (0..=1.0_f32.to_bits()).map(f32::from_bits) {
+        assert!(((1.0 - d) * f32::MAX + d * f32::MAX).is_finite());
+    }
+}
+
 /// A sample of the largest float alone, at fractions of every size, is finite.
 #[test]
 fn samples_of_the_largest_float() {

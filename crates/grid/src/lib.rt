@@ -198,7 +198,7 @@ fn search_rows(g: Sides, hs: &[f32]) -> usize
 }
 
 // The first cell, row by row, whose height is not finite; w × h where every height is finite. The rows are searched
-// only where there is one.
+// only where some height is not.
 pub fn first_not_finite(g: Sides, hs: &[f32]) -> usize
     requires { ⌜ length (now hs) ≡ g .w * g .h ⌝ }
     ensures { λ r. ⌜ r ≡ firstNotFinite (now (hs .entry)) ⌝ }

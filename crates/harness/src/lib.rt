@@ -98,8 +98,8 @@ fn carve(
     Answer::Done
 }
 
-// Routes a map and incises it along the network found: the heights incised in `out`. For the bench, where its time
-// less that of `route` is the time of the incision alone.
+// Routes a map and incises it along the network found: the heights incised in `out`. In the bench its time less that of
+// `route` is the time of the incision alone.
 #[no_mangle]
 pub extern "C" fn harness_carve(
     w: usize,

@@ -22,8 +22,8 @@ greatestBits m = toBits binary32 (m .max)
 abbrev pub endBits : Bool → MinMax → ℕ
 endBits greatest m = toBits binary32 (cond greatest (m .max) (m .min))
 
--- The call makes what the public call makes, and gives the word of that call's answer. `Made` is the public call's own promise with its answer left
--- open; that promise fixes the answer by an equation, and so the word.
+-- The export makes what the call makes, and gives the word of that call's answer. `Made` is the call's own promise with
+-- its answer left open; that promise fixes the answer by an equation, and so the word.
 pub record Exported (Made : Answer → Type 0) (word : ℕ) : Type 0 where
   pub answer : Answer
   pub made : Made answer

@@ -93,7 +93,7 @@ fn put_end(out: &mut [u8], at: usize, number: u16, incisions: u32, passes: u32, 
 }
 
 // Writes the output of a run that answered r and left the map: the bytes of document 01, the rest of the slice as it
-// was. It is a part of `relief`: it tests the sides and the lengths, and asks nothing of the heights (no refusal 5).
+// was. It is a part of `relief`, and asks nothing of the heights: no refusal 5.
 pub fn write_output(size: Sides, map: &[f32], r: RunAnswer, out: &mut [u8]) -> Written
     ensures { λ a. ⌜ Wrote (size .w) (size .h) (now (map .entry)) r (now (out .entry)) a (now (out .exit)) ⌝ }
 {

@@ -18,7 +18,8 @@ ghost use Rattle.lists.specs.Loops.{tabulate};
 ghost use Rattle.inner_cells.specs.Inner.{Inner, InnerRun};
 ghost use Rattle.steps.specs.Step.{placeDistances, Near};
 ghost use Rattle.spacing.specs.Distances.{nineOf};
-ghost use Rattle.receiver_blocks.specs.Runs.{offsetFrom, finderAs, steepestFrom, steepestAt, NearFinders, Begun, Leads, Stored, RunReceived};
+ghost use Rattle.receiver_blocks.specs.Runs.{offsetFrom, finderAs, steepestFrom, steepestAt, NearFinders};
+ghost use Rattle.receiver_blocks.specs.Runs.{Begun, Leads, Stored, RunReceived};
 
 // The offset of cell m from an inner cell c on a grid of that width. It stands for m beside its slope, in as many bits,
 // so that as many are chosen at a time.

@@ -15,7 +15,8 @@ ghost use lib.Dec.{ltb};
 ghost use lib.Ieee.{binary32, ofBits, lt};
 ghost use Rattle.grid.specs.Directions.{Step, steppedAt};
 ghost use Rattle.inner_cells.specs.Inner.{Inner};
-ghost use Rattle.talus.specs.Talus.{thresholdsOf, excessOver, shedTo, shedOf, gainTo, gainsOf, slideCell, slideCells};
+ghost use Rattle.talus.specs.Talus.{thresholdsOf, excessOver, shedTo, shedOf, gainTo, gainsOf};
+ghost use Rattle.talus.specs.Talus.{slideCell, slideCells};
 ghost use Rattle.talus.specs.Places.{CellAt, InRow};
 
 // The total of the excesses counted so far, and the greatest of them.
@@ -109,7 +110,7 @@ fn in_map(m: usize, cells: usize, inner: bool) -> bool
     m < cells
 }
 
-// The excess toward m, in direction d, is counted if m is a cell of the map.
+// The excess toward m, in direction d, if m is a cell of the map: it is counted if it is above 0.
 fn shed_toward(
     ts: &[f32; 9],
     hmap: &[f32],

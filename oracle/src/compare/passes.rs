@@ -46,29 +46,39 @@ fn untouched(v: &[f32]) -> bool {
     v.iter().all(|x| x.to_bits() == FILL.to_bits())
 }
 
-/// The network that the library leaves; slices of the lengths given, filled before the call.
+/// What a status holds before the call.
+const STATE: u8 = 7;
+
+/// Whether all slices of a network that were filled before the call still are.
+fn kept(net: &Network) -> bool {
+    let cells = net.order.iter().chain(&net.recv).chain(&net.queue).all(|c| *c == FILL.to_bits());
+    cells && untouched(&net.spill) && untouched(&net.area) && net.status.iter().all(|s| *s == STATE)
+}
+
+/// The network that the library leaves; slices of the lengths given, filled before the call. What a routing refuses, a
+/// routing and incision in one call refuses alike.
 fn routed(t: &mut Tally, l: &Land, room: RouteRoom) -> Network {
     let mut ours = Network::new(0);
-    let (cell, state) = (FILL.to_bits(), 7);
+    let cell = FILL.to_bits();
     (ours.order, ours.recv) = (vec![cell; room.order], vec![cell; room.recv]);
     (ours.spill, ours.area) = (vec![FILL; room.spill], vec![FILL; room.area]);
-    (ours.queue, ours.status) = (vec![cell; room.queue], vec![state; room.status]);
+    (ours.queue, ours.status) = (vec![cell; room.queue], vec![STATE; room.status]);
     let a = rules::route(l.size, &l.h, l.water_level, room);
     let w = ours.route(l.size, &l.h, l.water_level);
     let left = match &a {
         Ok(n) => {
             ours.order == n.order && ours.recv == n.recv && same(&ours.spill, &n.spill) && same(&ours.area, &n.area)
         }
-        Err(_) => {
-            ours.order.iter().chain(&ours.recv).chain(&ours.queue).all(|c| *c == cell)
-                && untouched(&ours.spill)
-                && untouched(&ours.area)
-                && ours.status.iter().all(|s| *s == state)
-        }
+        Err(_) => kept(&ours),
     };
     let alike = w == word(&a, |_| 0) && left;
     let input = || format!("water {:08x}, {}", l.water_level.to_bits(), shown(l.size, &l.h));
     t.compared("route", number(&a), alike, l.h.len(), input);
+    if a.is_err() {
+        let s = Incision { k: 1.0, uplift: 0.0, water_level: l.water_level };
+        let alike = ours.carve(l.size, &l.h, &s) == w && kept(&ours);
+        t.compared("route and incise in one call", number(&a), alike, l.h.len(), input);
+    }
     ours
 }
 
