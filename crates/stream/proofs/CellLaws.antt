@@ -1,18 +1,23 @@
 -- The heights of a stream: each stands inside it; the test of each is that of its cell; and the map that they fill, row by row.
 use Prim.Native.Nat.{ℕ, _+_, _-_, _*_, _^_, _≤_, _<_}
-use mathlib.Core.Path.{_≡_, sym, ap, ap₂, _∙_}
-use mathlib.Core.Bool.{Bool}
+use mathlib.Core.Path.{_≡_, refl, sym, ap, ap₂, _∙_, subst}
+use mathlib.Core.Bool.{Bool, true}
 use mathlib.Core.List.{List}
 use native.Mathlib.Omega.{arith}
+use native.Mathlib.Decide.{decLt}
 use lib.ListN.{length, getD}
 use lib.Ieee.{Float, nan}
 use lib.Ieee.Scale.{finite}
 use borrow.Rule.Slice.PartMut.{putMid}
+use Rattle.lists.specs.Loops.{tabulate}
 use Rattle.lists.proofs.TableLaws.{length-tabulate, getD-tabulate}
 use Rattle.lists.proofs.FillLaws.{Filling}
 use Rattle.resample.proofs.RowFillLaws.{stored-row-at}
 use Rattle.grid.specs.Sides.{cellOf}
+use Rattle.grid.specs.Heights.{allFinite}
 use Rattle.grid.proofs.SidesLaws.{column-cell, row-cell, cell-lt, cells-bound, row-few}
+use Rattle.grid.proofs.HeightsLaws.{all-at}
+use Rattle.grid.proofs.WalkLaws.{Sought}
 use Rattle.stream.proofs.RecordLaws.{rows-end}
 use Rattle.stream.specs.Stream.{heightAt, rowHeights, cellAt, heightsAt, Framed}
 
@@ -48,3 +53,22 @@ module _ (s : List ℕ) (rows w : ℕ) where
       (e
       ∙ sym (ap₂ (heightAt s rows w) (column-cell w x y hx) (row-cell w x y hx))
       ∙ sym (getD-tabulate (cellAt s rows w) (w * h) (cellOf w x y) nan (cell-lt w x y hx h hy)))
+
+  -- a row whose heights are all finite is behind the search
+  pub row-sought : (h : ℕ) {y : ℕ} → y < h → Sought w (heightsAt s rows w h) 0 y → {b : Bool} → b ≡ allFinite (rowHeights s rows w y) → b ≡ true
+      → Sought w (heightsAt s rows w h) 0 (y + 1)
+  unfolding rowHeights
+  row-sought h {y} hy p e t = record { cells = record { each = λ i l. go i l (decLt i (y * w)) } }
+    where
+      height-finite : (x : ℕ) → x < w → finite (heightAt s rows w x y) ≡ true
+      height-finite x hx =
+          let f : ℕ → Float = λ x. heightAt s rows w x y in
+          ap finite (sym (getD-tabulate f w x nan hx)) ∙ all-at (tabulate w f) (sym e ∙ t) x (omega (arith, length-tabulate f w))
+
+      go : (i : ℕ) → i < cellOf w 0 (y + 1) → Dec (i < y * w) → finite (getD (heightsAt s rows w h) i nan) ≡ true
+      go i l (yes before) = p .cells .each i (omega arith)
+      go i l (no behind) =
+          let x : ℕ = i - y * w in
+          let hx : x < w = omega arith in
+          let same : cellOf w x y ≡ i = omega arith in
+          subst (λ (k : ℕ). finite (getD (heightsAt s rows w h) k nan) ≡ true) same (sym (height-is h hx hy refl refl) ∙ height-finite x hx)

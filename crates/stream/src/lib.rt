@@ -17,7 +17,7 @@ ghost use Prim.Native.Nat.{_+_, _*_, _≤_, _<_};
 ghost use lib.Dec.{ltb};
 ghost use lib.ListN.{length};
 ghost use Rattle.grid.specs.Sides.{InRange};
-ghost use Rattle.grid.specs.Heights.{firstNotFinite};
+ghost use Rattle.grid.specs.Heights.{firstNotFinite, allFinite};
 ghost use Rattle.stream_bytes.specs.Bytes.{markAt};
 ghost use Rattle.stream.specs.Stream.{sidesAt, settingsLength, settingsAt, Recorded, headerAt, rowLength, rowsMarked, rowHeights, heightsAt, parsedOf, badGrid, badRest, badSettings, Framed, Whole, fluvialAt, thermalAt, heightAt, valuesOf, readStream, readOf};
 
@@ -230,7 +230,24 @@ fn read_row(bytes: &[u8], rows: usize, size: Sides, y: usize, row: &mut [f32])
     }
 }
 
-// The first cell, row by row, whose height is not finite; w × h where every height is finite.
+// Whether every height of row y is finite, with no branch, so that the compiler tests several at a time.
+fn row_finite(bytes: &[u8], rows: usize, size: Sides, y: usize) -> bool
+    requires { ⌜ Framed (now bytes) rows (size .w) (size .h) ⌝ }
+    requires { ⌜ y < size .h ⌝ }
+    ensures { λ r. ⌜ r ≡ allFinite (rowHeights (now (bytes .entry)) rows (size .w) y) ⌝ }
+{
+    let w = size.w;
+    let mut good = true;
+    let mut x: usize = 0;
+    while x < w {
+        good = good & is_finite(height_at(bytes, rows, size, x, y));
+        x += 1;
+    }
+    good
+}
+
+// The first cell, row by row, whose height is not finite; w × h where every height is finite. A row is searched only
+// where some height of it is not.
 fn first_bad_height(bytes: &[u8], rows: usize, size: Sides) -> usize
     requires { ⌜ Framed (now bytes) rows (size .w) (size .h) ⌝ }
     ensures { λ r. ⌜ r ≡ firstNotFinite (heightsAt (now (bytes .entry)) rows (size .w) (size .h)) ⌝ }
@@ -242,13 +259,15 @@ fn first_bad_height(bytes: &[u8], rows: usize, size: Sides) -> usize
         if h <= y {
             break 'rows w * h;
         }
-        let mut x: usize = 0;
-        while x < w {
-            let cell = x + y * w;
-            if !is_finite(height_at(bytes, rows, size, x, y)) {
-                break 'rows cell;
+        if !row_finite(bytes, rows, size, y) {
+            let mut x: usize = 0;
+            while x < w {
+                let cell = x + y * w;
+                if !is_finite(height_at(bytes, rows, size, x, y)) {
+                    break 'rows cell;
+                }
+                x += 1;
             }
-            x += 1;
         }
         y += 1;
     }
