@@ -11,7 +11,7 @@ use Rattle.answers.specs.Outcome.{Outcome, gives, refused, refusedAt, refusalOf
 use Rattle.grid.specs.Sides.{badSides}
 use Rattle.stream_bytes.specs.Bytes.{bytes2, bytes4, gridMark, rowMark, endMark}
 use Rattle.words.specs.Words.{bitsAt, wordBytes}
-use Rattle.stream.specs.Stream.{rowLength}
+use Rattle.stream_rows.specs.Rows.{rowLength}
 use Rattle.erosion.specs.declared.RunAnswer.{RunAnswer}
 use Rattle.output.specs.declared.Written.{Written}
 

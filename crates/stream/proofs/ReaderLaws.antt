@@ -14,11 +14,12 @@ use Rattle.grid.specs.Heights.{firstNotFinite, allFinite}
 use Rattle.grid.specs.declared.Sides.{Sides}
 use Rattle.grid.proofs.SidesLaws.{good-sides}
 use Rattle.stream_bytes.specs.Bytes.{number4, fluvialMark, thermalMark, same, markAt, marked}
-use Rattle.stream.specs.Stream.{Parsed, sidesAt, settingsLength, rowsAt, rowAt, rowsMarked, settingsAt, Recorded, headerAt, heightsAt, parsedOf, badGrid, badRest, badSettings, valuesOf, readStream, Framed, Whole}
+use Rattle.stream_rows.specs.Rows.{rowAt, rowsMarked, heightsAt, Framed}
+use Rattle.stream.specs.Stream.{Parsed, sidesAt, settingsLength, rowsAt, settingsAt, Recorded, headerAt, parsedOf, badGrid, badRest, badSettings, valuesOf, readStream, Whole}
 use Rattle.stream.specs.declared.Settings.{Settings}
 use Rattle.stream.specs.declared.Header.{Header}
 use Rattle.stream.proofs.RecordLaws.{settings-few}
-use Rattle.stream.proofs.CellLaws.{heights-length}
+use Rattle.stream_rows.proofs.CellLaws.{heights-length}
 
 module _ {s : List ℕ} {w h : ℕ} (whole : Whole s w h) where
   opened : (eqb (settingsLength (markAt s 6)) 0 || (not (eqb (length s) (rowAt (rowsAt s) w h)) || not (rowsMarked s (rowsAt s) w h))) ≡ false

@@ -1,5 +1,5 @@
 -- The reader of document 01, 'The stream': from bytes to the run that they ask for, or to a refusal.
-use Prim.Native.Nat.{ℕ, zero, suc, _+_, _-_, _*_, _≤_}
+use Prim.Native.Nat.{ℕ, _+_, _-_, _*_, _≤_}
 use mathlib.Core.Path.{_≡_}
 use mathlib.Core.Bool.{Bool, true, false, not, _&&_, _||_, cond}
 use mathlib.Core.List.{List}
@@ -7,14 +7,14 @@ use lib.ListN.{length}
 use lib.Dec.{eqb, ltb}
 use lib.Ieee.{Float}
 use Rattle.answers.specs.Outcome.{Outcome, gives, refused, refusedAt, refusalOf}
-use Rattle.lists.specs.Loops.{tabulate}
-use Rattle.grid.specs.Sides.{badSides, columnOf, rowOf, InRange}
+use Rattle.grid.specs.Sides.{badSides, InRange}
 use Rattle.grid.specs.Heights.{firstNotFinite, allFinite}
 use Rattle.grid.specs.declared.Sides.{Sides}
 use Rattle.runs.specs.Refusals.{badFluvial, badThermal}
 use Rattle.runs.specs.declared.FluvialSettings.{FluvialSettings}
 use Rattle.runs.specs.declared.ThermalSettings.{ThermalSettings}
-use Rattle.stream_bytes.specs.Bytes.{number2, number4, float4, gridMark, fluvialMark, thermalMark, rowMark, same, markAt, marked}
+use Rattle.stream_bytes.specs.Bytes.{number2, number4, float4, gridMark, fluvialMark, thermalMark, same, markAt, marked}
+use Rattle.stream_rows.specs.Rows.{rowAt, rowsMarked, heightsAt}
 use Rattle.stream.specs.declared.Settings.{Settings}
 use Rattle.stream.specs.declared.Settings.the-variants.{Fluvial, Thermal}
 use Rattle.stream.specs.declared.Header.{Header}
@@ -68,33 +68,6 @@ settingsAt s = cond (marked s 6 fluvialMark) (Fluvial (fluvialAt s)) (Thermal (t
 unfoldable pub headerAt : List ℕ → Header
 headerAt s = record { size = sidesAt s; settings = settingsAt s; stop = number4 s (rowsAt s - 4); rows = rowsAt s }
 
--- h records 52 57 of w heights: where row y begins, if the rows begin at a place
-abbrev pub rowLength : ℕ → ℕ
-rowLength w = 2 + 4 * w
-
-abbrev pub rowAt : ℕ → ℕ → ℕ → ℕ
-rowAt rows w y = rows + y * rowLength w
-
--- the first rows all have their mark
-unfoldable pub rowsMarked : List ℕ → ℕ → ℕ → ℕ → Bool
-rowsMarked s rows w zero = true
-rowsMarked s rows w (suc y) = rowsMarked s rows w y && marked s (rowAt rows w y) rowMark
-
-abbrev pub heightAt : List ℕ → ℕ → ℕ → ℕ → ℕ → Float
-heightAt s rows w x y = float4 s (rowAt rows w y + (2 + 4 * x))
-
--- the heights of row y
-unfoldable pub rowHeights : List ℕ → ℕ → ℕ → ℕ → List Float
-unfolding number4 tabulate
-rowHeights s rows w y = tabulate w (λ x. heightAt s rows w x y)
-
-abbrev pub cellAt : List ℕ → ℕ → ℕ → ℕ → Float
-cellAt s rows w i = heightAt s rows w (columnOf w i) (rowOf w i)
-
-unfoldable pub heightsAt : List ℕ → ℕ → ℕ → ℕ → List Float
-unfolding number4 tabulate
-heightsAt s rows w h = tabulate (w * h) (cellAt s rows w)
-
 abbrev pub parsedOf : List ℕ → Header → Parsed
 parsedOf s head = record { header = head; heights = heightsAt s (head .rows) (head .size .w) (head .size .h) }
 
@@ -120,7 +93,8 @@ valuesOf p =
     cond (badSettings (p .header .settings)) (refused 4)
     (cond (allFinite (p .heights)) (gives p) (refusedAt 5 (firstNotFinite (p .heights))))
 
--- Order: grid record 8, 1, 9, the rest 8, 4, 5. The stream check leaves 9, more than 4,096 cells, out: there `limited` is false.
+-- Order: grid record 8, 1, 9, the rest 8, 4, 5. The stream check leaves 9, more than 4,096 cells, out: there `limited`
+-- is false.
 unfoldable pub readStream : Bool → List ℕ → Outcome Parsed
 unfolding headerAt heightsAt badGrid badRest
 readStream limited s =
@@ -134,12 +108,6 @@ readStream limited s =
 pub record Recorded (s : List ℕ) : Type 0 where
   pub some : 32 ≤ rowsAt s
   pub room : rowsAt s ≤ length s
-
--- rows that fill the stream to its end, of a grid in range
-pub record Framed (s : List ℕ) (rows w h : ℕ) : Type 0 where
-  pub begins : rows ≤ 36
-  pub sides : InRange w h
-  pub whole : length s ≡ rowAt rows w h
 
 -- a stream of which nothing is refused by 8, on a grid in range
 pub record Whole (s : List ℕ) (w h : ℕ) : Type 0 where

@@ -1,6 +1,5 @@
 // The stream of document 01, read: bytes to the run that they ask for, or to a refusal (specs/Stream.antt).
 use answers::Refusal;
-use floats::is_finite;
 use grid::Sides;
 use grid::bad_sides;
 use plans::bad_fluvial;
@@ -11,24 +10,25 @@ use stream_bytes::has_mark;
 use stream_bytes::read_f32;
 use stream_bytes::read_u16;
 use stream_bytes::read_u32;
+use stream_rows::first_bad_height;
+use stream_rows::rows_length;
+use stream_rows::rows_marked;
 ghost use mathlib.Core.Path.{_≡_};
-ghost use mathlib.Core.Bool.{true, false, _&&_};
-ghost use Prim.Native.Nat.{_+_, _*_, _≤_, _<_};
+ghost use mathlib.Core.Bool.{_&&_};
+ghost use Prim.Native.Nat.{_*_, _≤_};
 ghost use lib.Dec.{ltb};
 ghost use lib.ListN.{length};
 ghost use Rattle.grid.specs.Sides.{InRange};
-ghost use Rattle.grid.specs.Heights.{firstNotFinite, allFinite};
 ghost use Rattle.stream_bytes.specs.Bytes.{markAt};
-ghost use Rattle.stream.specs.Stream.{sidesAt, settingsLength, settingsAt, Recorded, headerAt, rowLength, rowsMarked, rowHeights, heightsAt, parsedOf, badGrid, badRest, badSettings, Framed, Whole, fluvialAt, thermalAt, heightAt, valuesOf, readStream, readOf};
+ghost use Rattle.stream_rows.specs.Rows.{Framed};
+ghost use Rattle.stream.specs.Stream.{sidesAt, settingsLength, settingsAt, Recorded, headerAt, parsedOf, badGrid, badRest, badSettings, Whole, fluvialAt, thermalAt, valuesOf, readStream, readOf};
 
-// The mark of each record.
+// The marks of the records other than rows.
 pub const GRID: [u8; 2] = *b"GR";
 
 pub const FLUVIAL: [u8; 2] = *b"FL";
 
 pub const THERMAL: [u8; 2] = *b"TH";
-
-pub const ROW: [u8; 2] = *b"RW";
 
 pub const END: [u8; 2] = *b"EN";
 
@@ -52,7 +52,7 @@ pub enum Read {
     Refused(Refusal),
 }
 
-// 8 of the grid record: another mark, or fewer than its 6 bytes.
+// Refusal 8 of the grid record: another mark, or fewer than its 6 bytes.
 fn bad_grid(bytes: &[u8]) -> bool
     ensures { λ r. ⌜ r ≡ badGrid (now (bytes .entry)) ⌝ }
 {
@@ -86,33 +86,8 @@ fn settings_length(bytes: &[u8]) -> usize
     0
 }
 
-// Whether h rows of w heights that begin at a place all have their mark.
-fn rows_marked(bytes: &[u8], rows: usize, w: usize, h: usize) -> bool
-    requires { ⌜ Framed (now bytes) rows w h ⌝ }
-    ensures { λ r. ⌜ r ≡ rowsMarked (now (bytes .entry)) rows w h ⌝ }
-{
-    let step = 2 + 4 * w;
-    let mut at = rows;
-    let mut y: usize = 0;
-    while y < h {
-        if !has_mark(bytes, at, &ROW) {
-            return false;
-        }
-        at += step;
-        y += 1;
-    }
-    true
-}
-
-// The bytes of all rows of a grid.
-pub fn rows_length(size: Sides) -> usize
-    requires { ⌜ InRange (size .w) (size .h) ⌝ }
-    ensures { λ r. ⌜ r ≡ size .h * rowLength (size .w) ⌝ }
-{
-    size.h * (2 + 4 * size.w)
-}
-
-// 8 of the rest: a settings record with another mark, an early end or bytes left over, or a row with another mark.
+// Refusal 8 of the rest: a settings record with another mark, an early end or bytes left over, or a row with another
+// mark.
 fn bad_rest(bytes: &[u8], size: Sides) -> bool
     requires { ⌜ InRange (size .w) (size .h) ⌝ }
     ensures { λ r. ⌜ r ≡ badRest (now (bytes .entry)) (size .w) (size .h) ⌝ }
@@ -183,7 +158,7 @@ fn read_header(bytes: &[u8], size: Sides) -> Header
     }
 }
 
-// 4: a setting outside its range.
+// Refusal 4: a setting outside its range.
 fn bad_settings(settings: Settings) -> bool
     ensures { λ r. ⌜ r ≡ badSettings settings ⌝ }
 {
@@ -193,7 +168,7 @@ fn bad_settings(settings: Settings) -> bool
     }
 }
 
-// 9: more cells than the program takes.
+// Refusal 9: more cells than the program takes.
 fn too_many(limited: bool, size: Sides) -> bool
     requires { ⌜ InRange (size .w) (size .h) ⌝ }
     ensures { λ r. ⌜ r ≡ (limited && ltb 4096 (size .w * size .h)) ⌝ }
@@ -204,93 +179,7 @@ fn too_many(limited: bool, size: Sides) -> bool
     false
 }
 
-// The height of column x, row y, where the rows begin at a place.
-fn height_at(bytes: &[u8], rows: usize, size: Sides, x: usize, y: usize) -> f32
-    requires { ⌜ Framed (now bytes) rows (size .w) (size .h) ⌝ }
-    requires { ⌜ x < size .w ⌝ }
-    requires { ⌜ y < size .h ⌝ }
-    ensures { λ r. ⌜ r ≡ heightAt (now (bytes .entry)) rows (size .w) x y ⌝ }
-{
-    let row = rows + y * (2 + 4 * size.w);
-    read_f32(bytes, row + (2 + 4 * x))
-}
-
-// Writes the heights of row y.
-fn read_row(bytes: &[u8], rows: usize, size: Sides, y: usize, row: &mut [f32])
-    requires { ⌜ Framed (now bytes) rows (size .w) (size .h) ⌝ }
-    requires { ⌜ y < size .h ⌝ }
-    requires { ⌜ length (now row) ≡ size .w ⌝ }
-    ensures { λ _. ⌜ now (row .exit) ≡ rowHeights (now (bytes .entry)) rows (size .w) y ⌝ }
-{
-    let n = row.len();
-    let mut x: usize = 0;
-    while x < n {
-        row[x] = height_at(bytes, rows, size, x, y);
-        x += 1;
-    }
-}
-
-// Whether every height of row y is finite, with no branch, so that the compiler tests several at a time.
-fn row_finite(bytes: &[u8], rows: usize, size: Sides, y: usize) -> bool
-    requires { ⌜ Framed (now bytes) rows (size .w) (size .h) ⌝ }
-    requires { ⌜ y < size .h ⌝ }
-    ensures { λ r. ⌜ r ≡ allFinite (rowHeights (now (bytes .entry)) rows (size .w) y) ⌝ }
-{
-    let w = size.w;
-    let mut good = true;
-    let mut x: usize = 0;
-    while x < w {
-        good = good & is_finite(height_at(bytes, rows, size, x, y));
-        x += 1;
-    }
-    good
-}
-
-// The first cell, row by row, whose height is not finite; w × h where every height is finite. A row is searched only
-// where some height of it is not.
-fn first_bad_height(bytes: &[u8], rows: usize, size: Sides) -> usize
-    requires { ⌜ Framed (now bytes) rows (size .w) (size .h) ⌝ }
-    ensures { λ r. ⌜ r ≡ firstNotFinite (heightsAt (now (bytes .entry)) rows (size .w) (size .h)) ⌝ }
-{
-    let w = size.w;
-    let h = size.h;
-    let mut y: usize = 0;
-    'rows: loop {
-        if h <= y {
-            break 'rows w * h;
-        }
-        if !row_finite(bytes, rows, size, y) {
-            let mut x: usize = 0;
-            while x < w {
-                let cell = x + y * w;
-                if !is_finite(height_at(bytes, rows, size, x, y)) {
-                    break 'rows cell;
-                }
-                x += 1;
-            }
-        }
-        y += 1;
-    }
-}
-
-// Writes the heights of the stream into the map.
-pub fn load(bytes: &[u8], rows: usize, size: Sides, map: &mut [f32])
-    requires { ⌜ Framed (now bytes) rows (size .w) (size .h) ⌝ }
-    requires { ⌜ length (now map) ≡ size .w * size .h ⌝ }
-    ensures { λ _. ⌜ now (map .exit) ≡ heightsAt (now (bytes .entry)) rows (size .w) (size .h) ⌝ }
-{
-    let w = size.w;
-    let h = size.h;
-    let mut y: usize = 0;
-    while y < h {
-        let from = y * w;
-        let to = from + w;
-        read_row(bytes, rows, size, y, &mut map[from..to]);
-        y += 1;
-    }
-}
-
-// 4 and 5 of a stream that is whole.
+// Refusals 4 and 5 of a stream that is whole.
 fn checked(bytes: &[u8], head: Header) -> Read
     requires { ⌜ Framed (now bytes) (head .rows) (head .size .w) (head .size .h) ⌝ }
     ensures { λ r. ⌜ readOf (now (bytes .entry)) r ≡ valuesOf (parsedOf (now (bytes .entry)) head) ⌝ }
@@ -307,7 +196,7 @@ fn checked(bytes: &[u8], head: Header) -> Read
     Read::Accepted(head)
 }
 
-// Reads a stream, the one way to what it asks for. The stream check leaves 9 out: there `limited` is false.
+// Reads a stream, for `relief` and for the stream check, which leaves 9 out: there `limited` is false.
 pub fn read_stream(limited: bool, bytes: &[u8]) -> Read
     ensures { λ r. ⌜ readOf (now (bytes .entry)) r ≡ readStream limited (now (bytes .entry)) ⌝ }
 {

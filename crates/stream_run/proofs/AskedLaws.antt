@@ -14,10 +14,11 @@ use Rattle.plans.specs.Accepted.{refusalOn, Accepted}
 use Rattle.erosion.specs.Ending.{Ending, ranTo, endingOf}
 use Rattle.fluvial_run.specs.FluvialRun.{shortestOf}
 use Rattle.fluvial_grid.specs.declared.Scratch.{Scratch}
-use Rattle.stream.specs.Stream.{heightsAt, badSettings}
+use Rattle.stream_rows.specs.Rows.{heightsAt}
+use Rattle.stream.specs.Stream.{badSettings}
 use Rattle.stream.specs.declared.Settings.{Settings}
 use Rattle.stream.specs.declared.Header.{Header}
-use Rattle.stream.proofs.CellLaws.{heights-length}
+use Rattle.stream_rows.proofs.CellLaws.{heights-length}
 use Rattle.stream_run.specs.StreamRun.{runOf, askedRun, AcceptedStream}
 
 abbrev room : Scratch

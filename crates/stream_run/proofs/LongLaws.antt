@@ -14,7 +14,8 @@ use Rattle.answers.specs.Outcome.{Outcome, refused}
 use Rattle.grid.specs.Sides.{badSides, InRange}
 use Rattle.grid.proofs.SidesLaws.{good-sides}
 use Rattle.stream_bytes.specs.Bytes.{number2, same, markAt, gridMark}
-use Rattle.stream.specs.Stream.{Parsed, settingsLength, rowsAt, rowAt, rowsMarked, headerAt, parsedOf, badGrid, badRest, valuesOf, readStream}
+use Rattle.stream_rows.specs.Rows.{rowAt, rowsMarked}
+use Rattle.stream.specs.Stream.{Parsed, settingsLength, rowsAt, headerAt, parsedOf, badGrid, badRest, valuesOf, readStream}
 use Rattle.stream.proofs.RecordLaws.{settings-few}
 use Rattle.stream_run.specs.StreamRun.{outputFrom, reliefOf, LongInput}
 

@@ -16,7 +16,8 @@ use Rattle.grid.specs.Sides.{badSides}
 use Rattle.grid.proofs.SidesLaws.{in-range}
 use Rattle.erosion.specs.Ending.{Ending, outcomeOf, ranTo, endedWith, refusedTo}
 use Rattle.erosion.specs.declared.RunAnswer.{RunAnswer}
-use Rattle.stream.specs.Stream.{Parsed, heightsAt, parsedOf, readStream}
+use Rattle.stream_rows.specs.Rows.{heightsAt}
+use Rattle.stream.specs.Stream.{Parsed, parsedOf, readStream}
 use Rattle.stream.specs.declared.Header.{Header}
 use Rattle.output.specs.Output.{gridRecord, rowRecords, endRecord, forInput, outputOf, outputBy, numberOf, rowsLength, writtenOf, leftOf, writtenBy, Wrote}
 use Rattle.output.specs.declared.Written.{Written}

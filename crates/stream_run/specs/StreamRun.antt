@@ -9,7 +9,8 @@ use lib.Ieee.{Float}
 use Rattle.answers.specs.Outcome.{Outcome, gives, refused, refusedAt}
 use Rattle.runs.specs.Run.{Ran, ours, runBy, thermalRun}
 use Rattle.grid.specs.Heights.{allFinite}
-use Rattle.stream.specs.Stream.{Parsed, heightsAt, badSettings, readStream, Framed}
+use Rattle.stream_rows.specs.Rows.{heightsAt, Framed}
+use Rattle.stream.specs.Stream.{Parsed, badSettings, readStream}
 use Rattle.stream.specs.declared.Settings.{Settings}
 use Rattle.stream.specs.declared.Settings.the-variants.{Fluvial, Thermal}
 use Rattle.stream.specs.declared.Header.{Header}

@@ -11,8 +11,8 @@ use runs::ThermalSettings;
 use stream::Header;
 use stream::Read;
 use stream::Settings;
-use stream::load;
 use stream::read_stream;
+use stream_rows::load;
 use thermal_run::gen_thermal_erosion;
 ghost use mathlib.Core.Path.{_≡_};
 ghost use mathlib.Core.Bool.{true};
@@ -24,11 +24,12 @@ ghost use Rattle.runs.specs.Refusals.{badFluvial, badThermal};
 ghost use Rattle.plans.specs.Accepted.{Accepted};
 ghost use Rattle.answers.specs.Outcome.{gives};
 ghost use Rattle.erosion.specs.Ending.{endedWith, ranTo, refusedTo};
-ghost use Rattle.stream.specs.Stream.{heightsAt, parsedOf, badSettings, readStream};
+ghost use Rattle.stream_rows.specs.Rows.{heightsAt};
+ghost use Rattle.stream.specs.Stream.{parsedOf, badSettings, readStream};
 ghost use Rattle.output.specs.Output.{Wrote};
 ghost use Rattle.stream_run.specs.StreamRun.{askedRun, AcceptedStream, Relief};
 
-// Scratch for the 4,096 cells that the program takes.
+// Slices for the 4,096 cells that the program takes: the map, and scratch.
 fn heights() -> [f32; 4096]
     ensures { λ r. ⌜ 4096 ≡ length r ⌝ }
 {

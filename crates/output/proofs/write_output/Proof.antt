@@ -1,5 +1,5 @@
 use Rattle.output.proofs.WriterLaws.{end-short, end-alone, whole-sides, whole-cells, whole-room, whole-output}
-use Rattle.stream.proofs.RecordLaws.{rows-fit}
+use Rattle.stream_rows.proofs.RowLaws.{rows-fit}
 use Rattle.grid.proofs.SidesLaws.{good-sides, cells-bound}
 use mathlib.Core.Path.{sym, _∙_}
 use native.Mathlib.Omega.{arith}

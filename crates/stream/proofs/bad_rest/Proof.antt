@@ -1,5 +1,6 @@
 use native.Mathlib.Omega.{arith}
-use Rattle.stream.proofs.RecordLaws.{settings-few, rows-fit, rest-mark, rest-length, rest-rows, rest-framed}
+use Rattle.stream_rows.proofs.RowLaws.{rows-fit}
+use Rattle.stream.proofs.RecordLaws.{settings-few, rest-mark, rest-length, rest-rows, rest-framed}
 use borrow.Author.Needs.{needs}
 use Rattle.stream.proofs.bad_rest.Statement.{statement}
 use Rattle.stream.proofs.bad_rest.Tie as tie

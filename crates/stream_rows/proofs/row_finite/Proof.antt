@@ -7,9 +7,9 @@ use Rattle.lists.specs.Loops.{tabulate}
 use Rattle.lists.proofs.LoopLaws.{at-end}
 use Rattle.grid.specs.Heights.{allFinite}
 use Rattle.grid.proofs.HeightsLaws.{all-none, all-more}
-use Rattle.stream.specs.Stream.{heightAt, rowHeights}
-use Rattle.stream.proofs.row_finite.Statement.{statement}
-use Rattle.stream.proofs.row_finite.Tie as tie
+use Rattle.stream_rows.specs.Rows.{heightAt, rowHeights}
+use Rattle.stream_rows.proofs.row_finite.Statement.{statement}
+use Rattle.stream_rows.proofs.row_finite.Tie as tie
 
 abbrev Inv-loop : tie.InvT-loop
 Inv-loop bytes rows size y w good₀ x₀ good x = (x ≤ w) × (good ≡ allFinite (tabulate x (λ k. heightAt bytes rows w k y)))

@@ -1,8 +1,8 @@
 use native.Mathlib.Omega.{arith}
-use Rattle.stream.proofs.CellLaws.{height-inside}
+use Rattle.stream_rows.proofs.CellLaws.{height-inside}
 use borrow.Author.Needs.{needs}
-use Rattle.stream.proofs.height_at.Statement.{statement}
-use Rattle.stream.proofs.height_at.Tie as tie
+use Rattle.stream_rows.proofs.height_at.Statement.{statement}
+use Rattle.stream_rows.proofs.height_at.Tie as tie
 
 mul-row : tie.Need-mul-row
 mul-row c = search needs

@@ -2,9 +2,9 @@ use Prim.Native.Nat.{_-_}
 use native.Mathlib.Omega.{arith}
 use lib.ListN.{length}
 use Rattle.lists.proofs.FillLaws.{Filling, filling-none, filling-length, filling-more, filling-done}
-use Rattle.stream.specs.Stream.{heightAt, rowHeights}
-use Rattle.stream.proofs.read_row.Statement.{statement}
-use Rattle.stream.proofs.read_row.Tie as tie
+use Rattle.stream_rows.specs.Rows.{heightAt, rowHeights}
+use Rattle.stream_rows.proofs.read_row.Statement.{statement}
+use Rattle.stream_rows.proofs.read_row.Tie as tie
 
 abbrev Inv-loop : tie.InvT-loop
 Inv-loop bytes rows size y row₀ n x₀ row x = Filling (λ k. heightAt bytes rows (size .w) k y) x row₀ row

@@ -1,4 +1,5 @@
--- The heights of a stream: each stands inside it; the test of each is that of its cell; and the map that they fill, row by row.
+-- The heights of a stream: each stands inside it; the test of each is that of its cell; and the map that they fill,
+-- row by row.
 use Prim.Native.Nat.{ℕ, _+_, _-_, _*_, _^_, _≤_, _<_}
 use mathlib.Core.Path.{_≡_, refl, sym, ap, ap₂, _∙_, subst}
 use mathlib.Core.Bool.{Bool, true}
@@ -18,8 +19,8 @@ use Rattle.grid.specs.Heights.{allFinite}
 use Rattle.grid.proofs.SidesLaws.{column-cell, row-cell, cell-lt, cells-bound, row-few}
 use Rattle.grid.proofs.HeightsLaws.{all-at}
 use Rattle.grid.proofs.WalkLaws.{Sought}
-use Rattle.stream.proofs.RecordLaws.{rows-end}
-use Rattle.stream.specs.Stream.{heightAt, rowHeights, cellAt, heightsAt, Framed}
+use Rattle.stream_rows.proofs.RowLaws.{rows-end}
+use Rattle.stream_rows.specs.Rows.{heightAt, rowHeights, cellAt, heightsAt, Framed}
 
 module _ {s : List ℕ} {rows w h : ℕ} (f : Framed s rows w h) where
   pub cells-few : w * h ≤ 2 ^ 24

@@ -2,9 +2,9 @@ use borrow.Author.Needs.{needs}
 use Prim.Native.Nat.{_-_}
 use native.Mathlib.Omega.{arith}
 use mathlib.Core.Path.{refl}
-use Rattle.stream.proofs.RecordLaws.{Marked, marked-none, marked-not, marked-more, marked-done, row-inside}
-use Rattle.stream.proofs.rows_marked.Statement.{statement}
-use Rattle.stream.proofs.rows_marked.Tie as tie
+use Rattle.stream_rows.proofs.RowLaws.{Marked, marked-none, marked-not, marked-more, marked-done, row-inside}
+use Rattle.stream_rows.proofs.rows_marked.Statement.{statement}
+use Rattle.stream_rows.proofs.rows_marked.Tie as tie
 
 abbrev Inv-loop : tie.InvT-loop
 Inv-loop bytes rows w h step at₀ y₀ t8 at y = Marked bytes rows w h at y

@@ -2,10 +2,10 @@ use Prim.Native.Nat.{_-_, _*_, _≤_}
 use native.Mathlib.Omega.{arith}
 use lib.ListN.{length-take, length-drop}
 use Rattle.lists.proofs.FillLaws.{Filling, filling-length, filling-start, filling-rows}
-use Rattle.stream.specs.Stream.{cellAt, heightsAt}
-use Rattle.stream.proofs.CellLaws.{row-inside, rows-more}
-use Rattle.stream.proofs.load.Statement.{statement}
-use Rattle.stream.proofs.load.Tie as tie
+use Rattle.stream_rows.specs.Rows.{cellAt, heightsAt}
+use Rattle.stream_rows.proofs.CellLaws.{row-inside, rows-more}
+use Rattle.stream_rows.proofs.load.Statement.{statement}
+use Rattle.stream_rows.proofs.load.Tie as tie
 
 abbrev Inv-loop : tie.InvT-loop
 Inv-loop bytes rows size map₀ w h y₀ map y = Filling (cellAt bytes rows w) (y * w) map₀ map × (y ≤ h)

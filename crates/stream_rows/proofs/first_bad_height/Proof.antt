@@ -4,10 +4,10 @@ use native.Mathlib.Omega.{arith}
 use borrow.Author.Tests.{not-false}
 use borrow.Author.Needs.{needs}
 use Rattle.grid.proofs.WalkLaws.{Sought, sought-none, sought-more, sought-bad, sought-row, sought-done}
-use Rattle.stream.specs.Stream.{heightsAt}
-use Rattle.stream.proofs.CellLaws.{cells-few, row-inside, heights-length, height-is, row-sought}
-use Rattle.stream.proofs.first_bad_height.Statement.{statement}
-use Rattle.stream.proofs.first_bad_height.Tie as tie
+use Rattle.stream_rows.specs.Rows.{heightsAt}
+use Rattle.stream_rows.proofs.CellLaws.{cells-few, row-inside, heights-length, height-is, row-sought}
+use Rattle.stream_rows.proofs.first_bad_height.Statement.{statement}
+use Rattle.stream_rows.proofs.first_bad_height.Tie as tie
 
 abbrev Inv-loop : tie.InvT-loop
 Inv-loop bytes rows size w h y x₀ x = Sought w (heightsAt bytes rows w h) x y

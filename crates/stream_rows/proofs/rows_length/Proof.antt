@@ -1,8 +1,8 @@
 use native.Mathlib.Omega.{arith}
-use Rattle.stream.proofs.RecordLaws.{rows-fit}
+use Rattle.stream_rows.proofs.RowLaws.{rows-fit}
 use borrow.Author.Needs.{needs}
-use Rattle.stream.proofs.rows_length.Statement.{statement}
-use Rattle.stream.proofs.rows_length.Tie as tie
+use Rattle.stream_rows.proofs.rows_length.Statement.{statement}
+use Rattle.stream_rows.proofs.rows_length.Tie as tie
 
 mul-result : tie.Need-mul-result
 mul-result c = search needs
