@@ -1,22 +1,15 @@
-// Routing, single passes and reports by the C convention, for the oracle's bench and comparison: a slice passes as pointer and length, an answer
-// is one u64 (specs/Word.antt of harness_calls). No part of the public calls.
-use answers::Answer;
+// Routing and single passes by the C convention, for the oracle's bench and comparison: a slice passes as pointer and
+// length, an answer is one u64 (specs/Word.antt of harness_calls). No part of the public calls.
 use fluvial_erosion::FluvialParams;
-use generators::Go;
 use generators::Progress;
 use grid::Sides;
-use harness_calls::refusal_word;
 use harness_calls::word;
-use spacing::square_distances;
 use thermal_erosion::ThermalParams;
-ghost use mathlib.Core.Path.{_≡_};
-ghost use Rattle.generators.specs.Marks.{goOf};
 ghost use Rattle.flow.specs.Route.{Routed};
 ghost use Rattle.fluvial_erosion.specs.Incise.{InciseMade};
+ghost use Rattle.fluvial_carve.specs.Carve.{CarveMade};
 ghost use Rattle.thermal_erosion.specs.SlidePass.{SlideMade};
-ghost use Rattle.harness_calls.specs.Word.{wordOf, Exported};
-ghost use Rattle.harness.specs.Carve.{CarveMade};
-ghost use Rattle.harness.specs.Reporting.{goValue, Reporting};
+ghost use Rattle.harness_calls.specs.Word.{Exported};
 
 // The network of a map.
 #[no_mangle]
@@ -73,33 +66,9 @@ pub extern "C" fn harness_incise(
     word(fluvial_erosion::incise(size, hmap, params, recv, order, out, area))
 }
 
-// A routing and the incision along the network that it found. It refuses what `route` refuses; k and uplift are not
-// tested.
-fn carve(
-    size: Sides,
-    hmap: &[f32],
-    params: FluvialParams,
-    order: &mut [u32],
-    recv: &mut [u32],
-    out: &mut [f32],
-    area: &mut [f32],
-    queue: &mut [u32],
-    status: &mut [u8],
-) -> Answer
-    ensures { λ r. ⌜ CarveMade (size .w) (size .h) (now (hmap .entry)) params (now (order .entry)) (now (recv .entry)) (now (out .entry)) (now (area .entry)) (now (queue .entry)) (now (status .entry)) r (now (order .exit)) (now (recv .exit)) (now (out .exit)) (now (area .exit)) (now (queue .exit)) (now (status .exit)) ⌝ }
-{
-    let water = params.water_level;
-    let answer = flow::route(size, hmap, water, order, recv, out, area, queue, status);
-    let Answer::Done = answer else {
-        return answer;
-    };
-    let ds = square_distances();
-    fluvial_erosion::incise_into(size, hmap, params, ds, recv, order, out, area);
-    Answer::Done
-}
-
-// Routes a map and incises it along the network found: the heights incised in `out`. In the bench its time less that of
-// `route` is the time of the incision alone.
+// Routes a map and incises it along the network found: the heights incised in `out`. It refuses what `route` refuses;
+// k, uplift and a result that is not finite are not tested. In the bench its time less that of `route` is the time of
+// the incision alone.
 #[no_mangle]
 pub extern "C" fn harness_carve(
     w: usize,
@@ -123,7 +92,7 @@ pub extern "C" fn harness_carve(
         uplift,
         water_level,
     };
-    word(carve(size, hmap, params, order, recv, out, area, queue, status))
+    word(fluvial_carve::carve(size, hmap, params, order, recv, out, area, queue, status))
 }
 
 // A talus pass; the record is read and written in place.
@@ -163,40 +132,4 @@ pub extern "C" fn harness_slide_pass(
     *stopped = after.stopped;
     let answer = slid.answer;
     word(answer)
-}
-
-// A report's answer: 1 to go on, 0 to stop, or the refusal's word.
-fn go_word(go: Go) -> u64
-    ensures { λ r. ⌜ r ≡ wordOf goValue (goOf go) ⌝ }
-{
-    match go {
-        Go::On => 1,
-        Go::Stop => 0,
-        Go::Refused(r) => refusal_word(r),
-    }
-}
-
-// A report; the record is read and written in place.
-#[no_mangle]
-pub extern "C" fn harness_report(
-    last: &mut f32,
-    asked: &mut u32,
-    stopped: &mut bool,
-    p: f32,
-    stop: u32,
-) -> u64
-    ensures { λ r. ⌜ Reporting (record { last = now (last .entry); asked = now (asked .entry); stopped = now (stopped .entry) }) p stop (record { last = now (last .exit); asked = now (asked .exit); stopped = now (stopped .exit) }) r ⌝ }
-{
-    let before = Progress {
-        last: *last,
-        asked: *asked,
-        stopped: *stopped,
-    };
-    let reported = before.report(p, stop);
-    let after = reported.progress;
-    *last = after.last;
-    *asked = after.asked;
-    *stopped = after.stopped;
-    let go = reported.go;
-    go_word(go)
 }

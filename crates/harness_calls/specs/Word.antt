@@ -1,4 +1,5 @@
--- An answer in one u64: the refusal number × 2^32 plus the place that it carries, cut to 32 bits; where nothing is refused, the result alone.
+-- An answer in one u64: the refusal number × 2^32 plus the place that it carries, cut to 32 bits; where nothing is
+-- refused, the result alone.
 use Prim.Native.Nat.{ℕ, _+_, _*_, _%_, _^_}
 use mathlib.Core.Path.{_≡_}
 use mathlib.Core.Bool.{Bool, cond}

@@ -1,21 +1,25 @@
-// The direct calls on maps by the C convention, for the oracle's comparison with the source: a slice passes as pointer and length, an answer is one
-// u64 (specs/Word.antt). No part of the public calls.
+// The direct calls on maps, and reports, by the C convention, for the oracle's comparison with the source: a slice
+// passes as pointer and length, an answer is one u64 (specs/Word.antt). No part of the public calls.
 use answers::Answer;
 use answers::Refusal;
 use answers::Value;
 use generators::Extent;
+use generators::Go;
 use generators::MinMax;
+use generators::Progress;
 use grid::Sides;
 ghost use Prim.Native.Nat.{_+_, _*_, _%_, _^_};
 ghost use mathlib.Core.Path.{_≡_};
 ghost use mathlib.Core.Bool.{cond};
 ghost use lib.Ieee.{binary32, toBits};
 ghost use Rattle.answers.specs.Outcome.{numberOf, placeOf, answerOf, valueOf};
+ghost use Rattle.generators.specs.Marks.{goOf};
 ghost use Rattle.generators.specs.Extents.{extentOf, getMinMaxAnswer, NormalizeMade};
 ghost use Rattle.resample.specs.Blocks.{Downsampled};
 ghost use Rattle.bilinear.specs.Samples.{bilinearAnswer};
 ghost use Rattle.upsample.specs.Samples.{Added};
 ghost use Rattle.harness_calls.specs.Word.{wordOf, leastBits, greatestBits, endBits, Exported};
+ghost use Rattle.harness_calls.specs.Reporting.{goValue, Reporting};
 
 // A refusal's number and place in one word.
 pub fn refusal_word(r: Refusal) -> u64
@@ -35,6 +39,7 @@ pub fn word(a: Answer) -> u64
     }
 }
 
+// The bits of a value, or a refusal's word.
 fn value_word(v: Value) -> u64
     ensures { λ w. ⌜ w ≡ wordOf (toBits binary32) (valueOf v) ⌝ }
 {
@@ -51,6 +56,7 @@ fn end_of(m: MinMax, greatest: bool) -> f32
     if greatest { m.max } else { m.min }
 }
 
+// The bits of one end of an extent, or a refusal's word.
 fn extent_word(e: Extent, greatest: bool) -> u64
     ensures { λ w. ⌜ w ≡ wordOf (endBits greatest) (extentOf e) ⌝ }
 {
@@ -131,4 +137,40 @@ pub extern "C" fn harness_bilinear(v: &[f32], x: f32, y: f32, w: usize, h: usize
     ensures { λ r. ⌜ r ≡ wordOf (toBits binary32) (bilinearAnswer (now (v .entry)) x y w h) ⌝ }
 {
     value_word(bilinear::bilinear(v, x, y, Sides { w, h }))
+}
+
+// A report's answer: 1 to go on, 0 to stop, or the refusal's word.
+fn go_word(go: Go) -> u64
+    ensures { λ r. ⌜ r ≡ wordOf goValue (goOf go) ⌝ }
+{
+    match go {
+        Go::On => 1,
+        Go::Stop => 0,
+        Go::Refused(r) => refusal_word(r),
+    }
+}
+
+// A report; the record is read and written in place.
+#[no_mangle]
+pub extern "C" fn harness_report(
+    last: &mut f32,
+    asked: &mut u32,
+    stopped: &mut bool,
+    p: f32,
+    stop: u32,
+) -> u64
+    ensures { λ r. ⌜ Reporting (record { last = now (last .entry); asked = now (asked .entry); stopped = now (stopped .entry) }) p stop (record { last = now (last .exit); asked = now (asked .exit); stopped = now (stopped .exit) }) r ⌝ }
+{
+    let before = Progress {
+        last: *last,
+        asked: *asked,
+        stopped: *stopped,
+    };
+    let reported = before.report(p, stop);
+    let after = reported.progress;
+    *last = after.last;
+    *asked = after.asked;
+    *stopped = after.stopped;
+    let go = reported.go;
+    go_word(go)
 }

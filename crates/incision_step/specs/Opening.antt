@@ -1,6 +1,5 @@
 -- What the opening of an iteration does to the map and to what the run has reached.
 use Prim.Native.Nat.{ℕ, _+_, _^_, _<_}
-use mathlib.Core.Path.{_≡_}
 use mathlib.Core.List.{List}
 use lib.Ieee.{Float}
 use Rattle.generators.specs.Marks.{reportOf}
@@ -14,9 +13,6 @@ use Rattle.erosion.specs.declared.Reached.{Reached}
 -- an incision of the w × h heights hs on a land, along the flood's own order, whatever the iteration's number
 abbrev pub cutOf : ℕ → ℕ → Land → FluvialParams → ℕ → List Float → List Float
 cutOf w h land p it hs = incisionBy (gridGround w h land) p ours it hs
-
-abbrev pub Carves : ℕ → ℕ → Land → FluvialParams → List Float → List Float → Type 0
-Carves w h land p hs out = (it : ℕ) → out ≡ cutOf w h land p it hs
 
 -- the question at the fraction p; then the incision, which a stop or a height that is not finite drops
 abbrev pub afterOpening : ℕ → ℕ → Land → FluvialParams → Float → ℕ → List Float → Reached → Worked

@@ -1,11 +1,10 @@
-// How an iteration of gen_fluvial_erosion opens: the question of the stop marks, the routing of the heights as they then stand, and one incision
-// along the flood's own order.
+// How an iteration of gen_fluvial_erosion opens: the question of the stop marks, the routing of the heights as they
+// then stand, and one incision along the flood's own order.
 use drainage::Land;
 use erosion::Reached;
 use erosion::ended;
-use flow::route_grid;
+use fluvial_carve::carve_grid;
 use fluvial_erosion::FluvialParams;
-use fluvial_erosion::incise_along;
 use grid::Sides;
 use grid::all_finite;
 use grid::copy_heights;
@@ -16,32 +15,10 @@ ghost use Rattle.drainage.specs.Ground.{gridGround, noBase};
 ghost use Rattle.flood.specs.Slices.{Accepted};
 ghost use Rattle.flow.specs.Route.{lentOf, Enough};
 ghost use Rattle.erosion.specs.Reached.{Worked};
-ghost use Rattle.incision_step.specs.Opening.{Carves, Counts, afterOpening};
+ghost use Rattle.incision_step.specs.Opening.{Counts, afterOpening};
 
-// Routes the heights and leaves them incised in `copy`, with the areas that the routing left.
-fn carve(
-    size: Sides,
-    hmap: &[f32],
-    land: Land,
-    params: FluvialParams,
-    copy: &mut [f32],
-    area: &mut [f32],
-    order: &mut [u32],
-    recv: &mut [u32],
-    queue: &mut [u32],
-    status: &mut [u8],
-)
-    requires { ⌜ Accepted (size .w) (size .h) (now hmap) ⌝ }
-    requires { ⌜ Enough (size .w * size .h) (lentOf (now hmap) (now order) (now recv) (now copy) (now area) (now queue) (now status)) ⌝ }
-    requires { ⌜ noBase (gridGround (size .w) (size .h) land (now hmap)) ≡ false ⌝ }
-    ensures { λ _. ⌜ Carves (size .w) (size .h) land params (now (hmap .entry)) (now (copy .exit)) ⌝ }
-{
-    route_grid(size, hmap, land, order, recv, copy, area, queue, status);
-    incise_along(size, hmap, params, land.distances, recv, order, copy, area);
-}
-
-// Opens an iteration at the fraction p of the run. The copy becomes the map only where every height of it is finite; a stop comes before the routing. The
-// copy and all slices after it are scratch.
+// Opens an iteration at the fraction p of the run. The copy becomes the map only where every height of it is finite; a
+// stop comes before the routing. The copy and all slices after it are scratch.
 pub fn open_iteration(
     size: Sides,
     hmap: &mut [f32],
@@ -67,15 +44,15 @@ pub fn open_iteration(
     if marks.stopped {
         return ended(21, marks, r);
     }
-    carve(
+    carve_grid(
         size,
         hmap,
         land,
         params,
-        copy,
-        area,
         order,
         recv,
+        copy,
+        area,
         queue,
         status,
     );

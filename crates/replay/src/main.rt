@@ -3,7 +3,6 @@
 use floats::from_bits;
 use floats::to_bits;
 use harness::harness_incise;
-use harness::harness_report;
 use harness::harness_route;
 use harness::harness_slide_pass;
 use harness_calls::harness_add_upsampled;
@@ -12,6 +11,7 @@ use harness_calls::harness_downsample;
 use harness_calls::harness_greatest;
 use harness_calls::harness_least;
 use harness_calls::harness_normalize;
+use harness_calls::harness_report;
 use layout_calls::milofavurn_square_root;
 use layout_calls::milofavurn_working_sides;
 use output::Written;

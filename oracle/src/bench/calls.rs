@@ -102,8 +102,6 @@ mod exported {
             stopped: *mut bool,
             stop: u32,
         ) -> u64;
-
-        pub fn harness_report(last: *mut f32, asked: *mut u32, stopped: *mut bool, p: f32, stop: u32) -> u64;
     }
 }
 
@@ -164,13 +162,5 @@ pub fn slide_pass(size: Sides, hmap: &[f32], out: &mut [f32], p: &Pass) -> (u64,
     let Pass { s, ends, mut r, stop } = *p;
     let word = lend!(exported::harness_slide_pass; value [size.0, size.1] read [hmap] write [out]
         value [s.threshold, s.strength, s.water_level, ends.0, ends.1, &mut r.last, &mut r.asked, &mut r.stopped, stop]);
-    (word, r)
-}
-
-/// A report: 1 to go on, 0 to stop, or a refusal; and the record after it.
-#[allow(dead_code)]
-pub fn report(r: Record, p: f32, stop: u32) -> (u64, Record) {
-    let mut r = r;
-    let word = lend!(exported::harness_report; value [&mut r.last, &mut r.asked, &mut r.stopped, p, stop]);
     (word, r)
 }

@@ -1,7 +1,8 @@
-//! The library's calls on maps as crates/harness_calls exports them, and on numbers as crates/layout_calls does. An answer is one word: document
-//! 01's number × 2^32 plus the place that it carries, or the value where nothing is refused.
+//! The library's calls on maps and reports as crates/harness_calls exports them, and on numbers as crates/layout_calls does. An answer is one
+//! word: document 01's number × 2^32 plus the place that it carries, or the value where nothing is refused.
 use crate::calls::lend;
 use crate::rules::Sides;
+use crate::source::Record;
 
 mod exported {
     extern "C" {
@@ -29,6 +30,7 @@ mod exported {
             dh: usize,
         ) -> u64;
         pub fn harness_bilinear(v: *const f32, len: usize, x: f32, y: f32, w: usize, h: usize) -> u64;
+        pub fn harness_report(last: *mut f32, asked: *mut u32, stopped: *mut bool, p: f32, stop: u32) -> u64;
         pub fn milofavurn_working_sides(w: usize, h: usize, max_res: u32) -> u64;
     }
 }
@@ -56,4 +58,11 @@ pub fn bilinear(v: &[f32], x: f32, y: f32, size: Sides) -> u64 {
 
 pub fn work_size(size: Sides, max_res: u32) -> u64 {
     unsafe { exported::milofavurn_working_sides(size.0, size.1, max_res) }
+}
+
+/// A report: 1 to go on, 0 to stop, or a refusal; and the record after it.
+pub fn report(r: Record, p: f32, stop: u32) -> (u64, Record) {
+    let mut r = r;
+    let word = lend!(exported::harness_report; value [&mut r.last, &mut r.asked, &mut r.stopped, p, stop]);
+    (word, r)
 }

@@ -39,7 +39,7 @@ pub fn reports(t: &mut Tally, r: &mut Random, i: usize) {
     for step in 0..=steps {
         let p = if r.below(40) == 0 { outside(r, 0.0, 1.0) } else { step as f32 / steps as f32 };
         let (a, after) = rules::report(m, p, stop);
-        let (w, ours) = calls::report(m, p, stop);
+        let (w, ours) = exported::report(m, p, stop);
         let alike = w == word(&a, |on| *on as u64) && same_record(ours, after);
         t.compared("report", number(&a), alike, 1, || format!("{m:?}, p {:08x}, S {stop}", p.to_bits()));
         m = after;

@@ -14,14 +14,14 @@ ended-requires c κs = search needs
 returns : tie.Need-returns
 returns c = let a = c .before .before .before .before .before .before .before .before .before .before .args in opened-stopped _ _ (a .land) (a .params) (a .p) (a .stop) (a .hmap .now) (a .r) (c .before .before .ask .ensures) (c .before .if1 .taken) (c .ended .ensures)
 
-carve-requires : tie.Need-carve-requires
-carve-requires c κs = let p = c .before .before .before .before .before .before .before .before .before .before .before .before .before .before .before .before .pre in (p .0, (p .1 .0, p .1 .1 .1))
+carve-grid-requires : tie.Need-carve-grid-requires
+carve-grid-requires c κs = let p = c .before .before .before .before .before .before .before .before .before .before .before .before .before .before .before .before .pre in (p .0, (p .1 .0, p .1 .1 .1))
 
 all-finite-requires : tie.Need-all-finite-requires
 all-finite-requires c κs = search needs
 
 copy-heights-requires : tie.Need-copy-heights-requires
-copy-heights-requires c κs = c .before .before .before .before .before .before .before .before .before .before .before .before .before .before .before .before .before .before .before .before .before .before .before .before .before .before .before .before .before .before .before .before .before .before .pre .1 .0 .heights ∙ sym (c .before .before .before .before .before .before .before .before .before .before .before .before .before .before .before .before .before .carve .kept .1 .1 .1 .1 .0 ∙ c .before .before .before .before .before .before .before .before .before .before .before .before .before .before .before .before .before .before .before .before .before .before .before .before .before .before .before .before .before .before .before .before .before .before .pre .1 .0 .spill)
+copy-heights-requires c κs = c .before .before .before .before .before .before .before .before .before .before .before .before .before .before .before .before .before .before .before .before .before .before .before .before .before .before .before .before .before .before .before .before .before .before .pre .1 .0 .heights ∙ sym (c .before .before .before .before .before .before .before .before .before .before .before .before .before .before .before .before .before .carve-grid .kept .1 .1 .1 .1 .1 .1 .0 ∙ c .before .before .before .before .before .before .before .before .before .before .before .before .before .before .before .before .before .before .before .before .before .before .before .before .before .before .before .before .before .before .before .before .before .before .pre .1 .0 .spill)
 
 add-t39 : tie.Need-add-t39
 add-t39 c = omega (arith, c .before .before .before .before .before .before .before .before .before .before .before .before .before .before .before .before .before .before .before .before .before .before .before .before .before .before .before .before .before .before .before .before .before .before .before .before .before .before .pre .1 .1 .0 .incisions)
@@ -48,7 +48,7 @@ same-length-7 : tie.Need-same-length-7
 same-length-7 c = search needs
 
 returns-2 : tie.Need-returns-2
-returns-2 c = let a = c .before .before .before .before .before .before .before .before .before .before .before .before .before .before .before .before .before .before .before .before .before .before .before .before .before .before .before .before .before .before .before .before .before .before .before .before .before .before .args in opened-cut _ _ (a .land) (a .params) (a .p) (a .stop) (a .hmap .now) (a .r) (c .before .before .before .before .before .before .before .before .before .before .before .before .before .before .before .before .before .before .before .before .before .before .before .before .before .before .before .before .before .before .ask .ensures) (c .before .before .before .before .before .before .before .before .before .before .before .before .before .before .before .before .before .before .before .before .before .before .before .before .before .before .before .before .before .if1 .left) (c .before .before .before .before .before .before .before .before .before .before .before .before .before .before .before .before .before .before .before .before .before .carve .ensures) (c .before .before .before .before .before .before .before .all-finite .ensures) (c .before .before .before .before .before .before .if2 .taken) (c .before .before .before .copy-heights .ensures)
+returns-2 c = let a = c .before .before .before .before .before .before .before .before .before .before .before .before .before .before .before .before .before .before .before .before .before .before .before .before .before .before .before .before .before .before .before .before .before .before .before .before .before .before .args in opened-cut _ _ (a .land) (a .params) (a .p) (a .stop) (a .hmap .now) (a .r) (c .before .before .before .before .before .before .before .before .before .before .before .before .before .before .before .before .before .before .before .before .before .before .before .before .before .before .before .before .before .before .ask .ensures) (c .before .before .before .before .before .before .before .before .before .before .before .before .before .before .before .before .before .before .before .before .before .before .before .before .before .before .before .before .before .if1 .left) (c .before .before .before .before .before .before .before .before .before .before .before .before .before .before .before .before .before .before .before .before .before .carve-grid .ensures .heights) (c .before .before .before .before .before .before .before .all-finite .ensures) (c .before .before .before .before .before .before .if2 .taken) (c .before .before .before .copy-heights .ensures)
 
 ended-requires-2 : tie.Need-ended-requires-2
 ended-requires-2 c κs = search needs
@@ -75,7 +75,7 @@ same-length-14 : tie.Need-same-length-14
 same-length-14 c = search needs
 
 returns-3 : tie.Need-returns-3
-returns-3 c = let a = c .before .before .before .before .before .before .before .before .before .before .before .before .before .before .before .before .before .before .before .before .before .before .before .before .before .before .before .before .before .before .before .before .before .args in opened-off _ _ (a .land) (a .params) (a .p) (a .stop) (a .hmap .now) (a .r) (c .before .before .before .before .before .before .before .before .before .before .before .before .before .before .before .before .before .before .before .before .before .before .before .before .before .ask .ensures) (c .before .before .before .before .before .before .before .before .before .before .before .before .before .before .before .before .before .before .before .before .before .before .before .before .if1 .left) (c .before .before .before .before .before .before .before .before .before .before .before .before .before .before .before .before .carve .ensures) (c .before .before .all-finite .ensures) (c .before .if2 .left) (c .ended2 .ensures)
+returns-3 c = let a = c .before .before .before .before .before .before .before .before .before .before .before .before .before .before .before .before .before .before .before .before .before .before .before .before .before .before .before .before .before .before .before .before .before .args in opened-off _ _ (a .land) (a .params) (a .p) (a .stop) (a .hmap .now) (a .r) (c .before .before .before .before .before .before .before .before .before .before .before .before .before .before .before .before .before .before .before .before .before .before .before .before .before .ask .ensures) (c .before .before .before .before .before .before .before .before .before .before .before .before .before .before .before .before .before .before .before .before .before .before .before .before .if1 .left) (c .before .before .before .before .before .before .before .before .before .before .before .before .before .before .before .before .carve-grid .ensures .heights) (c .before .before .all-finite .ensures) (c .before .if2 .left) (c .ended2 .ensures)
 
 pub open-iteration-spec : {M : Type 1} → statement M
 open-iteration-spec =
@@ -84,7 +84,7 @@ open-iteration-spec =
     ask-requires
     ended-requires
     returns
-    carve-requires
+    carve-grid-requires
     all-finite-requires
     copy-heights-requires
     add-t39

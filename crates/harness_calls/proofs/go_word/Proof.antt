@@ -1,10 +1,10 @@
 use mathlib.Core.Path.{sym, ap}
 use Rattle.generators.specs.Marks.{goOf}
 use Rattle.harness_calls.proofs.WordLaws.{word-of-refusal}
-use Rattle.harness.specs.Reporting.{goValue}
+use Rattle.harness_calls.specs.Reporting.{goValue}
 use borrow.Author.Needs.{needs}
-use Rattle.harness.proofs.go_word.Statement.{statement}
-use Rattle.harness.proofs.go_word.Tie as tie
+use Rattle.harness_calls.proofs.go_word.Statement.{statement}
+use Rattle.harness_calls.proofs.go_word.Tie as tie
 
 enum-told : tie.Need-enum-told
 enum-told c = search needs

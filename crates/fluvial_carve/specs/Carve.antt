@@ -1,4 +1,4 @@
--- A routing and the incision along the network that it found, in one call.
+-- A routing and the incision along the network that it found.
 use Prim.Native.Nat.{ℕ}
 use mathlib.Core.Path.{_≡_}
 use mathlib.Core.Bool.{Bool, false, cond}
@@ -7,18 +7,25 @@ use lib.Ieee.{Float}
 use Rattle.answers.specs.Outcome.{answerOf}
 use Rattle.answers.specs.declared.Answer.{Answer}
 use Rattle.drainage.specs.Ground.{gridGround, squareLand}
+use Rattle.drainage.specs.declared.Land.{Land}
 use Rattle.flow.specs.Route.{orderOf, receiversOf, areasOf, lentOf, routeAnswer, accepted}
 use Rattle.fluvial_erosion.specs.Incision.{incisedBy}
 use Rattle.fluvial_erosion.specs.declared.FluvialParams.{FluvialParams}
 
--- the heights hs, incised along their own network on document 01's land
-abbrev pub carvedOf : ℕ → ℕ → List Float → FluvialParams → List Float
-carvedOf w h hs p =
-    let land = squareLand (p .«water_level») in
-    incisedBy (gridGround w h land hs) p (receiversOf w h hs land) (orderOf w h hs land) hs
+-- the heights hs, incised along their own network on a land
+abbrev pub carvedOf : ℕ → ℕ → Land → FluvialParams → List Float → List Float
+carvedOf w h land p hs = incisedBy (gridGround w h land hs) p (receiversOf w h hs land) (orderOf w h hs land) hs
 
--- What `carve` answers and leaves: accepted as `route` is, the network in order, receivers and areas, and the heights
--- incised along it in `out`; refused, every slice is as it was, scratch included. k and uplift are not tested.
+-- what `carve_grid` leaves: the network, and the heights incised along it
+pub record Carves (w h : ℕ) (land : Land) (p : FluvialParams) (hs : List Float) (order recv : List ℕ) (out area : List Float) : Type 0 where
+  pub orders : order ≡ orderOf w h hs land
+  pub receivers : recv ≡ receiversOf w h hs land
+  pub heights : out ≡ carvedOf w h land p hs
+  pub areas : area ≡ areasOf w h hs land
+
+-- What `carve` answers and leaves: accepted as `route` is, the network on document 01's land in order, receivers and
+-- areas, and the heights incised along it in `out`; refused, every slice is as it was, scratch
+-- included. k, uplift and a result that is not finite are not tested.
 module _ (w h : ℕ) (hs : List Float) (p : FluvialParams) (order recv : List ℕ) (out area : List Float) (queue status : List ℕ) where
   -- whether the call is accepted
   abbrev pub carvable : Bool
@@ -28,7 +35,7 @@ module _ (w h : ℕ) (hs : List Float) (p : FluvialParams) (order recv : List �
     pub answer : answerOf r ≡ routeAnswer w h hs (p .«water_level») (lentOf hs order recv out area queue status)
     pub orders : order′ ≡ cond carvable (orderOf w h hs (squareLand (p .«water_level»))) order
     pub receivers : recv′ ≡ cond carvable (receiversOf w h hs (squareLand (p .«water_level»))) recv
-    pub heights : out′ ≡ cond carvable (carvedOf w h hs p) out
+    pub heights : out′ ≡ cond carvable (carvedOf w h (squareLand (p .«water_level»)) p hs) out
     pub areas : area′ ≡ cond carvable (areasOf w h hs (squareLand (p .«water_level»))) area
     pub kept-queue : carvable ≡ false → queue′ ≡ queue
     pub kept-status : carvable ≡ false → status′ ≡ status

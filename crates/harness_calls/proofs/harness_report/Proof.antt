@@ -1,9 +1,9 @@
 use mathlib.Core.Path.{ap, _∙_}
 use Rattle.harness_calls.specs.Word.{wordOf}
-use Rattle.harness.specs.Reporting.{goValue}
+use Rattle.harness_calls.specs.Reporting.{goValue}
 use borrow.Author.Needs.{needs}
-use Rattle.harness.proofs.harness_report.Statement.{statement}
-use Rattle.harness.proofs.harness_report.Tie as tie
+use Rattle.harness_calls.proofs.harness_report.Statement.{statement}
+use Rattle.harness_calls.proofs.harness_report.Tie as tie
 
 report-requires : tie.Need-report-requires
 report-requires c κs = search needs

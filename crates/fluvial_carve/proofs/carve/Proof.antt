@@ -1,8 +1,8 @@
 use Rattle.answers.proofs.OutcomeLaws.{refused-given}
-use Rattle.harness.proofs.CarveLaws.{carve-refused, network-found, lengths-found, carve-done}
+use Rattle.fluvial_carve.proofs.CarveLaws.{carve-refused, network-found, lengths-found, carve-done}
 use borrow.Author.Needs.{needs}
-use Rattle.harness.proofs.carve.Statement.{statement}
-use Rattle.harness.proofs.carve.Tie as tie
+use Rattle.fluvial_carve.proofs.carve.Statement.{statement}
+use Rattle.fluvial_carve.proofs.carve.Tie as tie
 
 route-requires : tie.Need-route-requires
 route-requires c κs = search needs

@@ -22,8 +22,8 @@ use Rattle.flow.proofs.RouteLaws.{answered, accepted-enough, accepted-grid}
 use Rattle.fluvial_erosion.specs.Incision.{incisedBy}
 use Rattle.fluvial_erosion.specs.Along.{Drains, Lengths, Carved}
 use Rattle.fluvial_erosion.specs.declared.FluvialParams.{FluvialParams}
-use Rattle.incision_step.proofs.OpeningLaws.{routing-drains}
-use Rattle.harness.specs.Carve.{carvedOf, carvable, CarveMade}
+use Rattle.fluvial_carve.specs.Carve.{carvedOf, carvable, CarveMade}
+use Rattle.fluvial_carve.proofs.RoutedLaws.{routing-drains}
 
 module _ (w h : ℕ) (hs : List Float) (p : FluvialParams) (order recv : List ℕ) (out area : List Float) (queue status : List ℕ) where
   abbrev water : Float
@@ -49,7 +49,7 @@ module _ (w h : ℕ) (hs : List Float) (p : FluvialParams) (order recv : List �
       answer = e .answer;
       orders = e .orders;
       receivers = e .receivers;
-      heights = e .spills ∙ sym (passed taken (floodOf w h hs land .spill) out no) ∙ passed taken (carvedOf w h hs p) out no;
+      heights = e .spills ∙ sym (passed taken (floodOf w h hs land .spill) out no) ∙ passed taken (carvedOf w h land p hs) out no;
       areas = e .areas;
       kept-queue = e .kept-queue;
       kept-status = e .kept-status;
@@ -95,7 +95,7 @@ module _ (w h : ℕ) (hs : List Float) (p : FluvialParams) (order recv : List �
         heights =
             c .heights base
             ∙ (λ i. incisedBy (groundBy w h (d i) base) p (holding .received i) (holding .left i) hs)
-            ∙ chosen taken (carvedOf w h hs p) out yes;
+            ∙ chosen taken (carvedOf w h land p hs) out yes;
         areas =
             c .areas
             ∙ (λ i. areasAlong (w * h) (holding .received i) (holding .left i))

@@ -1,10 +1,10 @@
 use mathlib.Core.Path.{_∙_}
 use Rattle.area_words.proofs.WordLaws.{whole-areas}
 use Rattle.fluvial_erosion.proofs.CellLaws.{few-cells}
-use Rattle.incision_step.proofs.OpeningLaws.{routing-drains, routed-areas, carves}
+use Rattle.fluvial_carve.proofs.RoutedLaws.{routing-drains, routed-areas, carves}
 use borrow.Author.Needs.{needs}
-use Rattle.incision_step.proofs.carve.Statement.{statement}
-use Rattle.incision_step.proofs.carve.Tie as tie
+use Rattle.fluvial_carve.proofs.carve_grid.Statement.{statement}
+use Rattle.fluvial_carve.proofs.carve_grid.Tie as tie
 
 route-grid-requires : tie.Need-route-grid-requires
 route-grid-requires c κs = c .before .before .before .before .before .before .before .before .before .before .before .before .before .pre
@@ -36,10 +36,10 @@ same-length-6 : tie.Need-same-length-6
 same-length-6 c = search needs
 
 returns : tie.Need-returns
-returns c = carves _ _ (c .before .before .before .before .before .before .before .before .before .before .before .before .before .before .before .before .before .before .before .before .before .before .before .before .before .before .before .before .before .before .before .before .before .before .before .args .land) _ _ _ (c .before .before .before .before .before .before .before .before .before .before .before .before .before .before .before .before .before .before .before .before .before .route-grid .ensures) (c .before .before .before .before .incise-along .ensures .heights)
+returns c = carves _ _ (c .before .before .before .before .before .before .before .before .before .before .before .before .before .before .before .before .before .before .before .before .before .before .before .before .before .before .before .before .before .before .before .before .before .before .before .args .land) _ _ (c .before .before .before .before .before .before .before .before .before .before .before .before .before .before .before .before .before .before .before .before .before .route-grid .ensures) (c .before .before .before .before .incise-along .ensures)
 
-pub carve-spec : {M : Type 1} → statement M
-carve-spec =
+pub carve-grid-spec : {M : Type 1} → statement M
+carve-grid-spec =
     tie.close
     (tie.spec
     route-grid-requires

@@ -1,0 +1,3 @@
+-- Laws of a routing and the incision along it.
+pub mod RoutedLaws
+pub mod CarveLaws

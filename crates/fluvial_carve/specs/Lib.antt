@@ -1,0 +1,2 @@
+-- A routing and the incision along it.
+pub mod Carve

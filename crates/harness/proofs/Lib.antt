@@ -1,2 +1,0 @@
--- Laws of the routing and incision in one call.
-pub mod CarveLaws

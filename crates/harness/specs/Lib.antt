@@ -1,3 +1,0 @@
--- What the exports promise beyond the public calls' own definitions.
-pub mod Carve
-pub mod Reporting
