@@ -32,8 +32,9 @@ use Rattle.erosion.specs.Reached.{Worked, seen, begun, afterMade}
 use Rattle.erosion.specs.declared.Reached.{Reached}
 use Rattle.erosion.proofs.ReachedLaws.{worked, openedBy, made-cases}
 use Rattle.erosion.proofs.LoopLaws.{Going, going-none, going-done, going-ended, going-asked, going-incisions, going-opening}
-use Rattle.incision_step.specs.Opening.{cutOf, afterOpening, Counts}
-use Rattle.incision_step.proofs.OpeningLaws.{cut-any}
+use Rattle.fluvial_carve.specs.Carve.{carvedOf}
+use Rattle.incision_step.specs.Opening.{afterOpening, Counts}
+use Rattle.incision_step.proofs.OpeningLaws.{carved-by}
 use Rattle.fluvial_loop.specs.Loops.{courseBy, slidBy, Slides}
 use Rattle.fluvial_loop.specs.declared.FluvialPlan.{FluvialPlan}
 use Rattle.fluvial_loop.proofs.SlideLaws.{slid-seen}
@@ -100,12 +101,12 @@ module _ (w h : ℕ) (plan : FluvialPlan) (stop : ℕ) (hs : List Float) (then :
             cuts : afterOpening w h (plan .land) (plan .cuts) (course .opening it) stop map r ≡ openedBy course it map r m
             cuts =
                 ap (λ (new : List Float). afterMade map r m new (record { marks = m; incisions = r .incisions + 1; passes = r .passes; number = 0 }))
-                (cut-any w h (plan .land) (plan .cuts) it map)
+                (carved-by w h (plan .land) (plan .cuts) it map)
 
         opened-passes : o .passes ≡ r .passes
         opened-passes =
             ap (λ (x : Worked). x .reached .passes) made
-            ∙ made-cases (λ (x : Worked). x .reached .passes ≡ r .passes) map r (reportOf (r .marks) (course .opening it) stop) (cutOf w h (plan .land) (plan .cuts) 0 map) _ refl refl refl
+            ∙ made-cases (λ (x : Worked). x .reached .passes ≡ r .passes) map r (reportOf (r .marks) (course .opening it) stop) (carvedOf w h (plan .land) (plan .cuts) map) _ refl refl refl
 
         -- what the passes ask
         pub iterating-slides : {n k : ℕ} → n ≡ w * h → k ≡ n → Slides course it n k o

@@ -7,19 +7,21 @@ use lib.Ieee.{Float}
 use Rattle.grid.specs.Heights.{allFinite}
 use Rattle.generators.specs.Marks.{reportOf}
 use Rattle.generators.specs.declared.Progress.{Progress}
+use Rattle.drainage.specs.Ground.{gridGround}
 use Rattle.drainage.specs.declared.Land.{Land}
 use Rattle.fluvial_erosion.specs.declared.FluvialParams.{FluvialParams}
-use Rattle.runs.specs.Run.{incisionBy}
+use Rattle.runs.specs.Run.{ours, incisionBy}
 use Rattle.erosion.specs.Reached.{Worked, halted, afterMade}
 use Rattle.erosion.specs.declared.Reached.{Reached}
 use Rattle.erosion.proofs.ReachedLaws.{worked, made-stopped, made-done, made-off}
 use Rattle.fluvial_carve.specs.Carve.{carvedOf}
-use Rattle.incision_step.specs.Opening.{cutOf, afterOpening}
+use Rattle.incision_step.specs.Opening.{afterOpening}
 
--- the heights carved are the incision of the definition
-carved-cut : (w h : ℕ) (land : Land) (p : FluvialParams) (hs : List Float) → carvedOf w h land p hs ≡ cutOf w h land p 0 hs
+-- the heights carved are the incision of a run that takes the flood's own lists, whatever the iteration's number
+pub carved-by : (w h : ℕ) (land : Land) (p : FluvialParams) (it : ℕ) (hs : List Float)
+    → carvedOf w h land p hs ≡ incisionBy (gridGround w h land) p ours it hs
 unfolding incisionBy
-carved-cut w h land p hs = refl
+carved-by w h land p it hs = refl
 
 -- the three ends of an opening
 module _ (w h : ℕ) (land : Land) (params : FluvialParams) (p : Float) (stop : ℕ) (hs : List Float) (r : Reached) {m : Progress} (asked : m ≡ reportOf (r .marks) p stop) where
@@ -27,26 +29,18 @@ module _ (w h : ℕ) (land : Land) (params : FluvialParams) (p : Float) (stop : 
   completed m = record { marks = m; incisions = r .incisions + 1; passes = r .passes; number = 0 }
 
   abbrev ends : Progress → Worked
-  ends m = afterMade hs r m (cutOf w h land params 0 hs) (completed m)
+  ends m = afterMade hs r m (carvedOf w h land params hs) (completed m)
 
   pub opened-stopped : {x : Reached} → m .stopped ≡ true → x ≡ halted 21 m r → worked hs x ≡ afterOpening w h land params p stop hs r
-  opened-stopped {x} t e = made-stopped hs r m (cutOf w h land params 0 hs) (completed m) x t e ∙ ap ends asked
+  opened-stopped {x} t e = made-stopped hs r m (carvedOf w h land params hs) (completed m) x t e ∙ ap ends asked
 
   module _ (on : m .stopped ≡ false) {out : List Float} (carved : out ≡ carvedOf w h land params hs) {all : Bool} (a : all ≡ allFinite out) where
-    cut : out ≡ cutOf w h land params 0 hs
-    cut = carved ∙ carved-cut w h land params hs
-
-    finites : all ≡ allFinite (cutOf w h land params 0 hs)
-    finites = a ∙ ap allFinite cut
+    finites : all ≡ allFinite (carvedOf w h land params hs)
+    finites = a ∙ ap allFinite carved
 
     pub opened-cut : {map : List Float} → all ≡ true → map ≡ out → worked map (completed m) ≡ afterOpening w h land params p stop hs r
     opened-cut {map} t e =
-        made-done hs r m (cutOf w h land params 0 hs) (completed m) (completed m) on all finites t map (e ∙ cut) ∙ ap ends asked
+        made-done hs r m (carvedOf w h land params hs) (completed m) (completed m) on all finites t map (e ∙ carved) ∙ ap ends asked
 
     pub opened-off : {x : Reached} → all ≡ false → x ≡ halted 22 m r → worked hs x ≡ afterOpening w h land params p stop hs r
-    opened-off {x} t e = made-off hs r m (cutOf w h land params 0 hs) (completed m) x on all finites t e ∙ ap ends asked
-
--- our incisions do not depend on the iteration's number
-pub cut-any : (w h : ℕ) (land : Land) (p : FluvialParams) (it : ℕ) (hs : List Float) → cutOf w h land p 0 hs ≡ cutOf w h land p it hs
-unfolding incisionBy
-cut-any w h land p it hs = refl
+    opened-off {x} t e = made-off hs r m (carvedOf w h land params hs) (completed m) x on all finites t e ∙ ap ends asked

@@ -3,22 +3,17 @@ use Prim.Native.Nat.{ℕ, _+_, _^_, _<_}
 use mathlib.Core.List.{List}
 use lib.Ieee.{Float}
 use Rattle.generators.specs.Marks.{reportOf}
-use Rattle.drainage.specs.Ground.{gridGround}
 use Rattle.drainage.specs.declared.Land.{Land}
 use Rattle.fluvial_erosion.specs.declared.FluvialParams.{FluvialParams}
-use Rattle.runs.specs.Run.{ours, incisionBy}
+use Rattle.fluvial_carve.specs.Carve.{carvedOf}
 use Rattle.erosion.specs.Reached.{Worked, afterMade}
 use Rattle.erosion.specs.declared.Reached.{Reached}
-
--- an incision of the w × h heights hs on a land, along the flood's own order, whatever the iteration's number
-abbrev pub cutOf : ℕ → ℕ → Land → FluvialParams → ℕ → List Float → List Float
-cutOf w h land p it hs = incisionBy (gridGround w h land) p ours it hs
 
 -- the question at the fraction p; then the incision, which a stop or a height that is not finite drops
 abbrev pub afterOpening : ℕ → ℕ → Land → FluvialParams → Float → ℕ → List Float → Reached → Worked
 afterOpening w h land params p stop hs r =
     let m = reportOf (r .marks) p stop in
-    afterMade hs r m (cutOf w h land params 0 hs) (record { marks = m; incisions = r .incisions + 1; passes = r .passes; number = 0 })
+    afterMade hs r m (carvedOf w h land params hs) (record { marks = m; incisions = r .incisions + 1; passes = r .passes; number = 0 })
 
 -- room for one question and one incision more
 pub record Counts (r : Reached) : Type 0 where
