@@ -3,7 +3,7 @@ use Prim.Native.Nat.{ℕ, _<_}
 use native.Mathlib.Omega.{arith}
 use mathlib.Core.Path.{_≡_, refl, sym, ap, _∙_}
 use mathlib.Core.Bool.{Bool, true, false, cond, false≢true}
-use Rattle.lists.proofs.TestLaws.{clash, not-first, not-second}
+use Rattle.loops.proofs.TestLaws.{clash, not-first, not-second}
 use Rattle.answers.specs.Outcome.{Outcome, gives, refused, refusedAt, refusalOf, answerOf, given, numberOf, placeOf}
 use Rattle.answers.specs.declared.Answer.{Answer}
 use Rattle.answers.specs.declared.Refusal.{Refusal}

@@ -8,15 +8,17 @@ use Rattle.answers.specs.declared.Refusal.the-variants.{Side, ReducedSid
 use Rattle.answers.specs.declared.Answer.{Answer}
 use Rattle.answers.specs.declared.Value.{Value}
 
--- What a call with results in A ends with: `gives` a result; `refused` by a number alone; `refusedAt` by a number that carries a place.
+-- The outcome of a call that returns an A: `gives` a result; `refused` by a number alone; `refusedAt` by a number that
+-- carries a place.
 pub data Outcome (A : Type 0) : Type 0 where
   gives : A → Outcome A
   refused : ℕ → Outcome A
   refusedAt : ℕ → ℕ → Outcome A
 
--- document 01, 'Refused for the input' (1 to 9) and 'Refused for the state' (21, 22); document 02, 'Answers': a row
--- outside the named map (31), spacings other than 1 on the way back (32), no such cell (33), no base cell (34), a height
--- outside the metre range (35), tiles that overlap, leave a gap or reach past the sheet (36)
+-- the number of each refusal, with the place that it carries: document 01, 'Refused for the input' (1 to 9) and
+-- 'Refused for the state' (21, 22); document 02, 'Answers': a row outside the named map (31), spacings other than 1 on
+-- the way back (32), no such cell (33), no base cell (34), a height outside the metre range (35), tiles that overlap,
+-- leave a gap or reach past the sheet (36)
 abbrev pub refusalOf : {A : Type 0} → Refusal → Outcome A
 refusalOf Side = refused 1
 refusalOf ReducedSide = refused 2
@@ -42,7 +44,7 @@ given (gives x) = true
 given (refused n) = false
 given (refusedAt n c) = false
 
--- the number of a refusal, and the place that it carries (0 where it carries none), both as `refusalOf` has them
+-- the number of a refusal, 0 for a result; `placeIn`: the place that a refusal carries, 0 where there is none
 abbrev pub numberIn : Outcome (Unit {0}) → ℕ
 numberIn (gives a) = 0
 numberIn (refused n) = n

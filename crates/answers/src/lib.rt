@@ -3,6 +3,11 @@
 ghost use mathlib.Core.Path.{_≡_};
 ghost use Rattle.answers.specs.Outcome.{outsideOf, numberIn, placeIn, numberOf, placeOf, answerOf};
 
+// The numbers by which a run ends before its last pass: a question was answered with stop, or a height was not finite.
+pub const STOPPED: u32 = 21;
+
+pub const RUN_OFF: u32 = 22;
+
 // A refusal. Those that name a place carry it: the first bad cell, or the first bad position of a list.
 pub enum Refusal {
     Side,
@@ -36,6 +41,20 @@ pub enum Value {
     Refused(Refusal),
 }
 
+// What a whole run answers, with the completed incisions and passes and the questions asked.
+pub struct RunAnswer {
+    pub answer: Answer,
+    pub incisions: u32,
+    pub passes: u32,
+    pub questions: u32,
+}
+
+// The answer of a call that writes bytes: the number of bytes written, or the refusal.
+pub enum Written {
+    Bytes(usize),
+    Refused(Refusal),
+}
+
 // Refusal 4's test: whether x lies outside lo to hi. A NaN lies in no range.
 pub fn outside(x: f32, lo: f32, hi: f32) -> bool
     ensures { λ r. ⌜ r ≡ outsideOf x lo hi ⌝ }
@@ -60,8 +79,8 @@ pub fn number(r: Refusal) -> u32
         Refusal::List(_) => 7,
         Refusal::Stream => 8,
         Refusal::Cells => 9,
-        Refusal::Stopped => 21,
-        Refusal::RunOff => 22,
+        Refusal::Stopped => STOPPED,
+        Refusal::RunOff => RUN_OFF,
         Refusal::Row => 31,
         Refusal::Spacings => 32,
         Refusal::NoCell => 33,

@@ -9,7 +9,7 @@ use lib.Dec.{eqb, ltb}
 use lib.Ieee.{Float, nan}
 use borrow.Author.Tests.{ltb-true, eqb-true, not-false}
 use Rattle.floats.specs.Stand.{fractOf, indexOf}
-use Rattle.lists.proofs.TestLaws.{both, by-test}
+use Rattle.loops.proofs.TestLaws.{both, by-test}
 use Rattle.grid.specs.Sides.{badSides}
 use Rattle.grid.specs.Directions.{Place}
 use Rattle.grid.proofs.SidesLaws.{row-end, row-few, good-sides}

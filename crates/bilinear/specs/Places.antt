@@ -1,4 +1,4 @@
--- What the inner functions ask of their arguments.
+-- Preconditions of the inner functions.
 use Prim.Native.Nat.{ℕ, _*_, _≤_}
 use mathlib.Core.Path.{_≡_}
 

@@ -13,10 +13,12 @@ ghost use Prim.Native.Nat.{_*_, _≤_};
 ghost use lib.ListN.{length};
 ghost use Rattle.answers.specs.Outcome.{valueOf};
 ghost use Rattle.grid.specs.Directions.{Place};
-ghost use Rattle.bilinear.specs.Samples.{asSource, cornerOf, between, acrossOf, bilinearAt, bilinearOf, badCoordinate, bilinearAnswer};
+ghost use Rattle.bilinear.specs.Samples.{asSource, cornerOf, between, acrossOf, bilinearAt, bilinearOf};
+ghost use Rattle.bilinear.specs.Samples.{badCoordinate, bilinearAnswer};
 ghost use Rattle.bilinear.specs.Places.{Grid};
 
-// The cell of the sample that lies `east` columns east and `south` rows south: the north-west one as soon as a far edge before it is reached.
+// The cell of the sample `east` columns east and `south` rows south (0 or 1) of column x, row y. Where that lies past
+// the east or the south edge it is the north-west one, column x, row y.
 fn corner(size: Sides, x: usize, y: usize, east: usize, south: usize) -> usize
     requires { ⌜ Place (size .w) (size .h) x y ⌝ }
     requires { ⌜ east ≤ 1 ⌝ }
@@ -39,7 +41,7 @@ pub fn mixed(d: f32, a: f32, b: f32) -> f32
     (1.0 - d) * a + d * b
 }
 
-// Between the two samples `south` rows to the south, dx of the way from column x to the next.
+// The value dx of the way from the west sample to the east one, both `south` rows south of row y.
 pub fn across(v: &[f32], size: Sides, x: usize, dx: f32, y: usize, south: usize) -> f32
     requires { ⌜ Place (size .w) (size .h) x y ⌝ }
     requires { ⌜ south ≤ 1 ⌝ }
@@ -51,7 +53,7 @@ pub fn across(v: &[f32], size: Sides, x: usize, dx: f32, y: usize, south: usize)
     mixed(dx, west, east)
 }
 
-// The sample at column x, row y, with dx and dy of the way to the next ones.
+// The bilinear sample dx of the way from column x to the next and dy of the way from row y to the next.
 fn sample_at(v: &[f32], size: Sides, x: usize, dx: f32, y: usize, dy: f32) -> f32
     requires { ⌜ Place (size .w) (size .h) x y ⌝ }
     requires { ⌜ length (now v) ≡ size .w * size .h ⌝ }
@@ -63,7 +65,7 @@ fn sample_at(v: &[f32], size: Sides, x: usize, dx: f32, y: usize, dy: f32) -> f3
 }
 
 // The sample at column x, row y, both in cells, held inside the grid.
-pub fn sample(v: &[f32], x: f32, y: f32, size: Sides) -> f32
+fn sample(v: &[f32], x: f32, y: f32, size: Sides) -> f32
     requires { ⌜ Grid (size .w) (size .h) (length (now v)) ⌝ }
     ensures { λ r. ⌜ r ≡ bilinearOf asSource (now (v .entry)) (size .w) (size .h) x y ⌝ }
 {
@@ -88,7 +90,7 @@ fn bad_coordinate(x: f32, side: usize) -> bool
     true
 }
 
-// Bilinear sample of v at column x, row y.
+// Returns the bilinear sample of v at column x, row y, or refusal 1, 3, 4, 5 or 22.
 pub fn bilinear(v: &[f32], x: f32, y: f32, size: Sides) -> Value
     ensures { λ r. ⌜ valueOf r ≡ bilinearAnswer (now (v .entry)) x y (size .w) (size .h) ⌝ }
 {

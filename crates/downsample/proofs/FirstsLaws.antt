@@ -6,16 +6,16 @@ use native.Mathlib.Omega.{arith}
 use lib.ListN.{length, getD, replicate}
 use lib.Ieee.{Float, binary32, div}
 use borrow.Rule.Slice.PartMut.{putMid}
-use Rattle.float_order.specs.Whole.{whole}
-use Rattle.lists.proofs.TableLaws.{filled-read}
-use Rattle.lists.proofs.FillLaws.{Filling, stored}
+use Rattle.floats.specs.Stand.{whole}
+use Rattle.loops.proofs.TableLaws.{filled-read}
+use Rattle.loops.proofs.FillLaws.{Filling, stored}
 use Rattle.grid.proofs.SidesLaws.{row-few}
 use Rattle.resample.specs.WorkSize.{Within}
 use Rattle.resample.specs.Places.{Block}
 use Rattle.resample.specs.Blocks.{firstOf, blockSum, averageOf}
 use Rattle.resample.proofs.BlockLaws.{run-of, average-by}
 use Rattle.resample.proofs.FillLaws.{averageAt}
-use Rattle.resample.proofs.RowFillLaws.{stored-row-at}
+use Rattle.loops.proofs.RowFillLaws.{stored-row-at}
 use Rattle.downsample.specs.Firsts.{firstsOf, averagesOf}
 
 module _ (side reduced : ℕ) where

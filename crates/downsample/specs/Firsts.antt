@@ -1,9 +1,9 @@
--- The blocks of a side at once, and a row of averages.
+-- The first columns (or rows) of all blocks of a side, and a row of averages.
 use Prim.Native.Nat.{ℕ, _+_}
 use mathlib.Core.List.{List, _++_}
 use lib.ListN.{drop, replicate}
 use lib.Ieee.{Float}
-use Rattle.lists.specs.Loops.{tabulate}
+use Rattle.loops.specs.Loops.{tabulate}
 use Rattle.resample.specs.Blocks.{firstOf, averageOf}
 
 -- an array of 4,097 places: the first column (or row) of each block, and the end past the last; 0 from there on

@@ -48,7 +48,8 @@ fn block_sum(src: &[f32], w: usize, x: usize, n: usize, y: usize, rows: usize) -
     sum
 }
 
-// The first columns (or rows) of all blocks, and the end past the last: a division for each block of a row of them, not for each block of the grid.
+// Returns the first column (or row) of each block, then the end past the last block. Each takes a division, so they are
+// worked out once for a grid, not for each of its blocks.
 fn firsts(side: usize, reduced: usize) -> [usize; 4097]
     requires { ⌜ Block side reduced reduced ⌝ }
     ensures { λ r. ⌜ r ≡ firstsOf side reduced ⌝ }
@@ -88,7 +89,7 @@ fn average(
     block_sum(src, size.w, x, nx, y, ny) / (nx * ny) as f32
 }
 
-// The averages of row by of the blocks.
+// Stores the averages of the blocks of row `by` in `row`.
 fn average_row(
     src: &[f32],
     size: Sides,
@@ -136,7 +137,8 @@ pub fn downsample_into(src: &[f32], size: Sides, dst: &mut [f32], dsize: Sides)
 
 // Block average of src onto dst. Nothing is written on 1 to 5; on 22 dst holds the averages.
 pub fn downsample(src: &[f32], size: Sides, dst: &mut [f32], dsize: Sides) -> Answer
-    ensures { λ r. ⌜ Downsampled (now (src .entry)) (size .w) (size .h) (now (dst .entry)) (dsize .w) (dsize .h) r (now (dst .exit)) ⌝ }
+    ensures { λ r. ⌜ Downsampled (now (src .entry)) (size .w) (size .h) (now (dst .entry)) (dsize .w) (dsize .h) r
+        (now (dst .exit)) ⌝ }
 {
     let refusal = map_refusal(src, size, dsize, dst.len());
     if let Answer::Refused(_) = refusal {

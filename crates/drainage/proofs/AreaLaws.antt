@@ -10,11 +10,12 @@ use lib.ListN.{length, getD, set, length-replicate, getD-replicate, length-set}
 use lib.Seq.{getD-set-same, getD-set-other}
 use lib.Ieee.{nan, binary32, ofBits, add}
 use borrow.Author.Tests.{eq-eqb, ne-eqb, eqb-true, eqb-false}
-use Rattle.float_order.specs.Whole.{whole}
+use Rattle.floats.specs.Stand.{whole}
 use Rattle.float_order.proofs.WholeLaws.{whole-sum, whole-one}
-use Rattle.drainage.specs.Ways.{times, WorkList, down, passes, countBelow, areaOf, sumBelow, areasAlong}
+use Rattle.loops.specs.Counts.{times, countBelow, sumBelow}
+use Rattle.drainage.specs.Ways.{WorkList, down, passes, areaOf, areasAlong}
 use Rattle.drainage.specs.Theorems.{Areas}
-use Rattle.drainage.proofs.CountLaws.{count-same, count-le, count-or, count-one, sum-same, sum-of-counts}
+use Rattle.loops.proofs.CountLaws.{count-same, count-le, count-or, count-one, sum-same, sum-of-counts}
 use Rattle.drainage.proofs.TrailLaws.{home, trail, Downstream, downstream-tail, trail-home, home-own, trail-stays}
 use Rattle.drainage.proofs.WorkListLaws.{entry-lt, receiver-lt, downstream}
 use Rattle.drainage.proofs.WayLaws.{home-down, down-lt, trail-passes}

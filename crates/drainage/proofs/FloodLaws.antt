@@ -11,9 +11,9 @@ use lib.ListN.{length, getD}
 use borrow.Author.Tests.{eqb-true, ne-eqb, lt-ltb, le-ltb}
 use Rattle.drainage.specs.Ground.{Ground, Kind}
 use Rattle.drainage.specs.Flood.{Flood, pushAll, leave, waits, leastWaiting, step, floodAfter, flooded}
-use Rattle.drainage.specs.Ways.{one, times, countBelow}
+use Rattle.loops.specs.Counts.{oneIf, times, countBelow}
 use Rattle.drainage.specs.Theorems.{Joined, Numbers}
-use Rattle.drainage.proofs.TallyLaws.{count-apart}
+use Rattle.loops.proofs.CountLaws.{count-apart}
 use Rattle.drainage.proofs.StateLaws.{Stands, floodAfter-stands, some-waits, flooded-left}
 pub use Rattle.drainage.proofs.LeastLaws.{Least, leastWaiting-found, leastWaiting-is, leastWaiting-nobody}
 pub use Rattle.drainage.proofs.KeptLaws.{Sized, Later, floodAfter-none, floodAfter-more, floodAfter-sized, floodAfter-later}
@@ -40,7 +40,7 @@ module _ {H : Type 0} (k : Kind H) (g : Ground) (hs : List H) where
     pub good : (c : ℕ) → c < g .cells → Good (getD (s .spill) c (k .absent))
     pub known : (c : ℕ) → c < g .cells → getD (s .status) c 0 ≤ 2
     pub left : length (s .order) ≡ i
-    pub once : (c : ℕ) → c < g .cells → times c (s .order) ≡ one (getD (s .status) c 0) 2
+    pub once : (c : ℕ) → c < g .cells → times c (s .order) ≡ oneIf (getD (s .status) c 0) 2
     pub only : (c : ℕ) → g .cells ≤ c → times c (s .order) ≡ 0
     pub waiting : countBelow (g .cells) (waits k g hs s) + i ≤ g .cells
     pub next : i < g .cells → leastWaiting k g hs s < g .cells

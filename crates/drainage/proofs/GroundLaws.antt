@@ -25,10 +25,10 @@ use Rattle.grid.proofs.ReachLaws.{spreads}
 use Rattle.grid.proofs.HeightsLaws.{all-at}
 use Rattle.grid.proofs.BaseLaws.{base-first}
 use Rattle.drainage.specs.Ground.{Ground, floats, groundBy, gridGround, someBelow, noBase}
-use Rattle.spacing.specs.declared.Distances.{Distances}
+use Rattle.grid_spacing.specs.declared.Distances.{Distances}
 use Rattle.drainage.specs.declared.Land.{Land}
 use Rattle.drainage.specs.Flood.{floodAfter, flooded}
-use Rattle.drainage.specs.Chains.{Near}
+use Rattle.drainage.specs.Chains.{Neighbours}
 use Rattle.drainage.specs.Theorems.{Joined, Numbers}
 use Rattle.drainage.specs.Grids.{Height, GridNetworks}
 use Rattle.drainage.proofs.StateLaws.{Stands, floodAfter-stands, flooded-left}
@@ -40,10 +40,10 @@ module _ (w h : ℕ) (distances : Distances) (base : ℕ → Bool) where
   abbrev pub onGrid : Ground
   onGrid = groundBy w h distances base
 
-  pub to-adjacent : {c m : ℕ} → Near onGrid c m → Adjacent w h c m
+  pub to-adjacent : {c m : ℕ} → Neighbours onGrid c m → Adjacent w h c m
   to-adjacent n = record { direction = n .direction; first = n .first; last = n .last; inside = n .inside; leads = n .leads }
 
-  to-near : {c m : ℕ} → Adjacent w h c m → Near onGrid c m
+  to-near : {c m : ℕ} → Adjacent w h c m → Neighbours onGrid c m
   to-near n = record { direction = n .direction; first = n .first; last = n .last; inside = n .inside; leads = n .leads }
 
   pub cells-joined : w * h ≤ 2 ^ 32 → (outlet : ℕ) → outlet < w * h → base outlet ≡ true → Joined onGrid

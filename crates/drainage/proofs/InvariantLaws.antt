@@ -1,5 +1,5 @@
 -- What holds of the flood between any two pushes, over bare functions: status (0 not pushed yet, 1 waiting, 2 left), the numbers of heights and
--- spill heights, finders, and the order so far. `leaver` left last, and `handled` of its eight directions are done. The two changes of a flood,
+-- spill heights, discoverers, and the order so far. `leaver` left last, and `handled` of its eight directions are done. The two changes of a flood,
 -- a push and a leaving, keep it.
 use Prim.Native.Nat.{ℕ, _≤_, _<_, max}
 use mathlib.Core.Path.{_≡_, refl, sym, ap, _∙_}
@@ -11,16 +11,16 @@ use lib.Dec.{eqb}
 use lib.ListN.{length, length-append}
 use borrow.Author.Tests.{ne-eqb}
 use Rattle.drainage.specs.Ground.{Ground}
-use Rattle.drainage.specs.Ways.{one, times, countBelow}
-use Rattle.drainage.specs.Chains.{Near, Chain, ends, crest}
-use Rattle.drainage.proofs.CountLaws.{count-none, times-append}
-use Rattle.drainage.proofs.TallyLaws.{lower-or-not, one-same, one-other, one-eq}
+use Rattle.loops.specs.Counts.{oneIf, times, countBelow}
+use Rattle.drainage.specs.Chains.{Neighbours, Chain, ends, crest}
+use Rattle.loops.proofs.CountLaws.{count-none, times-append, one-same, one-other, one-eq}
+use Rattle.loops.proofs.TestLaws.{lower-or-not}
 
 -- a flood as functions
 pub record View : Type 0 where
   pub status : ℕ → ℕ
   pub number : ℕ → ℕ
-  pub finder : ℕ → ℕ
+  pub discoverer : ℕ → ℕ
   pub order : List ℕ
 
 times-nil : (c : ℕ) → times c [] ≡ 0
@@ -36,7 +36,7 @@ module _ (g : Ground) (height : ℕ → ℕ) where
   pub record Found (s : View) (c f : ℕ) : Type 0 where
     pub inside : f < g .cells
     pub left : s .status f ≡ 2
-    pub near : Near g c f
+    pub near : Neighbours g c f
     pub level : s .number c ≡ max (height c) (s .number f)
 
   -- m is pushed, and no higher than a leads to
@@ -49,23 +49,23 @@ module _ (g : Ground) (height : ℕ → ℕ) where
     pub chain : Chain g c
     pub level : crest height chain ≡ s .number c
 
-  -- c left after its finder and after every pushed cell that is lower
+  -- c left after its discoverer and after every pushed cell that is lower
   pub record After (s : View) (before : List ℕ) (c : ℕ) : Type 0 where
-    pub finder : (s .finder c ≡ c → ⊥) → 0 < times (s .finder c) before
+    pub discoverer : (s .discoverer c ≡ c → ⊥) → 0 < times (s .discoverer c) before
     pub lower : (m : ℕ) → m < g .cells → 1 ≤ s .status m → s .number m < s .number c → 0 < times m before
 
   pub record Flooding (s : View) (leaver handled : ℕ) : Type 0 where
     pub known : (c : ℕ) → c < g .cells → s .status c ≤ 2
     pub base-pushed : (c : ℕ) → c < g .cells → g .base c ≡ true → 1 ≤ s .status c
     pub base-number : (c : ℕ) → c < g .cells → g .base c ≡ true → s .number c ≡ height c
-    pub base-finder : (c : ℕ) → c < g .cells → g .base c ≡ true → s .finder c ≡ c
-    pub found : (c : ℕ) → c < g .cells → 1 ≤ s .status c → g .base c ≡ false → Found s c (s .finder c)
+    pub base-discoverer : (c : ℕ) → c < g .cells → g .base c ≡ true → s .discoverer c ≡ c
+    pub found : (c : ℕ) → c < g .cells → 1 ≤ s .status c → g .base c ≡ false → Found s c (s .discoverer c)
     pub reached :
         (a e : ℕ) → a < g .cells → s .status a ≡ 2 → 1 ≤ e → e ≤ 8 → g .near a e < g .cells → (a ≡ leaver → e ≤ handled)
         → Reached s a (g .near a e)
     pub rising : (a b : ℕ) → a < g .cells → b < g .cells → s .status a ≡ 2 → s .status b ≡ 1 → s .number a ≤ s .number b
     pub top : (a : ℕ) → a < g .cells → s .status a ≡ 2 → s .number a ≤ s .number leaver
-    pub once : (c : ℕ) → c < g .cells → times c (s .order) ≡ one (s .status c) 2
+    pub once : (c : ℕ) → c < g .cells → times c (s .order) ≡ oneIf (s .status c) 2
     pub only : (c : ℕ) → g .cells ≤ c → times c (s .order) ≡ 0
     pub count : countBelow (g .cells) (λ c. eqb (s .status c) 2) ≡ length (s .order)
     pub after : (before : List ℕ) (c : ℕ) (rest : List ℕ) → s .order ≡ before ++ (c ∷ rest) → After s before c
@@ -76,17 +76,17 @@ module _ (g : Ground) (height : ℕ → ℕ) where
     pub here : t .status c ≡ 2
     pub elsewhere : (j : ℕ) → (j ≡ c → ⊥) → t .status j ≡ s .status j
     pub same-number : (j : ℕ) → t .number j ≡ s .number j
-    pub same-finder : (j : ℕ) → t .finder j ≡ s .finder j
+    pub same-discoverer : (j : ℕ) → t .discoverer j ≡ s .discoverer j
     pub more : t .order ≡ s .order ++ (c ∷ [])
 
   -- c pushes m: t is the flood s after it
   pub record Pushes (s t : View) (c m : ℕ) : Type 0 where
     pub here : t .status m ≡ 1
     pub here-number : t .number m ≡ max (height m) (s .number c)
-    pub here-finder : t .finder m ≡ c
+    pub here-discoverer : t .discoverer m ≡ c
     pub elsewhere : (j : ℕ) → (j ≡ m → ⊥) → t .status j ≡ s .status j
     pub else-number : (j : ℕ) → (j ≡ m → ⊥) → t .number j ≡ s .number j
-    pub else-finder : (j : ℕ) → (j ≡ m → ⊥) → t .finder j ≡ s .finder j
+    pub else-discoverer : (j : ℕ) → (j ≡ m → ⊥) → t .discoverer j ≡ s .discoverer j
     pub same-order : t .order ≡ s .order
 
   ends-crest : (c : ℕ) (e : g .base c ≡ true) → crest {g = g} height (ends c e) ≡ height c
@@ -120,14 +120,14 @@ module _ (g : Ground) (height : ℕ → ℕ) where
       go : (b : Bool) → g .base m ≡ b → s .number m ≤ max (height m) (s .number leaver)
       go true e = omega (arith, f .base-number m l e)
       go false e =
-          let d : Found s m (s .finder m) = f .found m l p e in
-          omega (arith, d .level, f .top (s .finder m) (d .inside) (d .left))
+          let d : Found s m (s .discoverer m) = f .found m l p e in
+          omega (arith, d .level, f .top (s .discoverer m) (d .inside) (d .left))
 
-  -- a flood begins: base cells wait with their own heights and are their own finders
+  -- a flood begins: base cells wait with their own heights and are their own discoverers
   pub record Begins (s : View) : Type 0 where
     pub status : (c : ℕ) → c < g .cells → s .status c ≡ one-of (g .base c)
     pub number : (c : ℕ) → s .number c ≡ height c
-    pub finder : (c : ℕ) → c < g .cells → s .finder c ≡ c
+    pub discoverer : (c : ℕ) → c < g .cells → s .discoverer c ≡ c
     pub order : s .order ≡ []
 
   module _ (s : View) (b : Begins s) where
@@ -159,7 +159,7 @@ module _ (g : Ground) (height : ℕ → ℕ) where
       known = λ c l. omega (arith, begins-low c l);
       base-pushed = λ c l e. omega (arith, begins-waits c l e);
       base-number = λ c l e. b .number c;
-      base-finder = λ c l e. b .finder c l;
+      base-discoverer = λ c l e. b .discoverer c l;
       found = λ c l p e. let z : ⊥ = omega (arith, begins-not c l e) in absurd z;
       reached = λ a e l p lo hi inn d. absurd (begins-none a l p);
       rising = λ a c l m p q. absurd (begins-none a l p);

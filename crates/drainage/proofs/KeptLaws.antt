@@ -1,5 +1,5 @@
 -- What a flood keeps, with no premise on the ground or the heights: its lists hold one entry for each cell, and from when a cell is pushed its
--- spill height and its finder stay, and its status only rises; the order only grows at its end.
+-- spill height and its discoverer stay, and its status only rises; the order only grows at its end.
 use Prim.Native.Nat.{ℕ, zero, suc, _+_, _≤_, _<_}
 use mathlib.Core.Path.{_≡_, refl, sym, ap, _∙_, subst}
 use mathlib.Core.Bool.{Bool, true, false, cond}
@@ -11,11 +11,11 @@ use lib.Dec.{eqb, ltb}
 use lib.ListN.{length, getD, set, length-set, List·getD-eq-default}
 use lib.Seq.{getD-set-same, getD-set-other}
 use borrow.Author.Tests.{ltb-true, ltb-false, eqb-true, eqb-false}
-use Rattle.lists.specs.Loops.{turns}
-use Rattle.lists.proofs.TableLaws.{length-tabulate}
+use Rattle.loops.specs.Loops.{turns}
+use Rattle.loops.proofs.TableLaws.{length-tabulate}
 use Rattle.drainage.specs.Ground.{Ground, Kind}
 use Rattle.drainage.specs.Flood.{Flood, start, pushed, push, pushAll, leave, waits, leastWaiting, step, floodAfter}
-use Rattle.drainage.proofs.TallyLaws.{same-or-not, lower-or-not}
+use Rattle.loops.proofs.TestLaws.{same-or-not, lower-or-not}
 use Rattle.drainage.proofs.LeastLaws.{leastWaiting-found}
 
 -- inside a list the default does not matter
@@ -27,13 +27,13 @@ getD-inside (x ∷ l) (suc i) d e h = getD-inside l i d e (omega arith)
 pub record Sized {H : Type 0} (n : ℕ) (s : Flood H) : Type 0 where
   pub status : length (s .status) ≡ n
   pub spill : length (s .spill) ≡ n
-  pub finder : length (s .finder) ≡ n
+  pub discoverer : length (s .discoverer) ≡ n
 
 -- t is a later state of the flood s
 pub record Later {H : Type 0} (absent : H) (s t : Flood H) : Type 0 where
   pub status : (c : ℕ) → getD (s .status) c 0 ≤ getD (t .status) c 0
   pub spill : (c : ℕ) → 1 ≤ getD (s .status) c 0 → getD (t .spill) c absent ≡ getD (s .spill) c absent
-  pub finder : (c : ℕ) → 1 ≤ getD (s .status) c 0 → getD (t .finder) c 0 ≡ getD (s .finder) c 0
+  pub discoverer : (c : ℕ) → 1 ≤ getD (s .status) c 0 → getD (t .discoverer) c 0 ≡ getD (s .discoverer) c 0
   pub rest : List ℕ
   pub order : t .order ≡ s .order ++ rest
 
@@ -41,7 +41,7 @@ pub later-same : {H : Type 0} (absent : H) (s : Flood H) → Later absent s s
 later-same absent s = record {
   status = λ c. omega arith;
   spill = λ c p. refl;
-  finder = λ c p. refl;
+  discoverer = λ c p. refl;
   rest = [];
   order = sym (append-nil (s .order));
 }
@@ -50,7 +50,7 @@ pub later-more : {H : Type 0} {absent : H} {s t u : Flood H} → Later absent s 
 later-more {s} {t} {u} a b = record {
   status = λ c. omega (arith, a .status c, b .status c);
   spill = λ c p. b .spill c (omega (arith, a .status c)) ∙ a .spill c p;
-  finder = λ c p. b .finder c (omega (arith, a .status c)) ∙ a .finder c p;
+  discoverer = λ c p. b .discoverer c (omega (arith, a .status c)) ∙ a .discoverer c p;
   rest = a .rest ++ b .rest;
   order = b .order ∙ ap (λ l. l ++ b .rest) (a .order) ∙ append-assoc (s .order) (a .rest) (b .rest);
 }
@@ -88,7 +88,7 @@ module _ {H : Type 0} (k : Kind H) (g : Ground) (hs : List H) where
       (λ _ _. record {
         status = simp length-set (z .status);
         spill = simp length-set (z .spill);
-        finder = simp length-set (z .finder);
+        discoverer = simp length-set (z .discoverer);
       })
       (λ _. z)
 
@@ -100,7 +100,7 @@ module _ {H : Type 0} (k : Kind H) (g : Ground) (hs : List H) where
           | inr n ↦ omega (arith, getD-set-other (s .status) m j 1 0 n)
         ];
         spill = λ j p. getD-set-other (s .spill) m j _ (k .absent) (apart e j p);
-        finder = λ j p. getD-set-other (s .finder) m j _ 0 (apart e j p);
+        discoverer = λ j p. getD-set-other (s .discoverer) m j _ 0 (apart e j p);
         rest = [];
         order = sym (append-nil (s .order));
       })
@@ -132,7 +132,7 @@ module _ {H : Type 0} (k : Kind H) (g : Ground) (hs : List H) where
       (λ _. pushedTo-order c d s z)
 
   pub leave-sized : (c : ℕ) (s : Flood H) → Sized (g .cells) s → Sized (g .cells) (leave k g hs c s)
-  leave-sized c s z = record { status = length-set (s .status) c 2 ∙ z .status; spill = z .spill; finder = z .finder }
+  leave-sized c s z = record { status = length-set (s .status) c 2 ∙ z .status; spill = z .spill; discoverer = z .discoverer }
 
   leave-later : (c : ℕ) (s : Flood H) → Sized (g .cells) s → c < g .cells → getD (s .status) c 0 ≤ 2 → Later (k .absent) s (leave k g hs c s)
   leave-later c s z l h = record {
@@ -141,7 +141,7 @@ module _ {H : Type 0} (k : Kind H) (g : Ground) (hs : List H) where
       | inr n ↦ omega (arith, getD-set-other (s .status) c j 2 0 n)
     ];
     spill = λ j p. refl;
-    finder = λ j p. refl;
+    discoverer = λ j p. refl;
     rest = c ∷ [];
     order = refl;
   }
@@ -185,7 +185,7 @@ module _ {H : Type 0} (k : Kind H) (g : Ground) (hs : List H) where
   module _ (many : length hs ≡ g .cells) where
     pub start-sized : Sized (g .cells) (start k g hs)
     unfolding start
-    start-sized = record { status = length-tabulate _ (g .cells); spill = many; finder = length-tabulate _ (g .cells) }
+    start-sized = record { status = length-tabulate _ (g .cells); spill = many; discoverer = length-tabulate _ (g .cells) }
 
     pub floodAfter-sized : (i : ℕ) → Sized (g .cells) (floodAfter k g hs i)
     floodAfter-sized zero = rw floodAfter-none start-sized

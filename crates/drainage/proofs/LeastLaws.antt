@@ -8,9 +8,9 @@ use native.Mathlib.Nat.{eq-or-lt-of-le, le-antisymm}
 use native.Mathlib.Omega.{arith}
 use borrow.Author.Tests.{ltb-true, ltb-false}
 use lib.Dec.{ltb}
-use Rattle.lists.proofs.TestLaws.{clash}
-use Rattle.lists.proofs.LoopLaws.{below-suc}
-use Rattle.lists.specs.Loops.{turns}
+use Rattle.loops.proofs.TestLaws.{clash}
+use Rattle.loops.proofs.LoopLaws.{below-suc}
+use Rattle.loops.specs.Loops.{turns}
 use Rattle.drainage.specs.Ground.{Ground, Kind}
 use Rattle.drainage.specs.Flood.{Flood, place, waits, leastWaiting}
 

@@ -9,8 +9,9 @@ use lib.Dec.{eqb}
 use lib.ListN.{length, length-append}
 use borrow.Author.Tests.{eq-eqb, ne-eqb}
 use Rattle.drainage.specs.Ground.{Ground}
-use Rattle.drainage.specs.Ways.{one, times, countBelow}
-use Rattle.drainage.proofs.TallyLaws.{same-or-not, one-same, one-other, count-more, times-last, split-last}
+use Rattle.loops.specs.Counts.{oneIf, times, countBelow}
+use Rattle.loops.proofs.TestLaws.{same-or-not}
+use Rattle.loops.proofs.CountLaws.{one-same, one-other, count-more, times-last, split-last}
 use Rattle.drainage.proofs.InvariantLaws.{View, Found, Reached, Way, After, Flooding, Leaves, left-once}
 
 module _ (g : Ground) (height : ℕ → ℕ) where
@@ -64,7 +65,7 @@ module _ (g : Ground) (height : ℕ → ℕ) where
         was : s .status b ≡ 1
         was = sym (ch .elsewhere b apart) ∙ q
 
-    leaves-once : (a : ℕ) → a < g .cells → times a (t .order) ≡ one (t .status a) 2
+    leaves-once : (a : ℕ) → a < g .cells → times a (t .order) ≡ oneIf (t .status a) 2
     leaves-once a l = ap (times a) (ch .more) ∙ times-last a c (s .order) ∙ elim (same-or-not a c) [
       | inl i ↦ omega (
         arith,
@@ -73,7 +74,7 @@ module _ (g : Ground) (height : ℕ → ℕ) where
         one-same c a (sym i),
         one-same (t .status a) 2 (ap (t .status) i ∙ ch .here),
       )
-      | inr d ↦ omega (arith, f .once a l, one-other c a (λ i. d (sym i)), ap (λ n. one n 2) (ch .elsewhere a d))
+      | inr d ↦ omega (arith, f .once a l, one-other c a (λ i. d (sym i)), ap (λ n. oneIf n 2) (ch .elsewhere a d))
     ]
       where
         unlike : a ≡ c → s .status a ≡ 2 → ⊥
@@ -96,15 +97,15 @@ module _ (g : Ground) (height : ℕ → ℕ) where
     -- what c leaves after
     leaves-last : After g height t (s .order) c
     leaves-last = record {
-      finder = λ d. subst (λ r. 0 < times r (s .order)) (sym (ch .same-finder c)) (finder-left (g .base c) refl (λ i. d (ch .same-finder c ∙ i)));
+      discoverer = λ d. subst (λ r. 0 < times r (s .order)) (sym (ch .same-discoverer c)) (discoverer-left (g .base c) refl (λ i. d (ch .same-discoverer c ∙ i)));
       lower = λ m l p h. left-once g height s last 8 f m l (lower-left m l (pushed-in m p) (omega (arith, ch .same-number m, ch .same-number c)));
     }
       where
-        finder-left : (b : Bool) → g .base c ≡ b → (s .finder c ≡ c → ⊥) → 0 < times (s .finder c) (s .order)
-        finder-left true b d = absurd (d (f .base-finder c inside b))
-        finder-left false b d =
-            let r : Found g height s c (s .finder c) = f .found c inside (omega arith) b in
-            left-once g height s last 8 f (s .finder c) (r .inside) (r .left)
+        discoverer-left : (b : Bool) → g .base c ≡ b → (s .discoverer c ≡ c → ⊥) → 0 < times (s .discoverer c) (s .order)
+        discoverer-left true b d = absurd (d (f .base-discoverer c inside b))
+        discoverer-left false b d =
+            let r : Found g height s c (s .discoverer c) = f .found c inside (omega arith) b in
+            left-once g height s last 8 f (s .discoverer c) (r .inside) (r .left)
 
         lower-left : (m : ℕ) → m < g .cells → 1 ≤ s .status m → s .number m < s .number c → s .status m ≡ 2
         lower-left m l p h = elim (same-or-not (s .status m) 1) [
@@ -120,7 +121,7 @@ module _ (g : Ground) (height : ℕ → ℕ) where
       where
         earlier : After g height s before a → After g height t before a
         earlier h = record {
-          finder = λ d. subst (λ r. 0 < times r before) (sym (ch .same-finder a)) (h .finder (λ i. d (ch .same-finder a ∙ i)));
+          discoverer = λ d. subst (λ r. 0 < times r before) (sym (ch .same-discoverer a)) (h .discoverer (λ i. d (ch .same-discoverer a ∙ i)));
           lower = λ m l p q. h .lower m l (pushed-in m p) (omega (arith, ch .same-number m, ch .same-number a));
         }
 
@@ -135,8 +136,8 @@ module _ (g : Ground) (height : ℕ → ℕ) where
       ];
       base-pushed = λ a l b. omega (arith, f .base-pushed a l b, grows a);
       base-number = λ a l b. ch .same-number a ∙ f .base-number a l b;
-      base-finder = λ a l b. ch .same-finder a ∙ f .base-finder a l b;
-      found = λ a l p b. subst (Found g height t a) (sym (ch .same-finder a)) (leaves-found a (s .finder a) (f .found a l (pushed-in a p) b));
+      base-discoverer = λ a l b. ch .same-discoverer a ∙ f .base-discoverer a l b;
+      found = λ a l p b. subst (Found g height t a) (sym (ch .same-discoverer a)) (leaves-found a (s .discoverer a) (f .found a l (pushed-in a p) b));
       reached = λ a e l p lo hi inn d. elim (left-in a p) [
         | inl i ↦ let z : ⊥ = omega (arith, d i) in absurd z
         | inr q ↦ leaves-reached a (g .near a e) (f .reached a e l q lo hi inn (λ _. hi))

@@ -1,5 +1,4 @@
 -- Theorems of the definitions in specs/.
-pub mod TallyLaws
 pub mod InvariantLaws
 pub mod LeaveLaws
 pub mod PushLaws
@@ -9,7 +8,6 @@ pub mod StateLaws
 pub mod FloodLaws
 pub mod NetworkLaws
 pub mod GroundLaws
-pub mod CountLaws
 pub mod TrailLaws
 pub mod WorkListLaws
 pub mod WayLaws

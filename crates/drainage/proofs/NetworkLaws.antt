@@ -9,30 +9,31 @@ use lib.Dec.{ltb}
 use lib.Ieee.{lt}
 use lib.ListN.{length, getD}
 use borrow.Author.Tests.{ltb-true, eq-eqb, ne-eqb}
-use Rattle.lists.proofs.TurnLaws.{turns-keep}
-use Rattle.lists.proofs.TableLaws.{getD-tabulate}
+use Rattle.loops.proofs.TurnLaws.{turns-keep}
+use Rattle.loops.proofs.TableLaws.{getD-tabulate}
 use Rattle.drainage.specs.Ground.{Ground, Kind}
 use Rattle.drainage.specs.Flood.{flooded}
 use Rattle.drainage.specs.Receivers.{Steepest, compared, steepestOf, receiverOf, receivers}
-use Rattle.drainage.specs.Ways.{times}
-use Rattle.drainage.specs.Chains.{Near, Chain, ends, onward, crest}
-use Rattle.drainage.specs.Theorems.{Joined, Numbers, Network, receiversOf}
-use Rattle.drainage.proofs.TallyLaws.{one-same}
+use Rattle.loops.specs.Counts.{times}
+use Rattle.drainage.specs.Chains.{Neighbours, Chain, ends, onward, crest}
+use Rattle.drainage.specs.Theorems.{Joined, Numbers, Network}
+use Rattle.drainage.specs.Routing.{receiversOf}
+use Rattle.loops.proofs.CountLaws.{one-same}
 use Rattle.drainage.proofs.InvariantLaws.{View, Found, Reached, After, Flooding, in-order}
 use Rattle.drainage.proofs.StateLaws.{heightOf, viewOf, Stands, floodAfter-stands, flooded-left}
 
 -- r is a neighbour of c that found it or lies lower
 pub record Drains (g : Ground) (s : View) (c r : ℕ) : Type 0 where
-  pub near : Near g c r
-  pub why : (r ≡ s .finder c) ⊎ (s .number r < s .number c)
+  pub near : Neighbours g c r
+  pub why : (r ≡ s .discoverer c) ⊎ (s .number r < s .number c)
 
 -- along any chain from c no crest is below the number of c, once all cells have left
 module _ (g : Ground) (height : ℕ → ℕ) (joined : Joined g) (s : View) (leaver : ℕ) (f : Flooding g height s leaver 8)
     (left : (c : ℕ) → c < g .cells → s .status c ≡ 2) where
-  step-number : (c m : ℕ) → c < g .cells → Near g c m → s .number c ≤ max (height c) (s .number m)
+  step-number : (c m : ℕ) → c < g .cells → Neighbours g c m → s .number c ≤ max (height c) (s .number m)
   step-number c m l n = subst (λ x. s .number x ≤ max (height x) (s .number m)) (back .leads) (reached .level)
     where
-      back : Near g m c
+      back : Neighbours g m c
       back = joined .both-ways c m l n
 
       inside : g .near m (back .direction) < g .cells
@@ -98,41 +99,41 @@ module _ {H : Type 0} (k : Kind H) (g : Ground) (hs : List H) (Good : H → Type
       turns-keep (λ i. compared k g spill c (suc i) (g .near c (suc i))) (λ best. Drains g view c (best .cell)) _ 8 h
       (λ i best w p. compared-drains c (suc i) l (omega arith) w best p)
 
-  recv-is : (c : ℕ) → c < g .cells → getD (receiversOf k g hs number) c 0 ≡ receiverOf k g spill c (view .finder c)
+  recv-is : (c : ℕ) → c < g .cells → getD (receiversOf k g hs) c 0 ≡ receiverOf k g spill c (view .discoverer c)
   unfolding receivers
-  recv-is c l = getD-tabulate (λ c. receiverOf k g spill c (view .finder c)) (g .cells) c 0 l
+  recv-is c l = getD-tabulate (λ c. receiverOf k g spill c (view .discoverer c)) (g .cells) c 0 l
 
-  recv-base : (c : ℕ) → c < g .cells → g .base c ≡ true → getD (receiversOf k g hs number) c 0 ≡ c
+  recv-base : (c : ℕ) → c < g .cells → g .base c ≡ true → getD (receiversOf k g hs) c 0 ≡ c
   unfolding receiverOf
-  recv-base c l b = recv-is c l ∙ ap (λ t. cond t c (steepestOf k g spill c (view .finder c) .cell)) (eq-eqb (view .finder c) c (flooding .base-finder c l b))
+  recv-base c l b = recv-is c l ∙ ap (λ t. cond t c (steepestOf k g spill c (view .discoverer c) .cell)) (eq-eqb (view .discoverer c) c (flooding .base-discoverer c l b))
 
-  found : (c : ℕ) → c < g .cells → g .base c ≡ false → Found g (heightOf k g hs Good number) view c (view .finder c)
+  found : (c : ℕ) → c < g .cells → g .base c ≡ false → Found g (heightOf k g hs Good number) view c (view .discoverer c)
   found c l b = flooding .found c l (omega (arith, left c l)) b
 
-  finder-other : (c : ℕ) → c < g .cells → g .base c ≡ false → view .finder c ≡ c → ⊥
-  finder-other c l b e = joined .other c (view .finder c) l (found c l b .near) (sym e)
+  discoverer-other : (c : ℕ) → c < g .cells → g .base c ≡ false → view .discoverer c ≡ c → ⊥
+  discoverer-other c l b e = joined .other c (view .discoverer c) l (found c l b .near) (sym e)
 
-  recv-drains : (c : ℕ) → c < g .cells → g .base c ≡ false → Drains g view c (getD (receiversOf k g hs number) c 0)
+  recv-drains : (c : ℕ) → c < g .cells → g .base c ≡ false → Drains g view c (getD (receiversOf k g hs) c 0)
   unfolding receiverOf
-  recv-drains c l b = subst (Drains g view c) (sym is) (steepest-drains c (view .finder c) l (record { near = found c l b .near; why = inl refl }))
+  recv-drains c l b = subst (Drains g view c) (sym is) (steepest-drains c (view .discoverer c) l (record { near = found c l b .near; why = inl refl }))
     where
-      is : getD (receiversOf k g hs number) c 0 ≡ steepestOf k g spill c (view .finder c) .cell
+      is : getD (receiversOf k g hs) c 0 ≡ steepestOf k g spill c (view .discoverer c) .cell
       is =
           recv-is c l
-          ∙ ap (λ t. cond t c (steepestOf k g spill c (view .finder c) .cell)) (ne-eqb (view .finder c) c (finder-other c l b))
+          ∙ ap (λ t. cond t c (steepestOf k g spill c (view .discoverer c) .cell)) (ne-eqb (view .discoverer c) c (discoverer-other c l b))
 
-  recv-other : (c : ℕ) → c < g .cells → g .base c ≡ false → getD (receiversOf k g hs number) c 0 ≡ c → ⊥
-  recv-other c l b e = joined .other c (getD (receiversOf k g hs number) c 0) l (recv-drains c l b .near) (sym e)
+  recv-other : (c : ℕ) → c < g .cells → g .base c ≡ false → getD (receiversOf k g hs) c 0 ≡ c → ⊥
+  recv-other c l b e = joined .other c (getD (receiversOf k g hs) c 0) l (recv-drains c l b .near) (sym e)
 
   -- a cell that drains into another is not base level
-  not-base : (c : ℕ) → c < g .cells → (getD (receiversOf k g hs number) c 0 ≡ c → ⊥) → g .base c ≡ false
+  not-base : (c : ℕ) → c < g .cells → (getD (receiversOf k g hs) c 0 ≡ c → ⊥) → g .base c ≡ false
   not-base c l d = go (g .base c) refl
     where
       go : (b : Bool) → g .base c ≡ b → g .base c ≡ false
       go true b = absurd (d (recv-base c l b))
       go false b = b
 
-  own-base : (c : ℕ) → c < g .cells → getD (receiversOf k g hs number) c 0 ≡ c → g .base c ≡ true
+  own-base : (c : ℕ) → c < g .cells → getD (receiversOf k g hs) c 0 ≡ c → g .base c ≡ true
   own-base c l e = go (g .base c) refl
     where
       go : (b : Bool) → g .base c ≡ b → g .base c ≡ true
@@ -141,16 +142,16 @@ module _ {H : Type 0} (k : Kind H) (g : Ground) (hs : List H) (Good : H → Type
 
   drains-after : (before : List ℕ) (c r : ℕ) → c < g .cells → g .base c ≡ false → Drains g view c r → After g (heightOf k g hs Good number) view before c → 0 < times r before
   drains-after before c r l b d a = elim (d .why) [
-    | inl e ↦ subst (λ r. 0 < times r before) (sym e) (a .finder (finder-other c l b))
+    | inl e ↦ subst (λ r. 0 < times r before) (sym e) (a .discoverer (discoverer-other c l b))
     | inr h ↦ a .lower r (d .near .inside) (omega (arith, left r (d .near .inside))) h
   ]
 
   after :
       (before : List ℕ) (c : ℕ) (rest : List ℕ) → flooded k g hs .order ≡ before ++ (c ∷ rest)
-      → (getD (receiversOf k g hs number) c 0 ≡ c → ⊥) → 0 < times (getD (receiversOf k g hs number) c 0) before
+      → (getD (receiversOf k g hs) c 0 ≡ c → ⊥) → 0 < times (getD (receiversOf k g hs) c 0) before
   after before c rest e d =
       let l : c < g .cells = in-order g (heightOf k g hs Good number) view (end .leaver) 8 flooding before c rest e .0 in
-      drains-after before c (getD (receiversOf k g hs number) c 0) l (not-base c l d) (recv-drains c l (not-base c l d)) (flooding .after before c rest e)
+      drains-after before c (getD (receiversOf k g hs) c 0) l (not-base c l d) (recv-drains c l (not-base c l d)) (flooding .after before c rest e)
 
   network-of : Network k g hs number
   network-of = record {

@@ -9,11 +9,11 @@ use lib.Dec.{eqb}
 use lib.ListN.{length}
 use borrow.Author.Tests.{ne-eqb}
 use Rattle.drainage.specs.Ground.{Ground}
-use Rattle.drainage.specs.Ways.{one, times, countBelow}
-use Rattle.drainage.specs.Chains.{Near, onward, crest}
+use Rattle.loops.specs.Counts.{oneIf, times, countBelow}
+use Rattle.drainage.specs.Chains.{Neighbours, onward, crest}
 use Rattle.drainage.specs.Theorems.{Joined}
-use Rattle.drainage.proofs.CountLaws.{count-same}
-use Rattle.drainage.proofs.TallyLaws.{same-or-not, one-other}
+use Rattle.loops.proofs.CountLaws.{count-same, one-other}
+use Rattle.loops.proofs.TestLaws.{same-or-not}
 use Rattle.drainage.proofs.InvariantLaws.{View, Found, Reached, Way, After, Flooding, Pushes, in-order, pushed-level}
 
 module _ (g : Ground) (height : ℕ → ℕ) where
@@ -25,7 +25,7 @@ module _ (g : Ground) (height : ℕ → ℕ) where
     known = f .known;
     base-pushed = f .base-pushed;
     base-number = f .base-number;
-    base-finder = f .base-finder;
+    base-discoverer = f .base-discoverer;
     found = f .found;
     reached = λ a e l p lo hi inn k. elim (same-or-not a c) [
       | inl i ↦ elim (same-or-not e (suc d)) [
@@ -53,7 +53,7 @@ module _ (g : Ground) (height : ℕ → ℕ) where
     m = g .near c (suc d)
 
     -- c and m are neighbours
-    next : Near g c m
+    next : Neighbours g c m
     next = record { direction = suc d; first = omega arith; last = omega arith; inside = there; leads = refl }
 
     apart : (a : ℕ) → 1 ≤ s .status a → a ≡ m → ⊥
@@ -111,10 +111,10 @@ module _ (g : Ground) (height : ℕ → ℕ) where
         same : t .number a ≡ s .number a
         same = ch .else-number a (apart-left a p)
 
-    pushes-once : (a : ℕ) → a < g .cells → times a (t .order) ≡ one (t .status a) 2
+    pushes-once : (a : ℕ) → a < g .cells → times a (t .order) ≡ oneIf (t .status a) 2
     pushes-once a l = ap (times a) (ch .same-order) ∙ f .once a l ∙ elim (same-or-not a m) [
       | inl i ↦ one-other (s .status a) 2 (old a i) ∙ sym (one-other (t .status a) 2 (λ e. apart-left a e i))
-      | inr n ↦ ap (λ k. one k 2) (sym (ch .elsewhere a n))
+      | inr n ↦ ap (λ k. oneIf k 2) (sym (ch .elsewhere a n))
     ]
 
     pushes-count : countBelow (g .cells) (λ a. eqb (t .status a) 2) ≡ length (t .order)
@@ -128,7 +128,7 @@ module _ (g : Ground) (height : ℕ → ℕ) where
 
     pushes-after : (before : List ℕ) (a : ℕ) (rest : List ℕ) → t .order ≡ before ++ (a ∷ rest) → After g height t before a
     pushes-after before a rest e = record {
-      finder = λ n. subst (λ r. 0 < times r before) (sym same-finder) (h .finder (λ i. n (same-finder ∙ i)));
+      discoverer = λ n. subst (λ r. 0 < times r before) (sym same-discoverer) (h .discoverer (λ i. n (same-discoverer ∙ i)));
       lower = λ x l p q. elim (same-or-not x m) [
         | inl i ↦ let z : ⊥ = omega (arith, ap (t .number) i, ch .here-number, f .top a (had .0) (had .1), same) in absurd z
         | inr n ↦ h .lower x l (omega (arith, ch .elsewhere x n)) (omega (arith, ch .else-number x n, same))
@@ -150,8 +150,8 @@ module _ (g : Ground) (height : ℕ → ℕ) where
         same : t .number a ≡ s .number a
         same = ch .else-number a away
 
-        same-finder : t .finder a ≡ s .finder a
-        same-finder = ch .else-finder a away
+        same-discoverer : t .discoverer a ≡ s .discoverer a
+        same-discoverer = ch .else-discoverer a away
 
     pushes-way : (a : ℕ) → (a ≡ m → ⊥) → Way g height s a → Way g height t a
     pushes-way a n h = record { chain = h .chain; level = h .level ∙ sym (ch .else-number a n) }
@@ -171,10 +171,10 @@ module _ (g : Ground) (height : ℕ → ℕ) where
       ];
       base-pushed = λ a l b. omega (arith, f .base-pushed a l b, ch .elsewhere a (no-base a l b));
       base-number = λ a l b. ch .else-number a (no-base a l b) ∙ f .base-number a l b;
-      base-finder = λ a l b. ch .else-finder a (no-base a l b) ∙ f .base-finder a l b;
+      base-discoverer = λ a l b. ch .else-discoverer a (no-base a l b) ∙ f .base-discoverer a l b;
       found = λ a l p b. elim (same-or-not a m) [
-        | inl i ↦ subst₂ (Found g height t) (sym i) (sym (ap (t .finder) i ∙ ch .here-finder)) pushes-found-here
-        | inr n ↦ subst (Found g height t a) (sym (ch .else-finder a n)) (pushes-found a (s .finder a) (was a n p) (f .found a l (was a n p) b))
+        | inl i ↦ subst₂ (Found g height t) (sym i) (sym (ap (t .discoverer) i ∙ ch .here-discoverer)) pushes-found-here
+        | inr n ↦ subst (Found g height t a) (sym (ch .else-discoverer a n)) (pushes-found a (s .discoverer a) (was a n p) (f .found a l (was a n p) b))
       ];
       reached = λ a e l p lo hi inn k. elim (same-or-not e (suc d)) [
         | inl j ↦ elim (same-or-not a c) [

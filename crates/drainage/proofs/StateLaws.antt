@@ -9,13 +9,15 @@ use lib.Dec.{eqb}
 use lib.ListN.{length, getD, length-append}
 use lib.Seq.{getD-set-same, getD-set-other}
 use borrow.Author.Tests.{eq-eqb, eqb-true}
-use Rattle.lists.specs.Loops.{turns}
-use Rattle.lists.proofs.TableLaws.{getD-tabulate}
+use Rattle.loops.specs.Loops.{turns}
+use Rattle.loops.proofs.TableLaws.{getD-tabulate}
 use Rattle.drainage.specs.Ground.{Ground, Kind}
 use Rattle.drainage.specs.Flood.{Flood, start, pushed, push, leave, place, leastWaiting, step, floodAfter, flooded}
-use Rattle.drainage.specs.Chains.{Near}
+use Rattle.drainage.specs.Chains.{Neighbours}
 use Rattle.drainage.specs.Theorems.{Joined, Numbers}
-use Rattle.drainage.proofs.TallyLaws.{same-or-not, lower-or-not, up-to, count-all, count-full}
+use Rattle.loops.proofs.TestLaws.{same-or-not, lower-or-not}
+use Rattle.loops.proofs.LoopLaws.{up-to}
+use Rattle.loops.proofs.CountLaws.{count-all, count-full}
 use Rattle.drainage.proofs.LeastLaws.{leastWaiting-found, place-key}
 use Rattle.drainage.proofs.InvariantLaws.{View, Flooding, one-of, begins}
 use Rattle.drainage.proofs.LeaveLaws.{leaves}
@@ -31,7 +33,7 @@ module _ {H : Type 0} (k : Kind H) (g : Ground) (hs : List H) (Good : H → Type
   viewOf s = record {
     status = λ c. getD (s .status) c 0;
     number = λ c. number (getD (s .spill) c (k .absent));
-    finder = λ c. getD (s .finder) c 0;
+    discoverer = λ c. getD (s .discoverer) c 0;
     order = s .order;
   }
 
@@ -73,7 +75,7 @@ module _ {H : Type 0} (k : Kind H) (g : Ground) (hs : List H) (Good : H → Type
             here = getD-set-same (s .status) c 2 0 (omega (arith, h .sized .status));
             elsewhere = λ j n. getD-set-other (s .status) c j 2 0 n;
             same-number = λ j. refl;
-            same-finder = λ j. refl;
+            same-discoverer = λ j. refl;
             more = refl;
           });
     }
@@ -98,10 +100,10 @@ module _ {H : Type 0} (k : Kind H) (g : Ground) (hs : List H) (Good : H → Type
           pushes g heightOf joined (viewOf s) (viewOf (pushed k g hs c m s)) c d (h .flooding) w l (omega (arith, h .flooding .known c l)) inn new (record {
             here = getD-set-same (s .status) m 1 0 (omega (arith, h .sized .status));
             here-number = ap number here ∙ numbers .raised-number _ _ (fine m inn) (h .good c l);
-            here-finder = getD-set-same (s .finder) m c 0 (omega (arith, h .sized .finder));
+            here-discoverer = getD-set-same (s .discoverer) m c 0 (omega (arith, h .sized .discoverer));
             elsewhere = λ j n. getD-set-other (s .status) m j 1 0 n;
             else-number = λ j n. ap number (getD-set-other (s .spill) m j _ (k .absent) n);
-            else-finder = λ j n. getD-set-other (s .finder) m j _ 0 n;
+            else-discoverer = λ j n. getD-set-other (s .discoverer) m j _ 0 n;
             same-order = refl;
           });
     }
@@ -144,7 +146,7 @@ module _ {H : Type 0} (k : Kind H) (g : Ground) (hs : List H) (Good : H → Type
       flooding = begins g heightOf (viewOf (start k g hs)) (record {
         status = λ c l. getD-tabulate (λ c. one-of (g .base c)) (g .cells) c 0 l;
         number = λ c. refl;
-        finder = λ c l. getD-tabulate (λ c. c) (g .cells) c 0 l;
+        discoverer = λ c l. getD-tabulate (λ c. c) (g .cells) c 0 l;
         order = refl;
       });
     }
@@ -167,7 +169,7 @@ module _ {H : Type 0} (k : Kind H) (g : Ground) (hs : List H) (Good : H → Type
         ]
 
         reach :
-            (c : ℕ) {m : ℕ} (n : Near g c m) → c < g .cells → getD (s .status) c 0 ≡ 2 → g .near c (n .direction) < g .cells
+            (c : ℕ) {m : ℕ} (n : Neighbours g c m) → c < g .cells → getD (s .status) c 0 ≡ 2 → g .near c (n .direction) < g .cells
             → 1 ≤ getD (s .status) (g .near c (n .direction)) 0
         reach c n l p i = h .flooding .reached c (n .direction) l p (n .first) (n .last) i (λ _. n .last) .pushed
 

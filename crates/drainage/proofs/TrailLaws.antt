@@ -8,9 +8,9 @@ use mathlib.Core.List.{List, [], _∷_, _++_}
 use native.Mathlib.Omega.{arith}
 use lib.Dec.{eqb}
 use borrow.Author.Tests.{eq-eqb, ne-eqb, eqb-true, eqb-false}
-use Rattle.lists.proofs.TestLaws.{both, alike}
-use Rattle.drainage.specs.Ways.{times}
-use Rattle.drainage.proofs.CountLaws.{bit}
+use Rattle.loops.proofs.TestLaws.{both, alike}
+use Rattle.loops.specs.Counts.{times}
+use Rattle.loops.proofs.CountLaws.{bit}
 
 module _ (r : ℕ → ℕ) where
   unfoldable pub home : List ℕ → ℕ → ℕ

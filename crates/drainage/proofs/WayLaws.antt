@@ -9,9 +9,9 @@ use native.Mathlib.Omega.{arith}
 use lib.Dec.{eqb}
 use lib.ListN.{length, getD, length-append}
 use borrow.Author.Tests.{eq-eqb, eqb-true}
-use Rattle.lists.proofs.TestLaws.{both, alike}
+use Rattle.loops.proofs.TestLaws.{both, alike}
 use Rattle.drainage.specs.Ways.{WorkList, down, passes}
-use Rattle.drainage.proofs.CountLaws.{bit}
+use Rattle.loops.proofs.CountLaws.{bit}
 use Rattle.drainage.proofs.TrailLaws.{home, trail, trail-own, trail-closed}
 use Rattle.drainage.proofs.WorkListLaws.{Stands, stands, entry-of, own-or-before, receiver-lt, downstream, list-length}
 

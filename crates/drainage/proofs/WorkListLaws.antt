@@ -10,8 +10,9 @@ use native.Mathlib.Omega.{arith}
 use lib.Dec.{eqb}
 use lib.ListN.{length, getD}
 use borrow.Author.Tests.{eqb-true, eqb-false}
-use Rattle.drainage.specs.Ways.{times, WorkList, sumBelow}
-use Rattle.drainage.proofs.CountLaws.{bit, sum-same, sum-on, sum-zero, times-append, times-here}
+use Rattle.loops.specs.Counts.{times, sumBelow}
+use Rattle.drainage.specs.Ways.{WorkList}
+use Rattle.loops.proofs.CountLaws.{bit, sum-same, sum-on, sum-zero, times-append, times-here}
 use Rattle.drainage.proofs.TrailLaws.{Downstream}
 
 -- where a cell stands in a list

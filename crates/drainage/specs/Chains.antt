@@ -6,7 +6,7 @@ use mathlib.Core.Bool.{true}
 use Rattle.drainage.specs.Ground.{Ground}
 
 -- m is a neighbour of c
-pub record Near (g : Ground) (c m : ℕ) : Type 0 where
+pub record Neighbours (g : Ground) (c m : ℕ) : Type 0 where
   pub direction : ℕ
   pub first : 1 ≤ direction
   pub last : direction ≤ 8
@@ -16,7 +16,7 @@ pub record Near (g : Ground) (c m : ℕ) : Type 0 where
 -- a chain from c to base level
 pub data Chain (g : Ground) : ℕ → Type 0 where
   ends : (c : ℕ) → g .base c ≡ true → Chain g c
-  onward : (c : ℕ) {m : ℕ} → Near g c m → Chain g m → Chain g c
+  onward : (c : ℕ) {m : ℕ} → Neighbours g c m → Chain g m → Chain g c
 
 -- the greatest height on a chain, as a number
 unfoldable pub crest : {g : Ground} (height : ℕ → ℕ) {c : ℕ} → Chain g c → ℕ

@@ -1,25 +1,25 @@
 -- The flood of document 01, 'Network'. Base cells are pushed with their own height and are their own receiver. The lowest key leaves first, ties
 -- by lower cell number. A cell leaving gives each neighbour not yet pushed the spill height max(its height, spill of the leaver) and becomes its
--- receiver; that first receiver is called its finder here.
+-- receiver; that first receiver is called its discoverer here.
 use Prim.Native.Nat.{ℕ, suc, _+_, _*_, _^_}
 use mathlib.Core.Bool.{Bool, not, _&&_, _||_, cond}
 use mathlib.Core.List.{List, [], _∷_, _++_}
 use lib.ListN.{getD, set}
 use lib.Dec.{eqb, ltb}
-use Rattle.lists.specs.Loops.{turns, tabulate}
+use Rattle.loops.specs.Loops.{turns, tabulate}
 use Rattle.drainage.specs.Ground.{Ground, Kind}
 
 -- status: 0 not pushed yet, 1 waiting, 2 left. order: the cells that left, the first one first.
 pub record Flood (H : Type 0) : Type 0 where
   pub status : List ℕ
   pub spill : List H
-  pub finder : List ℕ
+  pub discoverer : List ℕ
   pub order : List ℕ
 
 module _ {H : Type 0} (k : Kind H) (g : Ground) (hs : List H) where
   unfoldable pub start : Flood H
   unfolding tabulate
-  start = record { status = tabulate (g .cells) (λ c. cond (g .base c) 1 0); spill = hs; finder = tabulate (g .cells) (λ c. c); order = [] }
+  start = record { status = tabulate (g .cells) (λ c. cond (g .base c) 1 0); spill = hs; discoverer = tabulate (g .cells) (λ c. c); order = [] }
 
   -- the place of a cell in the queue: the key of its spill height, then its number
   abbrev pub place : Flood H → ℕ → ℕ
@@ -40,7 +40,7 @@ module _ {H : Type 0} (k : Kind H) (g : Ground) (hs : List H) where
       record {
         status = set (s .status) m 1;
         spill = set (s .spill) m (k .raised (getD hs m (k .absent)) (getD (s .spill) c (k .absent)));
-        finder = set (s .finder) m c;
+        discoverer = set (s .discoverer) m c;
         order = s .order;
       }
 
@@ -54,9 +54,9 @@ module _ {H : Type 0} (k : Kind H) (g : Ground) (hs : List H) where
   pushAll c s = turns 8 (λ i. push c (g .near c (suc i))) s
 
   abbrev pub leave : ℕ → Flood H → Flood H
-  leave c s = record { status = set (s .status) c 2; spill = s .spill; finder = s .finder; order = s .order ++ (c ∷ []) }
+  leave c s = record { status = set (s .status) c 2; spill = s .spill; discoverer = s .discoverer; order = s .order ++ (c ∷ []) }
 
-  -- one cell leaves, if one waits
+  -- the least waiting cell leaves and reaches its neighbours; nothing changes where no cell waits
   unfoldable pub step : Flood H → Flood H
   unfolding leastWaiting pushAll
   step s = let c = leastWaiting s in cond (ltb c (g .cells)) (pushAll c (leave c s)) s

@@ -1,5 +1,6 @@
--- What a routing stands on: the cells with their neighbours, which of them are base level, the distance of each direction, and how heights of
--- a kind compare. Other base cells, other distances and other kinds of heights are other values of these two records.
+-- What a routing is given: the cells with their neighbours, which of them are base level and the distance of each
+-- direction (`Ground`), and how heights of a kind compare (`Kind`). Other base cells, other distances and other kinds
+-- of heights are other values of these two records.
 use Prim.Native.Nat.{ℕ, zero, suc, _*_}
 use mathlib.Core.Bool.{Bool, false, not, _||_}
 use mathlib.Core.List.{List}
@@ -8,8 +9,8 @@ use Rattle.floats.specs.Stand.{maxOf}
 use Rattle.floats.specs.Key.{keyOf}
 use Rattle.grid.specs.Directions.{neighbourAt}
 use Rattle.grid.specs.Base.{baseOn, allOpen}
-use Rattle.spacing.specs.Distances.{distanceIn, squareDistances}
-use Rattle.spacing.specs.declared.Distances.{Distances}
+use Rattle.grid_spacing.specs.Distances.{distanceIn, squareDistances}
+use Rattle.grid_spacing.specs.declared.Distances.{Distances}
 use Rattle.drainage.specs.declared.Land.{Land}
 
 -- whether a test holds of some cell below m
@@ -29,11 +30,11 @@ pub record Ground : Type 0 where
 
 -- How heights of a kind H are used by a routing.
 pub record Kind (H : Type 0) : Type 0 where
-  -- the order in which cells leave
+  -- the key of a height: the cell with the lowest one leaves first
   pub key : H → ℕ
   -- max(a cell's own height, the spill height of the cell that reaches it)
   pub raised : H → H → H
-  -- strictly lower
+  -- whether one height is strictly lower than another
   pub lower : H → H → Bool
   -- the slope down from one height to another over a distance
   pub slope : H → H → Float → Float
@@ -44,7 +45,7 @@ pub record Kind (H : Type 0) : Type 0 where
 abbrev pub floats : Kind Float
 floats = record { key = keyOf; raised = maxOf; lower = lt; slope = λ a b d. div binary32 (sub binary32 a b) d; absent = nan }
 
--- a grid of w × h cells with eight neighbours, by the distances to them and the cells that are base level
+-- a grid of w × h cells with eight neighbours each, for given distances and given base-level cells
 abbrev pub groundBy : ℕ → ℕ → Distances → (ℕ → Bool) → Ground
 groundBy w h distances base = record { cells = w * h; near = neighbourAt w h; base = base; distance = distanceIn distances }
 

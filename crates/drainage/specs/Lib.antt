@@ -3,6 +3,7 @@ pub mod Ground
 pub mod Flood
 pub mod Receivers
 pub mod Ways
+pub mod Routing
 pub mod Chains
 pub mod Theorems
 pub mod Grids

@@ -6,7 +6,7 @@ use mathlib.Core.List.{List}
 use lib.ListN.{getD}
 use lib.Dec.{eqb, ltb}
 use lib.Ieee.{Float, lt}
-use Rattle.lists.specs.Loops.{turns, tabulate}
+use Rattle.loops.specs.Loops.{turns, tabulate}
 use Rattle.drainage.specs.Ground.{Ground, Kind}
 
 -- the direction from cell c to its neighbour r: the last of 1 to 8 that leads there; 0 where none does, as from a cell to itself
@@ -26,7 +26,8 @@ module _ {H : Type 0} (k : Kind H) (g : Ground) (spill : List H) where
   abbrev pub spillAt : ℕ → H
   spillAt c = getD spill c (k .absent)
 
-  -- neighbour m of c in direction d against the receiver so far
+  -- neighbour m of c in direction d, if it is a cell with a strictly lower spill height and a strictly greater slope,
+  -- else the receiver so far
   abbrev pub compared : ℕ → ℕ → ℕ → Steepest → Steepest
   compared c d m best =
       cond
@@ -39,11 +40,11 @@ module _ {H : Type 0} (k : Kind H) (g : Ground) (spill : List H) where
   steepestOf c r =
       turns 8 (λ i. compared c (suc i) (g .near c (suc i))) (record { cell = r; slope = k .slope (spillAt c) (spillAt r) (distanceTo g c r) })
 
-  -- the receiver of c, whose finder is r: a cell that is its own finder is base level and keeps it
+  -- the receiver of c, whose discoverer is r: a cell that is its own discoverer is base level and keeps it
   unfoldable pub receiverOf : ℕ → ℕ → ℕ
   unfolding steepestOf
   receiverOf c r = cond (eqb r c) c (steepestOf c r .cell)
 
   unfoldable pub receivers : List ℕ → List ℕ
   unfolding tabulate receiverOf
-  receivers finder = tabulate (g .cells) (λ c. receiverOf c (getD finder c 0))
+  receivers discoverer = tabulate (g .cells) (λ c. receiverOf c (getD discoverer c 0))

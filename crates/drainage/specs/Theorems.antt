@@ -6,26 +6,26 @@ use mathlib.Core.Bool.{true}
 use mathlib.Core.List.{List}
 use lib.ListN.{getD}
 use lib.Dec.{eqb, ltb}
-use lib.Ieee.{nan, binary32, ofInt}
-use lib.IntN.{pos}
+use lib.Ieee.{nan, binary32}
+use Rattle.floats.specs.Stand.{whole}
 use Rattle.drainage.specs.Ground.{Ground, Kind}
-use Rattle.drainage.specs.Flood.{flooded}
-use Rattle.drainage.specs.Receivers.{receivers}
-use Rattle.drainage.specs.Ways.{WorkList, areaOf, areasAlong, sumBelow}
-use Rattle.drainage.specs.Chains.{Near, LeastCrest}
+use Rattle.drainage.specs.Routing.{orderOf, spillOf, receiversOf}
+use Rattle.loops.specs.Counts.{sumBelow}
+use Rattle.drainage.specs.Ways.{WorkList, areaOf, areasAlong}
+use Rattle.drainage.specs.Chains.{Neighbours, LeastCrest}
 
 -- Neighbours are other cells and mutual, steps to neighbours join any two cells, and some cell is base level.
 pub record Joined (g : Ground) : Type 1 where
   pub few : g .cells ≤ 2 ^ 32
-  pub other : (c m : ℕ) → c < g .cells → Near g c m → c ≡ m → ⊥
-  pub both-ways : (c m : ℕ) → c < g .cells → Near g c m → Near g m c
-  pub joins : (P : ℕ → Type 0) → ((c m : ℕ) → c < g .cells → Near g c m → P c → P m) → (a : ℕ) → a < g .cells → P a → (b : ℕ) → b < g .cells → P b
+  pub other : (c m : ℕ) → c < g .cells → Neighbours g c m → c ≡ m → ⊥
+  pub both-ways : (c m : ℕ) → c < g .cells → Neighbours g c m → Neighbours g m c
+  pub joins : (P : ℕ → Type 0) → ((c m : ℕ) → c < g .cells → Neighbours g c m → P c → P m) → (a : ℕ) → a < g .cells → P a → (b : ℕ) → b < g .cells → P b
   pub outlet : ℕ
   pub outlet-inside : outlet < g .cells
   pub outlet-base : g .base outlet ≡ true
 
--- Heights that are numbers: `Good` heights have a number; the greater of two has the greater number; strictly lower means a lower number, and
--- then a lower key; keys have 32 bits.
+-- Heights compare as numbers do: `Good` heights have a number; the greater of two is `Good` and has the greater number;
+-- strictly lower means a lower number, and then a lower key; keys have 32 bits.
 pub record Numbers {H : Type 0} (k : Kind H) (Good : H → Type 0) (number : H → ℕ) : Type 0 where
   pub raised-good : (a b : H) → Good a → Good b → Good (k .raised a b)
   pub raised-number : (a b : H) → Good a → Good b → number (k .raised a b) ≡ max (number a) (number b)
@@ -34,24 +34,18 @@ pub record Numbers {H : Type 0} (k : Kind H) (Good : H → Type 0) (number : H �
   pub key-narrow : (a : H) → Good a → k .key a < 2 ^ 32
 
 module _ {H : Type 0} (k : Kind H) (g : Ground) (hs : List H) (number : H → ℕ) where
-  abbrev pub spillOf : List H
-  spillOf = flooded k g hs .spill
-
-  abbrev pub receiversOf : List ℕ
-  receiversOf = receivers k g (flooded k g hs .spill) (flooded k g hs .finder)
-
   -- One routing: the order holds every cell exactly once, each after any other cell it drains into; a cell is its own receiver exactly if it is
   -- base level, and every other receiver is a neighbour; a cell's spill height is the least, over all chains from it to base level, of the
   -- greatest height on the chain, as numbers.
   pub record Network : Type 0 where
-    pub work-list : WorkList (g .cells) receiversOf (flooded k g hs .order)
-    pub base-own : (c : ℕ) → c < g .cells → g .base c ≡ true → getD receiversOf c 0 ≡ c
-    pub own-base : (c : ℕ) → c < g .cells → getD receiversOf c 0 ≡ c → g .base c ≡ true
-    pub adjacent : (c : ℕ) → c < g .cells → (getD receiversOf c 0 ≡ c → ⊥) → Near g c (getD receiversOf c 0)
-    pub least : (c : ℕ) → c < g .cells → LeastCrest g (λ i. number (getD hs i (k .absent))) c (number (getD spillOf c (k .absent)))
+    pub work-list : WorkList (g .cells) (receiversOf k g hs) (orderOf k g hs)
+    pub base-own : (c : ℕ) → c < g .cells → g .base c ≡ true → getD (receiversOf k g hs) c 0 ≡ c
+    pub own-base : (c : ℕ) → c < g .cells → getD (receiversOf k g hs) c 0 ≡ c → g .base c ≡ true
+    pub adjacent : (c : ℕ) → c < g .cells → (getD (receiversOf k g hs) c 0 ≡ c → ⊥) → Neighbours g c (getD (receiversOf k g hs) c 0)
+    pub least : (c : ℕ) → c < g .cells → LeastCrest g (λ i. number (getD hs i (k .absent))) c (number (getD (spillOf k g hs) c (k .absent)))
 
 -- Along any work list of any receivers, with at most 2^24 cells, the areas added as floats are the numbers of cells whose way down passes through
 -- the cell, and the areas of the cells that are their own receiver total the cells of the grid.
 pub record Areas (n : ℕ) (recv : List ℕ) (list : List ℕ) : Type 0 where
-  pub area : (c : ℕ) → c < n → getD (areasAlong n recv list) c nan ≡ ofInt binary32 (pos (areaOf n recv c))
+  pub area : (c : ℕ) → c < n → getD (areasAlong n recv list) c nan ≡ whole (areaOf n recv c)
   pub total : sumBelow n (λ c. eqb (getD recv c 0) c) (areaOf n recv) ≡ n

@@ -14,7 +14,8 @@ use lib.Ieee.Scale.{finite}
 use Rattle.floats.proofs.ValueLaws.{same-lt, ofInt-value, ofInt-add}
 use Rattle.floats.proofs.FiniteLaws.{value-finite}
 use Rattle.float_order.specs.Order.{Number, rank}
-use Rattle.float_order.specs.Whole.{whole, WholeNumbers}
+use Rattle.floats.specs.Stand.{whole}
+use Rattle.float_order.specs.Whole.{WholeNumbers}
 use Rattle.float_order.proofs.OrderLaws.{lt-is}
 use Rattle.float_order.proofs.RankLaws.{finite-number}
 

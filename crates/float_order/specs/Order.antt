@@ -1,5 +1,5 @@
--- The order of floats as an order of whole numbers. A float that is no NaN has a rank: its number in units of 2 ^ -149, the smallest positive
--- float, counted from 2 ^ 277 so that it is never negative. Both zeros have the same rank.
+-- The order of floats as an order of whole numbers. A float that is no NaN has a rank: 2 ^ 277 plus its value in units
+-- of 2 ^ -149, the smallest positive float, so that no rank is negative. Both zeros have the same rank.
 use mathlib.Core.Path.{_≡_}
 use mathlib.Core.Logic.{_⊎_}
 use mathlib.Core.Bool.{Bool, false, not, cond}
@@ -15,7 +15,7 @@ pub record Number (x : Float) : Type 0 where
   pub fit : T (fits binary32 x)
   pub real : T (not (isNan x))
 
--- the sign of x, and its size in units
+-- the sign of x; `unitsOf`: its absolute value in units of 2 ^ -149
 abbrev pub signOf : Float → Bool
 signOf nan = false
 signOf (inf s) = s
@@ -26,7 +26,7 @@ unitsOf nan = 0
 unitsOf (inf s) = 2 ^ 277
 unitsOf (fin s m e) = m * up e * 2 ^ 149 / down e
 
--- n units with the sign s, counted from the base b
+-- b - n where the sign s is set (negative), else b + n
 abbrev pub signed : ℕ → Bool → ℕ → ℕ
 signed b s n = cond s (b - n) (b + n)
 
@@ -39,8 +39,8 @@ rank (fin s m e) = signed (2 ^ 277) s (unitsOf (fin s m e))
 abbrev pub Zero : Float → Type 0
 Zero x = (s : Bool) × (x ≡ fin s 0 (pos 0))
 
--- Numbers compare as their ranks do, so they are totally ordered, and the greater of two has the greater rank. Numbers of one rank are the same
--- float, or zeros.
+-- Numbers compare as their ranks do, so they are totally ordered, and the rank of max(a, b) is the greater of the two
+-- ranks. Numbers of the same rank are the same float, or both are zeros.
 pub record RankFollowsOrder : Type 0 where
   pub less : (x y : Float) → Number x → Number y → lt x y ≡ ltb (rank x) (rank y)
   pub at-most : (x y : Float) → Number x → Number y → le x y ≡ leb (rank x) (rank y)
@@ -48,8 +48,9 @@ pub record RankFollowsOrder : Type 0 where
   pub greater : (a b : Float) → Number a → Number b → rank (maxOf a b) ≡ max (rank a) (rank b)
   pub same : (x y : Float) → Number x → Number y → rank x ≡ rank y → (x ≡ y) ⊎ (Zero x × Zero y)
 
--- The key is a number of 32 bits that follows the order of numbers: the lower of two has the lower key, and so a key that is no higher means a
--- number that is no higher. Different floats have different keys, the zeros too.
+-- The key is a number of 32 bits that follows the order of numbers: the lower of two numbers has the lower key, and a
+-- number whose key is not above another's is not above the other. Different floats have different keys, also the two
+-- zeros.
 pub record KeyFollowsOrder : Type 0 where
   pub less : (x y : Float) → Number x → Number y → rank x < rank y → keyOf x < keyOf y
   pub at-most : (x y : Float) → Number x → Number y → keyOf x ≤ keyOf y → rank x ≤ rank y

@@ -2,15 +2,11 @@
 use mathlib.Core.Path.{_≡_}
 use Prim.Native.Nat.{ℕ, _+_, _^_, _≤_}
 use lib.Dec.{ltb}
-use lib.IntN.{pos}
-use lib.Ieee.{Float, binary32, add, lt, ofInt, ofBits}
+use lib.Ieee.{binary32, add, lt, ofBits}
+use Rattle.floats.specs.Stand.{whole}
 
--- n as the nearest float
-abbrev pub whole : ℕ → Float
-whole n = ofInt binary32 (pos n)
-
--- Whole numbers with a sum up to 2 ^ 24 add without rounding, different ones up to there are different floats, and they keep their order. 0 and 1
--- are the floats that the code writes.
+-- Whole numbers with a sum of at most 2 ^ 24 add without rounding; different ones up to 2 ^ 24 are different floats and
+-- keep their order. 0 and 1 are the floats that the code writes.
 pub record WholeNumbers : Type 0 where
   pub sum : (a b : ℕ) → a + b ≤ 2 ^ 24 → add binary32 (whole a) (whole b) ≡ whole (a + b)
   pub unique : (a b : ℕ) → a ≤ 2 ^ 24 → b ≤ 2 ^ 24 → whole a ≡ whole b → a ≡ b

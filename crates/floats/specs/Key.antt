@@ -1,5 +1,6 @@
--- `height_key` of document 01, 'Network': the bits of a float folded so that the order of whole numbers is the order of floats. A float with its
--- sign set has all its bits turned over, so -2 lies below -1; any other has its sign set, so it lies above those. -0 comes just before +0.
+-- `height_key` of document 01, 'Network': the bits of a float, changed so that keys compare as floats do. A float whose
+-- sign bit is set has all its bits inverted, so -2 lies below -1; any other gets its sign bit set, so it lies above
+-- those. -0 comes just before +0.
 use Prim.Native.Nat.{ℕ, _+_, _-_, _^_}
 use mathlib.Core.Bool.{cond}
 use lib.Dec.{leb}

@@ -1,13 +1,12 @@
-// What document 01 puts in the place of Rust's float methods, each on every f32 and each equal to its definition in
-// specs/Stand.antt; the bits of a float; and `height_key`, by which heights leave the queue (specs/Key.antt).
+// The stand-ins of document 01 for Rust's float methods, for every f32, each equal to its definition in
+// specs/Stand.antt; the bits of a float; and `height_key`, by which cells leave the flood's queue (specs/Key.antt).
 ghost use mathlib.Core.Path.{_≡_};
 ghost use Prim.Native.Nat.{_^_, _≤_, max as greatest};
 ghost use lib.Dec.{T};
-ghost use lib.IntN.{pos};
-ghost use lib.Ieee.{binary32, div, ofBits, toBits, ofInt, toUnsigned};
+ghost use lib.Ieee.{binary32, div, ofBits, toBits, toUnsigned};
 ghost use lib.Ieee.Scale.{finite};
 ghost use lib.Ieee.Positive.{above};
-ghost use Rattle.floats.specs.Stand.{maxOf, wholeBy, ruleOf, truncOf, roundOf, ceilOf, fractOf, indexOf};
+ghost use Rattle.floats.specs.Stand.{maxOf, wholeBy, ruleOf, truncOf, roundOf, ceilOf, whole, fractOf, indexOf};
 ghost use Rattle.floats.specs.Key.{keyOf};
 
 // max(a, b): a if a ≥ b, else b.
@@ -28,7 +27,7 @@ pub fn is_finite(x: f32) -> bool
 }
 
 // x cut to a whole number, as Rust's `as u64` has it: 0 below 1 and at a NaN, 2^64 - 1 from 2^64 on.
-pub fn to_u64(x: f32) -> u64
+fn to_u64(x: f32) -> u64
     ensures { λ r. ⌜ r ≡ toUnsigned 64 x ⌝ }
 {
     if x > -1.0 {
@@ -40,7 +39,7 @@ pub fn to_u64(x: f32) -> u64
     0
 }
 
-// x cut to a number of things of which there is at least one.
+// x cut to a whole number, at least 1.
 pub fn to_count(x: f32) -> usize
     ensures { λ r. ⌜ r ≡ greatest (toUnsigned 64 x) 1 ⌝ }
 {
@@ -48,16 +47,16 @@ pub fn to_count(x: f32) -> usize
     if n <= 1 { 1 } else { n }
 }
 
-// a / b, of numbers that are floats.
+// a / b as a float. Both are at most 2^24, so each is exact as a float.
 pub fn ratio(a: usize, b: usize) -> f32
     requires { ⌜ a ≤ 2 ^ 24 ⌝ }
     requires { ⌜ b ≤ 2 ^ 24 ⌝ }
-    ensures { λ r. ⌜ r ≡ div binary32 (ofInt binary32 (pos a)) (ofInt binary32 (pos b)) ⌝ }
+    ensures { λ r. ⌜ r ≡ div binary32 (whole a) (whole b) ⌝ }
 {
     a as f32 / b as f32
 }
 
-// x as an index of a side, held inside it.
+// x as an index along a side: x cut to a whole number, at most side - 1; 0 where side is 0.
 pub fn index(x: f32, side: usize) -> usize
     ensures { λ r. ⌜ r ≡ indexOf side x ⌝ }
 {
@@ -71,12 +70,16 @@ pub fn index(x: f32, side: usize) -> usize
     side - 1
 }
 
-// A whole number in the place of x above 0: the nearest, half up, or x without its fraction. From 2^23 on x is whole; below, its double is exact.
+// 2^23: from here on every float is whole.
+const ALL_WHOLE: f32 = 8388608.0;
+
+// x above 0 as a whole number: the nearest, half up, if `nearest`, else x without its fraction. From 2^23 on x is
+// whole; below that x + x is exact.
 fn whole_above(x: f32, nearest: bool) -> f32
     requires { ⌜ T (above x) ⌝ }
     ensures { λ r. ⌜ r ≡ wholeBy (ruleOf nearest) x ⌝ }
 {
-    if x >= 8388608.0 {
+    if x >= ALL_WHOLE {
         return x;
     }
     if nearest {
@@ -85,7 +88,8 @@ fn whole_above(x: f32, nearest: bool) -> f32
     to_u64(x) as f32
 }
 
-// The same of every x, with x's sign.
+// Any x as a whole number, with x's sign: the nearest, half away from zero, if `nearest`, else x without its fraction.
+// Infinities and NaN stay as they are.
 fn whole(x: f32, nearest: bool) -> f32
     ensures { λ r. ⌜ r ≡ wholeBy (ruleOf nearest) x ⌝ }
 {
@@ -99,7 +103,7 @@ fn whole(x: f32, nearest: bool) -> f32
 }
 
 // x without its fraction, with x's sign.
-pub fn trunc(x: f32) -> f32
+fn trunc(x: f32) -> f32
     ensures { λ r. ⌜ r ≡ truncOf x ⌝ }
 {
     whole(x, false)
@@ -147,7 +151,7 @@ pub fn to_bits(x: f32) -> u32
     f32::to_bits(x)
 }
 
-// The bits of x, folded so that the order of whole numbers is the order of floats: -2 below -1, and -0 just before +0.
+// The bits of x, changed so that keys compare as floats do: -2 below -1, and -0 just before +0.
 pub fn height_key(x: f32) -> u32
     ensures { λ r. ⌜ r ≡ keyOf x ⌝ }
 {

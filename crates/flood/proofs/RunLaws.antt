@@ -13,28 +13,28 @@ use lib.Dec.{eqb, ltb}
 use lib.Ieee.{Float, nan}
 use borrow.Author.Tests.{eq-eqb, ne-eqb, eqb-true, lt-ltb, le-ltb}
 use Rattle.float_order.specs.Fit.{Fit}
-use Rattle.lists.proofs.LoopLaws.{at-end}
+use Rattle.loops.proofs.LoopLaws.{at-end}
 use Rattle.grid.proofs.SidesLaws.{cells-bound}
 use Rattle.drainage.specs.Ground.{floats, gridGround, noBase}
 use Rattle.drainage.specs.Grids.{Height}
 use Rattle.drainage.specs.Flood.{Flood, leastWaiting, step, floodAfter, flooded}
-use Rattle.drainage.specs.Ways.{countBelow}
+use Rattle.loops.specs.Counts.{countBelow}
 use Rattle.drainage.specs.declared.Land.{Land}
-use Rattle.drainage.proofs.TallyLaws.{count-more, count-apart}
+use Rattle.loops.proofs.CountLaws.{count-more, count-apart}
 use Rattle.drainage.proofs.FloodLaws.{step-leaves, leastWaiting-is, leastWaiting-found, floodAfter-none, floodAfter-more}
 use Rattle.drainage.proofs.GroundLaws.{grid-stage, grid-stands, grid-heights}
-use Rattle.scan_queue.specs.declared.Scan.{Scan}
+use Rattle.flood_queue.specs.declared.Scan.{Scan}
 use Rattle.flood_start.specs.Slices.{stateOf, Started}
-use Rattle.flood.specs.Slices.{Accepted, Flooded}
-use Rattle.scan_queue.specs.Scans.{atLimit, Listed, Queued, Begun, Waits, Turned, Leaves}
-use Rattle.reaches.specs.Reaches.{ReachedAll}
+use Rattle.flood.specs.Slices.{AcceptedGrid, Flooded}
+use Rattle.flood_queue.specs.Scans.{atLimit, Remaining, Queued, ScanBegun, Waits, Turned, Leaves}
+use Rattle.flood_reach.specs.Reaches.{ReachedAll}
 use Rattle.flood.specs.Steps.{Leaver, Onward}
-use Rattle.scan_queue.proofs.ListedLaws.{under-limit, listed-set}
-use Rattle.scan_queue.proofs.ScanLaws.{leaver-level}
+use Rattle.flood_queue.proofs.ListedLaws.{under-limit, listed-set}
+use Rattle.flood_queue.proofs.ScanLaws.{leaver-level}
 
 pub record Running (w h : ℕ) (land : Land) (hs : List Float) (i : ℕ) (s : Scan) (status : List ℕ) (spill : List Float) (recv order queue : List ℕ) : Type 0 where
   pub state : stateOf status spill recv (take i order) ≡ floodAfter floats (gridGround w h land hs) hs i
-  pub begun : Begun hs order status spill s queue
+  pub begun : ScanBegun hs order status spill s queue
 
 module _ (w h : ℕ) (hs : List Float) (i : ℕ) (s : Scan) (order status : List ℕ) (spill : List Float) (recv queue : List ℕ) where
   pub onward-none : length hs ≤ s .cell → Queued hs (s .limit) status spill (s .len) queue → Onward w h hs i s order status spill recv (s .len) order status spill recv queue
@@ -63,11 +63,11 @@ after s len = record { head = s .head; limit = s .limit; len = len; cell = s .ce
 module _ (w h : ℕ) (land : Land) (hs : List Float) where
   pub running-none :
       (s : Scan) (status : List ℕ) (spill : List Float) (recv order queue : List ℕ) → Started w h land hs status spill recv
-      → Begun hs order status spill s queue → Running w h land hs 0 s status spill recv order queue
+      → ScanBegun hs order status spill s queue → Running w h land hs 0 s status spill recv order queue
   running-none s status spill recv order queue t b = record { state = t .state ∙ sym (floodAfter-none floats (gridGround w h land hs) hs); begun = b }
 
   module _ (i : ℕ) (s : Scan) (status : List ℕ) (spill : List Float) (recv order queue : List ℕ) (r : Running w h land hs i s status spill recv order queue)
-      (a : Accepted w h hs) where
+      (a : AcceptedGrid w h hs) where
     abbrev now-state : Flood Float
     now-state = stateOf status spill recv (take i order)
 
@@ -164,11 +164,11 @@ module _ (w h : ℕ) (land : Land) (hs : List Float) where
           → Running w h land hs i (after t len′) status″ spill″ recv″ order″ queue″
       running-passes m len′ status″ spill″ recv″ order″ queue″ e q = record {
         state =
-            ap (λ (z : Flood Float). stateOf (z .status) (z .spill) (z .finder) (take i (z .order))) e
+            ap (λ (z : Flood Float). stateOf (z .status) (z .spill) (z .discoverer) (take i (z .order))) e
             ∙ ap (λ z. stateOf z spill recv (take i order)) (turned .same m)
             ∙ r .state;
         begun = record {
-          listed = subst (Listed hs (t .head) (t .limit)) (sym (ap (λ (z : Flood Float). z .order) e)) (turned .listed);
+          listed = subst (Remaining hs (t .head) (t .limit)) (sym (ap (λ (z : Flood Float). z .order) e)) (turned .listed);
           queued = q;
         };
       }
@@ -206,7 +206,7 @@ module _ (w h : ℕ) (land : Land) (hs : List Float) where
     pub running-done : i ≤ w * h → w * h ≤ i → length order ≡ w * h → Flooded w h land hs order recv spill
     running-done lo hi n = record {
       left = sym (take-all i order (omega arith)) ∙ ap (λ (s : Flood Float). s .order) whole;
-      found = ap (λ (s : Flood Float). s .finder) whole;
+      found = ap (λ (s : Flood Float). s .discoverer) whole;
       raised = ap (λ (s : Flood Float). s .spill) whole;
     }
       where

@@ -1,3 +1,3 @@
--- How slices stand for the flood of the definitions, and what each function does to them.
+-- The result of the flood on slices, and what a cell that leaves does to them.
 pub mod Slices
 pub mod Steps

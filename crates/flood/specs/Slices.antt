@@ -12,13 +12,13 @@ use Rattle.drainage.specs.Flood.{flooded}
 use Rattle.drainage.specs.declared.Land.{Land}
 
 -- A grid that document 01 accepts.
-pub record Accepted (w h : ℕ) (hs : List Float) : Type 0 where
+pub record AcceptedGrid (w h : ℕ) (hs : List Float) : Type 0 where
   pub sides : InRange w h
   pub cells : length hs ≡ w * h
   pub finites : allFinite hs ≡ true
 
--- The slices hold the whole flood.
+-- order, recv and spill are the order, the discoverers and the spill heights of the whole flood.
 pub record Flooded (w h : ℕ) (land : Land) (hs : List Float) (order recv : List ℕ) (spill : List Float) : Type 0 where
   pub left : order ≡ flooded floats (gridGround w h land hs) hs .order
-  pub found : recv ≡ flooded floats (gridGround w h land hs) hs .finder
+  pub found : recv ≡ flooded floats (gridGround w h land hs) hs .discoverer
   pub raised : spill ≡ flooded floats (gridGround w h land hs) hs .spill

@@ -4,12 +4,12 @@ use mathlib.Core.Path.{_≡_}
 use mathlib.Core.List.{List}
 use lib.ListN.{length, getD, set}
 use lib.Ieee.{Float, nan}
-use Rattle.scan_queue.specs.declared.Scan.{Scan}
-use Rattle.scan_queue.specs.Scans.{Queued, Level}
+use Rattle.flood_queue.specs.declared.Scan.{Scan}
+use Rattle.flood_queue.specs.Scans.{Queued, Level}
 use Rattle.flood_start.specs.Slices.{stateOf}
-use Rattle.reaches.specs.Reaches.{ReachedAll}
+use Rattle.flood_reach.specs.Reaches.{ReachedAll}
 
--- Cell c has just left, and there is room for it in the order.
+-- Cell c has just left, it raises no cell at the limit or above it, and the order has an entry i.
 pub record Leaver (hs : List Float) (limit c i : ℕ) (status : List ℕ) (spill : List Float) (order : List ℕ) : Type 0 where
   pub left : getD status c 0 ≡ 2
   pub level : Level hs limit (getD spill c nan)

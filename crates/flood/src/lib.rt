@@ -1,13 +1,13 @@
-// The flood of flow.rs on lent slices: base cells are pushed, then the least waiting cell leaves and pushes its neighbours, until all have left.
-// Each function does what specs/ says of it, so that the whole is the flood that crates/drainage defines.
+// The flood of flow.rs on lent slices: base cells are pushed, then the least waiting cell leaves and pushes its
+// neighbours, until all have left. The result is that of the flood that crates/drainage defines.
 use drainage::Land;
+use flood_queue::Scan;
+use flood_queue::begin;
+use flood_queue::turn;
+use flood_reach::reach_all;
+use flood_sort::sort_cells;
 use flood_start::start;
 use grid::Sides;
-use reaches::reach_all;
-use scan_queue::Scan;
-use scan_queue::begin;
-use scan_queue::turn;
-use sorted_cells::sort_cells;
 ghost use Prim.Native.Nat.{_*_, _<_};
 ghost use mathlib.Core.Path.{_≡_};
 ghost use mathlib.Core.Bool.{false, cond};
@@ -15,12 +15,13 @@ ghost use lib.ListN.{length};
 ghost use lib.Dec.{ltb};
 ghost use Rattle.grid.specs.Sides.{InRange};
 ghost use Rattle.drainage.specs.Ground.{gridGround, noBase};
-ghost use Rattle.scan_queue.specs.Scans.{Queued};
+ghost use Rattle.flood_queue.specs.Scans.{Queued};
 ghost use Rattle.flood_start.specs.Slices.{Sizes};
-ghost use Rattle.flood.specs.Slices.{Accepted, Flooded};
+ghost use Rattle.flood.specs.Slices.{AcceptedGrid, Flooded};
 ghost use Rattle.flood.specs.Steps.{Leaver, Onward};
 
-// The cell that has left, if there is one, joins the order as entry i and reaches its neighbours. The answer is the number of cells in the heap.
+// Stores the cell that has left, if there is one, as entry i of the order and lets it reach its neighbours. Returns the
+// number of cells in the heap.
 fn leave(
     g: Sides,
     h: &[f32],
@@ -35,8 +36,11 @@ fn leave(
     requires { ⌜ InRange (g .w) (g .h) ⌝ }
     requires { ⌜ Sizes (g .w * g .h) (now h) (now status) (now spill) (now recv) (now queue) ⌝ }
     requires { ⌜ Queued (now h) (s .limit) (now status) (now spill) (s .len) (now queue) ⌝ }
-    requires { ⌜ (s .cell < length (now h) → Leaver (now h) (s .limit) (s .cell) i (now status) (now spill) (now order)) ⌝ }
-    ensures { λ r. ⌜ Onward (g .w) (g .h) (now (h .entry)) i s (now (order .entry)) (now (status .entry)) (now (spill .entry)) (now (recv .entry)) r (now (order .exit)) (now (status .exit)) (now (spill .exit)) (now (recv .exit)) (now (queue .exit)) ⌝ }
+    requires { ⌜
+        (s .cell < length (now h) → Leaver (now h) (s .limit) (s .cell) i (now status) (now spill) (now order)) ⌝ }
+    ensures { λ r. ⌜ Onward (g .w) (g .h) (now (h .entry)) i s (now (order .entry)) (now (status .entry))
+        (now (spill .entry)) (now (recv .entry)) r (now (order .exit)) (now (status .exit)) (now (spill .exit))
+        (now (recv .exit)) (now (queue .exit)) ⌝ }
 {
     let c = s.cell;
     if h.len() <= c {
@@ -56,8 +60,8 @@ fn leavers(s: Scan, n: usize) -> usize
     0
 }
 
-// The whole flood, where some cell is base level: order, finders and spill heights.
-// The queue and the statuses are scratch.
+// The whole flood of a grid where some cell is base level: stores the order, the discoverers (in `recv`) and the spill
+// heights. The queue and the statuses are scratch.
 pub fn flood(
     g: Sides,
     h: &[f32],
@@ -68,11 +72,12 @@ pub fn flood(
     queue: &mut [u32],
     status: &mut [u8],
 )
-    requires { ⌜ Accepted (g .w) (g .h) (now h) ⌝ }
+    requires { ⌜ AcceptedGrid (g .w) (g .h) (now h) ⌝ }
     requires { ⌜ length (now order) ≡ g .w * g .h ⌝ }
     requires { ⌜ Sizes (g .w * g .h) (now h) (now status) (now spill) (now recv) (now queue) ⌝ }
     requires { ⌜ noBase (gridGround (g .w) (g .h) land (now h)) ≡ false ⌝ }
-    ensures { λ _. ⌜ Flooded (g .w) (g .h) land (now (h .entry)) (now (order .exit)) (now (recv .exit)) (now (spill .exit)) ⌝ }
+    ensures { λ _. ⌜ Flooded (g .w) (g .h) land (now (h .entry)) (now (order .exit)) (now (recv .exit))
+        (now (spill .exit)) ⌝ }
 {
     let n = h.len();
     let sorted = sort_cells(h, order, recv);

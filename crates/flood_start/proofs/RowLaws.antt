@@ -5,10 +5,10 @@ use mathlib.Core.List.{List}
 use native.Mathlib.Nat.{mul-comm, mul-le-mul-right}
 use native.Mathlib.Omega.{arith}
 use lib.ListN.{length, set}
-use Rattle.lists.specs.Loops.{turns, tabulate}
-use Rattle.lists.proofs.TurnLaws.{turns-more}
-use Rattle.lists.proofs.TableLaws.{filled, filled-more}
-use Rattle.lists.proofs.FillLaws.{filling-start, filling-rows}
+use Rattle.loops.specs.Loops.{turns, tabulate}
+use Rattle.loops.proofs.TurnLaws.{turns-more}
+use Rattle.loops.proofs.TableLaws.{filled, filled-more}
+use Rattle.loops.proofs.FillLaws.{filling-start, filling-rows}
 use Rattle.grid.specs.Sides.{cellOf}
 use Rattle.grid.proofs.SidesLaws.{cell-lt}
 use Rattle.flood_start.specs.Slices.{rowBy}

@@ -6,8 +6,8 @@ use mathlib.Core.List.{List, []}
 use native.Mathlib.Omega.{arith}
 use lib.ListN.{getD, List·getD-eq-default}
 use lib.Ieee.{Float, nan}
-use Rattle.lists.specs.Loops.{tabulate}
-use Rattle.lists.proofs.TableLaws.{length-tabulate, getD-tabulate}
+use Rattle.loops.specs.Loops.{tabulate}
+use Rattle.loops.proofs.TableLaws.{length-tabulate, getD-tabulate}
 use Rattle.grid.specs.Sides.{cellOf}
 use Rattle.grid.specs.Base.{baseOn}
 use Rattle.grid.proofs.BaseLaws.{base-cell}

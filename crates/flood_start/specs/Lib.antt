@@ -1,2 +1,2 @@
--- How slices stand for the flood, and its first state.
+-- How slices hold the state of the flood, and its first state.
 pub mod Slices

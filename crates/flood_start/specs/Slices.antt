@@ -1,12 +1,12 @@
--- How slices stand for the flood of document 01 as crates/drainage defines it: statuses, spill heights, finders and the order, each in a list of
--- its own.
+-- How slices hold the state of the flood of document 01 as crates/drainage defines it: statuses, spill heights,
+-- discoverers and the order, each in a list of its own.
 use Prim.Native.Nat.{ℕ, _^_, _≤_}
 use mathlib.Core.Path.{_≡_}
 use mathlib.Core.Bool.{cond}
 use mathlib.Core.List.{List, []}
 use lib.ListN.{length, getD, set}
 use lib.Ieee.{Float, nan}
-use Rattle.lists.specs.Loops.{turns}
+use Rattle.loops.specs.Loops.{turns}
 use Rattle.grid.specs.Sides.{cellOf}
 use Rattle.grid.specs.Base.{baseAt}
 use Rattle.drainage.specs.Ground.{floats, gridGround}
@@ -14,26 +14,26 @@ use Rattle.drainage.specs.Flood.{Flood, start}
 use Rattle.drainage.specs.declared.Land.{Land}
 
 abbrev pub stateOf : List ℕ → List Float → List ℕ → List ℕ → Flood Float
-stateOf status spill recv order = record { status = status; spill = spill; finder = recv; order = order }
+stateOf status spill recv order = record { status = status; spill = spill; discoverer = recv; order = order }
 
--- Every list holds n cells, and the queue has room for as many.
+-- hs, status, spill and recv have n entries, at most 2 ^ 24, and the queue has at least n.
 pub record Sizes (n : ℕ) (hs : List Float) (status : List ℕ) (spill : List Float) (recv queue : List ℕ) : Type 0 where
   pub few : n ≤ 2 ^ 24
   pub heights : length hs ≡ n
   pub statuses : length status ≡ n
   pub spills : length spill ≡ n
-  pub finders : length recv ≡ n
+  pub discoverers : length recv ≡ n
   pub room : n ≤ length queue
 
 -- the status that a cell starts with: base cells wait
 abbrev pub markOf : ℕ → ℕ → Land → ℕ → ℕ → Float → ℕ
 markOf w h land x y height = cond (baseAt w h (land .sides) (land .«water_level») x y height) 1 0
 
--- the first x cells of row y stored, each made from the list so far
+-- the list with the first x cells of row y stored, each computed by `make` from the list so far
 abbrev pub rowBy : {A : Type 0} → ℕ → (ℕ → ℕ → List A → A) → ℕ → ℕ → List A → List A
 rowBy w make y x = turns x (λ x l. set l (cellOf w x y) (make x y l))
 
--- a row of marks
+-- the list of statuses with those that row y starts with stored
 abbrev pub rowMarked : ℕ → ℕ → List Float → Land → ℕ → List ℕ → List ℕ
 rowMarked w h hs land y = rowBy w (λ x y l. markOf w h land x y (getD hs (cellOf w x y) nan)) y w
 

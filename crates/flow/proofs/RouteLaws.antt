@@ -7,17 +7,18 @@ use lib.ListN.{length}
 use lib.Ieee.{Float}
 use lib.Ieee.Scale.{finite}
 use borrow.Author.Tests.{eqb-true, ltb-false, not-true, not-false}
-use Rattle.lists.proofs.TestLaws.{neither, both, chosen, passed, clash}
+use Rattle.drainage.specs.Routing.{orderOn, receiversOn, spillOn, areasOn}
+use Rattle.loops.proofs.TestLaws.{neither, both, chosen, passed, clash}
 use Rattle.answers.specs.Outcome.{Outcome, gives, refused, refusedAt, answerOf, given}
 use Rattle.answers.specs.declared.Answer.{Answer}
 use Rattle.grid.specs.Sides.{badSides}
 use Rattle.grid.specs.Heights.{firstNotFinite, allFinite}
 use Rattle.grid.proofs.SidesLaws.{good-sides}
-use Rattle.drainage.specs.Ground.{squareLand}
+use Rattle.drainage.specs.Ground.{gridGround, squareLand}
 use Rattle.drainage.specs.declared.Land.{Land}
-use Rattle.flood.specs.Slices.{Accepted}
+use Rattle.flood.specs.Slices.{AcceptedGrid}
 use Rattle.flow.specs.declared.Lent.{Lent}
-use Rattle.flow.specs.Route.{floodOf, orderOf, receiversOf, areasOf, lentOf, badLengths, routeAnswer, accepted, Enough, Holding, Routed}
+use Rattle.flow.specs.Route.{lentOf, badLengths, routeAnswer, accepted, Enough, Holding, Routed}
 
 abbrev byTests : Bool → Bool → Bool → Bool → ℕ → Outcome (Unit {0})
 byTests s l f a k = cond s (refused 1) (cond l (refused 3) (cond f (cond a (gives tt) (refusedAt 5 k)) (refused 4)))
@@ -53,17 +54,17 @@ module _ (w h : ℕ) (hs : List Float) (water : Float) (l : Lent) where
     pub answer-is : byTests s b f a (firstNotFinite hs) ≡ routeAnswer w h hs water l
     answer-is = λ i. byTests (sym p i) (sym q i) (sym r i) (sym t i) (firstNotFinite hs)
 
-  answer-accepted : given (routeAnswer w h hs water l) ≡ accepted w h hs water l
-  answer-accepted = given-is (badSides w h) (badLengths (w * h) l) (finite water) (allFinite hs) (firstNotFinite hs)
-
   module _ (r : Answer) (e : answerOf r ≡ routeAnswer w h hs water l) where
     pub answered : accepted w h hs water l ≡ given (answerOf r)
-    answered = sym answer-accepted ∙ ap given (sym e)
+    answered = ap given (sym e)
 
 -- what is accepted
 module _ (w h : ℕ) (hs : List Float) (water : Float) (l : Lent) (e : accepted w h hs water l ≡ true) where
+  tests : (not (badSides w h) && (not (badLengths (w * h) l) && (finite water && allFinite hs))) ≡ true
+  tests = sym (given-is (badSides w h) (badLengths (w * h) l) (finite water) (allFinite hs) (firstNotFinite hs)) ∙ e
+
   past-sides : (not (badSides w h) ≡ true) × ((not (badLengths (w * h) l) && (finite water && allFinite hs)) ≡ true)
-  past-sides = both (not (badSides w h)) (not (badLengths (w * h) l) && (finite water && allFinite hs)) e
+  past-sides = both (not (badSides w h)) (not (badLengths (w * h) l) && (finite water && allFinite hs)) tests
 
   past-lengths : (not (badLengths (w * h) l) ≡ true) × ((finite water && allFinite hs) ≡ true)
   past-lengths = both (not (badLengths (w * h) l)) (finite water && allFinite hs) (past-sides .1)
@@ -71,7 +72,7 @@ module _ (w h : ℕ) (hs : List Float) (water : Float) (l : Lent) (e : accepted 
   pub accepted-enough : Enough (w * h) l
   accepted-enough = enough w h l (not-true (badLengths (w * h) l) (past-lengths .0))
 
-  pub accepted-grid : l .heights ≡ length hs → Accepted w h hs
+  pub accepted-grid : l .heights ≡ length hs → AcceptedGrid w h hs
   accepted-grid n = record {
     sides = good-sides w h (not-true (badSides w h) (past-sides .0));
     cells = sym n ∙ accepted-enough .heights;
@@ -87,10 +88,10 @@ module _ (w h : ℕ) (hs : List Float) (water : Float) (order recv : List ℕ) (
       → Routed w h hs water order recv spill area queue status r order recv spill area queue status
   routed-refused r e f = record {
     answer = e;
-    orders = passed (accepted w h hs water lent) (orderOf w h hs (squareLand water)) order no;
-    receivers = passed (accepted w h hs water lent) (receiversOf w h hs (squareLand water)) recv no;
-    spills = passed (accepted w h hs water lent) (floodOf w h hs (squareLand water) .spill) spill no;
-    areas = passed (accepted w h hs water lent) (areasOf w h hs (squareLand water)) area no;
+    orders = passed (accepted w h hs water lent) (orderOn (gridGround w h (squareLand water)) hs) order no;
+    receivers = passed (accepted w h hs water lent) (receiversOn (gridGround w h (squareLand water)) hs) recv no;
+    spills = passed (accepted w h hs water lent) (spillOn (gridGround w h (squareLand water)) hs) spill no;
+    areas = passed (accepted w h hs water lent) (areasOn (gridGround w h (squareLand water)) hs) area no;
     kept-queue = λ _. refl;
     kept-status = λ _. refl;
   }
@@ -104,10 +105,10 @@ module _ (w h : ℕ) (hs : List Float) (water : Float) (order recv : List ℕ) (
       → Routed w h hs water order recv spill area queue status Answer.Done order′ recv′ spill′ area′ queue′ status′
   routed-done e order′ recv′ spill′ area′ queue′ status′ g s = record {
     answer = e;
-    orders = s .left ∙ ap (orderOf w h hs) g ∙ chosen (accepted w h hs water lent) (orderOf w h hs (squareLand water)) order yes′;
-    receivers = s .received ∙ ap (receiversOf w h hs) g ∙ chosen (accepted w h hs water lent) (receiversOf w h hs (squareLand water)) recv yes′;
-    spills = s .raised ∙ ap (λ (l : Land). floodOf w h hs l .spill) g ∙ chosen (accepted w h hs water lent) (floodOf w h hs (squareLand water) .spill) spill yes′;
-    areas = s .drained ∙ ap (areasOf w h hs) g ∙ chosen (accepted w h hs water lent) (areasOf w h hs (squareLand water)) area yes′;
+    orders = s .left ∙ ap (λ (l : Land). orderOn (gridGround w h l) hs) g ∙ chosen (accepted w h hs water lent) (orderOn (gridGround w h (squareLand water)) hs) order yes′;
+    receivers = s .received ∙ ap (λ (l : Land). receiversOn (gridGround w h l) hs) g ∙ chosen (accepted w h hs water lent) (receiversOn (gridGround w h (squareLand water)) hs) recv yes′;
+    spills = s .raised ∙ ap (λ (l : Land). spillOn (gridGround w h l) hs) g ∙ chosen (accepted w h hs water lent) (spillOn (gridGround w h (squareLand water)) hs) spill yes′;
+    areas = s .drained ∙ ap (λ (l : Land). areasOn (gridGround w h l) hs) g ∙ chosen (accepted w h hs water lent) (areasOn (gridGround w h (squareLand water)) hs) area yes′;
     kept-queue = λ f. absurd (clash yes′ f);
     kept-status = λ f. absurd (clash yes′ f);
   }

@@ -1,36 +1,21 @@
 -- `route` of document 01, 'Network': flood, receivers, areas of a grid, with its refusals.
 use Prim.Native.Nat.{ℕ, _*_, _≤_}
 use mathlib.Core.Path.{_≡_}
-use mathlib.Core.Bool.{Bool, false, not, _&&_, _||_, cond}
+use mathlib.Core.Bool.{Bool, false, not, _||_, cond}
 use mathlib.Core.List.{List}
 use lib.ListN.{length}
 use lib.Dec.{eqb, ltb}
 use lib.Ieee.{Float}
 use lib.Ieee.Scale.{finite}
-use Rattle.answers.specs.Outcome.{Outcome, gives, refused, refusedAt, answerOf}
+use Rattle.drainage.specs.Routing.{orderOn, receiversOn, spillOn, areasOn}
+use Rattle.answers.specs.Outcome.{Outcome, gives, refused, refusedAt, given, answerOf}
 use Rattle.answers.specs.declared.Answer.{Answer}
 use Rattle.grid.specs.Sides.{badSides}
 use Rattle.grid.specs.Heights.{firstNotFinite, allFinite}
-use Rattle.drainage.specs.Ground.{floats, gridGround, squareLand}
+use Rattle.drainage.specs.Ground.{gridGround, squareLand}
 use Rattle.drainage.specs.declared.Land.{Land}
-use Rattle.drainage.specs.Flood.{Flood, flooded}
 use Rattle.drainage.specs.Receivers as R
-use Rattle.drainage.specs.Ways.{areasAlong}
 use Rattle.flow.specs.declared.Lent.{Lent}
-
--- the four results of a routing on a land
-module _ (w h : ℕ) (hs : List Float) (land : Land) where
-  abbrev pub floodOf : Flood Float
-  floodOf = flooded floats (gridGround w h land hs) hs
-
-  abbrev pub orderOf : List ℕ
-  orderOf = floodOf .order
-
-  abbrev pub receiversOf : List ℕ
-  receiversOf = R.receivers floats (gridGround w h land hs) (floodOf .spill) (floodOf .finder)
-
-  abbrev pub areasOf : List Float
-  areasOf = areasAlong (w * h) receiversOf orderOf
 
 -- The lengths of the slices lent to `route`: heights and results hold exactly the grid's cells, scratch at least as many.
 abbrev pub lentOf : List Float → List ℕ → List ℕ → List Float → List Float → List ℕ → List ℕ → Lent
@@ -50,7 +35,8 @@ badLengths n l =
     not (eqb (l .heights) n)
     || (not (eqb (l .order) n) || (not (eqb (l .receivers) n) || (not (eqb (l .spill) n) || (not (eqb (l .areas) n) || (ltb (l .queue) n || ltb (l .status) n)))))
 
--- 1: a side; 3: a length; 4: the water level; 5: a height
+-- the answer of `route`: refused by 1: a side; 3: a length; 4: the water level; 5: a height, with the first cell whose
+-- height is not finite
 abbrev pub routeAnswer : ℕ → ℕ → List Float → Float → Lent → Outcome (Unit {0})
 routeAnswer w h hs water l =
     cond (badSides w h) (refused 1)
@@ -58,9 +44,9 @@ routeAnswer w h hs water l =
 
 -- whether the call is accepted
 abbrev pub accepted : ℕ → ℕ → List Float → Float → Lent → Bool
-accepted w h hs water l = not (badSides w h) && (not (badLengths (w * h) l) && (finite water && allFinite hs))
+accepted w h hs water l = given (routeAnswer w h hs water l)
 
--- lengths that are not refused
+-- the lengths l are not refused on n cells: heights and results exactly n, scratch at least n
 pub record Enough (n : ℕ) (l : Lent) : Type 0 where
   pub heights : l .heights ≡ n
   pub order : l .order ≡ n
@@ -72,19 +58,19 @@ pub record Enough (n : ℕ) (l : Lent) : Type 0 where
 
 -- the result slices hold a whole routing
 pub record Holding (w h : ℕ) (hs : List Float) (land : Land) (order recv : List ℕ) (spill area : List Float) : Type 0 where
-  pub left : order ≡ orderOf w h hs land
-  pub received : recv ≡ receiversOf w h hs land
-  pub raised : spill ≡ floodOf w h hs land .spill
-  pub drained : area ≡ areasOf w h hs land
+  pub left : order ≡ orderOn (gridGround w h land) hs
+  pub received : recv ≡ receiversOn (gridGround w h land) hs
+  pub raised : spill ≡ spillOn (gridGround w h land) hs
+  pub drained : area ≡ areasOn (gridGround w h land) hs
 
 -- What `route` answers and leaves: accepted, the four results hold the routing on document 01's land; refused, every
 -- slice is as it was, scratch included.
 pub record Routed (w h : ℕ) (hs : List Float) (water : Float) (order recv : List ℕ) (spill area : List Float) (queue status : List ℕ) (r : Answer)
     (order′ recv′ : List ℕ) (spill′ area′ : List Float) (queue′ status′ : List ℕ) : Type 0 where
   pub answer : answerOf r ≡ routeAnswer w h hs water (lentOf hs order recv spill area queue status)
-  pub orders : order′ ≡ cond (accepted w h hs water (lentOf hs order recv spill area queue status)) (orderOf w h hs (squareLand water)) order
-  pub receivers : recv′ ≡ cond (accepted w h hs water (lentOf hs order recv spill area queue status)) (receiversOf w h hs (squareLand water)) recv
-  pub spills : spill′ ≡ cond (accepted w h hs water (lentOf hs order recv spill area queue status)) (floodOf w h hs (squareLand water) .spill) spill
-  pub areas : area′ ≡ cond (accepted w h hs water (lentOf hs order recv spill area queue status)) (areasOf w h hs (squareLand water)) area
+  pub orders : order′ ≡ cond (accepted w h hs water (lentOf hs order recv spill area queue status)) (orderOn (gridGround w h (squareLand water)) hs) order
+  pub receivers : recv′ ≡ cond (accepted w h hs water (lentOf hs order recv spill area queue status)) (receiversOn (gridGround w h (squareLand water)) hs) recv
+  pub spills : spill′ ≡ cond (accepted w h hs water (lentOf hs order recv spill area queue status)) (spillOn (gridGround w h (squareLand water)) hs) spill
+  pub areas : area′ ≡ cond (accepted w h hs water (lentOf hs order recv spill area queue status)) (areasOn (gridGround w h (squareLand water)) hs) area
   pub kept-queue : accepted w h hs water (lentOf hs order recv spill area queue status) ≡ false → queue′ ≡ queue
   pub kept-status : accepted w h hs water (lentOf hs order recv spill area queue status) ≡ false → status′ ≡ status

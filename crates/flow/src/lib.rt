@@ -1,8 +1,8 @@
-// The drainage network of a height grid, after flow.rs: flood, receivers and areas on lent slices, in one call that refuses what document 01
-// refuses.
+// The drainage network of a height grid, after flow.rs: flood, receivers and areas on lent slices, in one call that
+// refuses what document 01 refuses.
 use answers::Answer;
 use answers::Refusal;
-use area_words::areas_along;
+use areas::areas_along;
 use drainage::Land;
 use drainage::square_land;
 use floats::is_finite;
@@ -17,7 +17,7 @@ ghost use mathlib.Core.Bool.{false};
 ghost use lib.ListN.{length};
 ghost use Rattle.answers.specs.Outcome.{answerOf};
 ghost use Rattle.drainage.specs.Ground.{gridGround, noBase};
-ghost use Rattle.flood.specs.Slices.{Accepted};
+ghost use Rattle.flood.specs.Slices.{AcceptedGrid};
 ghost use Rattle.flow.specs.Route.{badLengths, routeAnswer, lentOf, Enough, Holding, Routed};
 
 // The lengths of the slices lent to `route`.
@@ -31,7 +31,7 @@ pub struct Lent {
     pub status: usize,
 }
 
-// Refusal 3: heights and results hold exactly n cells, scratch at least as many.
+// Refusal 3: whether a length is wrong. Heights and results must hold exactly n cells, scratch at least n.
 fn bad_lengths(n: usize, l: Lent) -> bool
     ensures { λ r. ⌜ r ≡ badLengths n l ⌝ }
 {
@@ -56,7 +56,7 @@ fn bad_lengths(n: usize, l: Lent) -> bool
     l.status < n
 }
 
-// What `route` refuses its arguments for, by document 01's numbers in their order.
+// Returns the first refusal of `route` in document 01's number order, `Done` where there is none.
 fn refusal(size: Sides, h: &[f32], water_level: f32, l: Lent) -> Answer
     requires { ⌜ l .heights ≡ length (now h) ⌝ }
     ensures { λ r. ⌜ answerOf r ≡ routeAnswer (size .w) (size .h) (now (h .entry)) «water_level» l ⌝ }
@@ -91,10 +91,12 @@ pub fn route_grid(
     queue: &mut [u32],
     status: &mut [u8],
 )
-    requires { ⌜ Accepted (size .w) (size .h) (now h) ⌝ }
-    requires { ⌜ Enough (size .w * size .h) (lentOf (now h) (now order) (now recv) (now spill) (now area) (now queue) (now status)) ⌝ }
+    requires { ⌜ AcceptedGrid (size .w) (size .h) (now h) ⌝ }
+    requires { ⌜ Enough (size .w * size .h)
+        (lentOf (now h) (now order) (now recv) (now spill) (now area) (now queue) (now status)) ⌝ }
     requires { ⌜ noBase (gridGround (size .w) (size .h) land (now h)) ≡ false ⌝ }
-    ensures { λ _. ⌜ Holding (size .w) (size .h) (now (h .entry)) land (now (order .exit)) (now (recv .exit)) (now (spill .exit)) (now (area .exit)) ⌝ }
+    ensures { λ _. ⌜ Holding (size .w) (size .h) (now (h .entry)) land (now (order .exit)) (now (recv .exit))
+        (now (spill .exit)) (now (area .exit)) ⌝ }
 {
     let n = h.len();
     flood(size, h, land, order, recv, spill, queue, &mut status[..n]);
@@ -102,8 +104,8 @@ pub fn route_grid(
     areas_along(size.w, recv, order, area);
 }
 
-// Routes `h`: the map border and every cell at or below `water_level` are the base level. Order, receivers, spill heights and areas are the
-// results; the queue and the statuses are scratch.
+// Routes `h`: the map border and every cell at or below `water_level` are the base level. Order, receivers, spill
+// heights and areas are the results; the queue and the statuses are scratch.
 pub fn route(
     size: Sides,
     h: &[f32],
@@ -115,7 +117,9 @@ pub fn route(
     queue: &mut [u32],
     status: &mut [u8],
 ) -> Answer
-    ensures { λ r. ⌜ Routed (size .w) (size .h) (now (h .entry)) «water_level» (now (order .entry)) (now (recv .entry)) (now (spill .entry)) (now (area .entry)) (now (queue .entry)) (now (status .entry)) r (now (order .exit)) (now (recv .exit)) (now (spill .exit)) (now (area .exit)) (now (queue .exit)) (now (status .exit)) ⌝ }
+    ensures { λ r. ⌜ Routed (size .w) (size .h) (now (h .entry)) «water_level» (now (order .entry)) (now (recv .entry))
+        (now (spill .entry)) (now (area .entry)) (now (queue .entry)) (now (status .entry)) r (now (order .exit))
+        (now (recv .exit)) (now (spill .exit)) (now (area .exit)) (now (queue .exit)) (now (status .exit)) ⌝ }
 {
     let lent = Lent {
         heights: h.len(),

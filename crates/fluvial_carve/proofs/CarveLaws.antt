@@ -5,19 +5,20 @@ use mathlib.Core.Bool.{Bool, true, false}
 use mathlib.Core.List.{List}
 use lib.ListN.{length}
 use lib.Ieee.{Float}
+use Rattle.drainage.specs.Routing.{orderOn, receiversOn, spillOn, areasOn}
 use Rattle.float_order.specs.Fit.{Fit}
-use Rattle.lists.proofs.TestLaws.{chosen, passed, clash}
+use Rattle.loops.proofs.TestLaws.{chosen, passed, clash}
 use Rattle.answers.specs.Outcome.{answerOf, given}
 use Rattle.answers.specs.declared.Answer.{Answer}
-use Rattle.spacing.specs.Distances.{squareDistances}
-use Rattle.spacing.specs.declared.Distances.{Distances}
+use Rattle.grid_spacing.specs.Distances.{squareDistances}
+use Rattle.grid_spacing.specs.declared.Distances.{Distances}
 use Rattle.drainage.specs.Ground.{groundBy, gridGround, squareLand}
 use Rattle.drainage.specs.declared.Land.{Land}
 use Rattle.drainage.specs.Ways.{areasAlong}
 use Rattle.drainage.proofs.GroundLaws.{north-based}
-use Rattle.flood.specs.Slices.{Accepted}
+use Rattle.flood.specs.Slices.{AcceptedGrid}
 use Rattle.flow.specs.declared.Lent.{Lent}
-use Rattle.flow.specs.Route.{floodOf, orderOf, receiversOf, areasOf, lentOf, Enough, Holding, Routed}
+use Rattle.flow.specs.Route.{lentOf, Enough, Holding, Routed}
 use Rattle.flow.proofs.RouteLaws.{answered, accepted-enough, accepted-grid}
 use Rattle.fluvial_erosion.specs.Incision.{incisedBy}
 use Rattle.fluvial_erosion.specs.Along.{Drains, Lengths, Carved}
@@ -49,7 +50,7 @@ module _ (w h : ℕ) (hs : List Float) (p : FluvialParams) (order recv : List �
       answer = e .answer;
       orders = e .orders;
       receivers = e .receivers;
-      heights = e .spills ∙ sym (passed taken (floodOf w h hs land .spill) out no) ∙ passed taken (carvedOf w h land p hs) out no;
+      heights = e .spills ∙ sym (passed taken (spillOn (gridGround w h land) hs) out no) ∙ passed taken (carvedOf w h land p hs) out no;
       areas = e .areas;
       kept-queue = e .kept-queue;
       kept-status = e .kept-status;
@@ -62,7 +63,7 @@ module _ (w h : ℕ) (hs : List Float) (p : FluvialParams) (order recv : List �
       yes : taken ≡ true
       yes = answered w h hs water lent r (e .answer) ∙ ap (λ (a : Answer). given (answerOf a)) told
 
-      grid : Accepted w h hs
+      grid : AcceptedGrid w h hs
       grid = accepted-grid w h hs water lent yes refl
 
       lengths : Enough (w * h) lent
@@ -70,10 +71,10 @@ module _ (w h : ℕ) (hs : List Float) (p : FluvialParams) (order recv : List �
 
       holding : Holding w h hs land order′ recv′ spill area′
       holding = record {
-        left = e .orders ∙ sym (chosen taken (orderOf w h hs land) order yes);
-        received = e .receivers ∙ sym (chosen taken (receiversOf w h hs land) recv yes);
-        raised = e .spills ∙ sym (chosen taken (floodOf w h hs land .spill) out yes);
-        drained = e .areas ∙ sym (chosen taken (areasOf w h hs land) area yes);
+        left = e .orders ∙ sym (chosen taken (orderOn (gridGround w h land) hs) order yes);
+        received = e .receivers ∙ sym (chosen taken (receiversOn (gridGround w h land) hs) recv yes);
+        raised = e .spills ∙ sym (chosen taken (spillOn (gridGround w h land) hs) out yes);
+        drained = e .areas ∙ sym (chosen taken (areasOn (gridGround w h land) hs) area yes);
       }
 
       -- the network found is one that an incision may go along, and every slice has the length that it asks for
@@ -99,7 +100,7 @@ module _ (w h : ℕ) (hs : List Float) (p : FluvialParams) (order recv : List �
         areas =
             c .areas
             ∙ (λ i. areasAlong (w * h) (holding .received i) (holding .left i))
-            ∙ chosen taken (areasOf w h hs land) area yes;
+            ∙ chosen taken (areasOn (gridGround w h land) hs) area yes;
         kept-queue = λ f. absurd (clash yes f);
         kept-status = λ f. absurd (clash yes f);
       }

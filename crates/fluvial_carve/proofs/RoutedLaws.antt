@@ -1,29 +1,30 @@
 -- A routing gives what the incision after it asks, and both together are the incision of the definition.
 use Prim.Native.Nat.{ℕ, _*_, _<_}
 use mathlib.Core.Path.{_≡_, refl, sym, _∙_, subst}
-use mathlib.Core.Bool.{Bool, true, false}
+use mathlib.Core.Bool.{true, false}
 use mathlib.Core.Logic.{inl, inr}
 use mathlib.Core.List.{List}
 use native.Mathlib.Omega.{arith}
 use lib.ListN.{length, getD}
 use lib.Ieee.{Float}
+use Rattle.drainage.specs.Routing.{receiversOn}
 use Rattle.float_order.specs.Fit.{Fit}
 use Rattle.drainage.specs.Ground.{gridGround, noBase}
 use Rattle.drainage.specs.declared.Land.{Land}
 use Rattle.drainage.specs.Ways.{areasAlong}
-use Rattle.steps.proofs.PlaceLaws.{along-of}
+use Rattle.areas.proofs.SumLaws.{along-of}
 use Rattle.lent_receivers.specs.Receivers.{goodReceiver}
 use Rattle.lent_receivers.proofs.ReceiverLaws.{good-own, good-near}
-use Rattle.flood.specs.Slices.{Accepted}
-use Rattle.flow.specs.Route.{receiversOf, Holding}
+use Rattle.flood.specs.Slices.{AcceptedGrid}
+use Rattle.flow.specs.Route.{Holding}
 use Rattle.flow.proofs.NetLaws.{receiver-near, downward}
 use Rattle.fluvial_erosion.specs.Incision.{inciseAlong, incisedBy}
 use Rattle.fluvial_erosion.specs.Along.{Drains, Incised}
 use Rattle.fluvial_erosion.specs.declared.FluvialParams.{FluvialParams}
 use Rattle.fluvial_carve.specs.Carve.{Carves}
 
-module _ (w h : ℕ) (hs : List Float) (land : Land) (a : Accepted w h hs) (fit : Fit hs) (some : noBase (gridGround w h land hs) ≡ false) where
-  near : (c : ℕ) → c < w * h → goodReceiver w h c (getD (receiversOf w h hs land) c 0) ≡ true
+module _ (w h : ℕ) (hs : List Float) (land : Land) (a : AcceptedGrid w h hs) (fit : Fit hs) (some : noBase (gridGround w h land hs) ≡ false) where
+  near : (c : ℕ) → c < w * h → goodReceiver w h c (getD (receiversOn (gridGround w h land) hs) c 0) ≡ true
   near c l = elim (receiver-near w h hs land a fit some c l) [
     | inl own ↦ good-own w h c _ (omega arith) own
     | inr other ↦ good-near w h c _ other

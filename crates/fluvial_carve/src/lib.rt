@@ -7,12 +7,12 @@ use fluvial_erosion::FluvialParams;
 use fluvial_erosion::incise_along;
 use fluvial_erosion::incise_into;
 use grid::Sides;
-use spacing::square_distances;
+use grid_spacing::square_distances;
 ghost use mathlib.Core.Path.{_≡_};
 ghost use mathlib.Core.Bool.{false};
 ghost use Prim.Native.Nat.{_*_};
 ghost use Rattle.drainage.specs.Ground.{gridGround, noBase};
-ghost use Rattle.flood.specs.Slices.{Accepted};
+ghost use Rattle.flood.specs.Slices.{AcceptedGrid};
 ghost use Rattle.flow.specs.Route.{lentOf, Enough};
 ghost use Rattle.fluvial_carve.specs.Carve.{Carves, CarveMade};
 
@@ -30,10 +30,12 @@ pub fn carve_grid(
     queue: &mut [u32],
     status: &mut [u8],
 )
-    requires { ⌜ Accepted (size .w) (size .h) (now hmap) ⌝ }
-    requires { ⌜ Enough (size .w * size .h) (lentOf (now hmap) (now order) (now recv) (now out) (now area) (now queue) (now status)) ⌝ }
+    requires { ⌜ AcceptedGrid (size .w) (size .h) (now hmap) ⌝ }
+    requires { ⌜ Enough (size .w * size .h)
+        (lentOf (now hmap) (now order) (now recv) (now out) (now area) (now queue) (now status)) ⌝ }
     requires { ⌜ noBase (gridGround (size .w) (size .h) land (now hmap)) ≡ false ⌝ }
-    ensures { λ _. ⌜ Carves (size .w) (size .h) land params (now (hmap .entry)) (now (order .exit)) (now (recv .exit)) (now (out .exit)) (now (area .exit)) ⌝ }
+    ensures { λ _. ⌜ Carves (size .w) (size .h) land params (now (hmap .entry)) (now (order .exit)) (now (recv .exit))
+        (now (out .exit)) (now (area .exit)) ⌝ }
 {
     route_grid(size, hmap, land, order, recv, out, area, queue, status);
     incise_along(size, hmap, params, land.distances, recv, order, out, area);
@@ -53,7 +55,9 @@ pub fn carve(
     queue: &mut [u32],
     status: &mut [u8],
 ) -> Answer
-    ensures { λ r. ⌜ CarveMade (size .w) (size .h) (now (hmap .entry)) params (now (order .entry)) (now (recv .entry)) (now (out .entry)) (now (area .entry)) (now (queue .entry)) (now (status .entry)) r (now (order .exit)) (now (recv .exit)) (now (out .exit)) (now (area .exit)) (now (queue .exit)) (now (status .exit)) ⌝ }
+    ensures { λ r. ⌜ CarveMade (size .w) (size .h) (now (hmap .entry)) params (now (order .entry)) (now (recv .entry))
+        (now (out .entry)) (now (area .entry)) (now (queue .entry)) (now (status .entry)) r (now (order .exit))
+        (now (recv .exit)) (now (out .exit)) (now (area .exit)) (now (queue .exit)) (now (status .exit)) ⌝ }
 {
     let water = params.water_level;
     let answer = route(size, hmap, water, order, recv, out, area, queue, status);

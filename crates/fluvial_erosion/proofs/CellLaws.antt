@@ -13,18 +13,18 @@ use lib.Ieee.{Float, nan, binary32, inFloat}
 use Rattle.floats.proofs.WholeLaws.{float-in}
 use Rattle.grid.specs.Sides.{InRange}
 use Rattle.grid.proofs.SidesLaws.{cells-bound, some-column}
-use Rattle.spacing.specs.declared.Distances.{Distances}
+use Rattle.grid_spacing.specs.declared.Distances.{Distances}
 use Rattle.drainage.specs.Ground.{groundBy}
 use Rattle.drainage.specs.Ways.{areasAlong}
-use Rattle.ways.specs.Apart.{Along}
-use Rattle.ways.proofs.DistanceLaws.{distance-is}
-use Rattle.steps.specs.Step.{Near, Steps}
-use Rattle.steps.proofs.PlaceLaws.{near-of}
-use Rattle.area_words.specs.Words.{Network}
-use Rattle.cuts.specs.Cut.{incisionCoef, drainedTo, cutOf, cutDown, CellOf}
-use Rattle.cuts.specs.declared.Incision.{Incision}
+use Rattle.areas.specs.Sums.{Along}
+use Rattle.receiver_steps.proofs.DistanceLaws.{distance-is}
+use Rattle.receiver_steps.specs.Step.{Near, NearReceivers}
+use Rattle.receiver_steps.proofs.PlaceLaws.{near-of}
+use Rattle.areas.specs.Words.{SteppedNetwork}
+use Rattle.incision_cell.specs.Cut.{incisionCoef, drainedTo, cutOf, cutDown, CellOf}
+use Rattle.incision_cell.specs.declared.Incision.{Incision}
 use Rattle.lent_receivers.proofs.ReceiverLaws.{good-is}
-use Rattle.ways_down.specs.Settled.{madeAlong}
+use Rattle.incision_paths.specs.Settled.{madeAlong}
 use Rattle.fluvial_erosion.specs.Incision.{inciseAlong, incisedBy}
 use Rattle.fluvial_erosion.specs.Along.{onGrid, Drains, Incised, Carved}
 use Rattle.fluvial_erosion.specs.declared.FluvialParams.{FluvialParams}
@@ -41,7 +41,7 @@ module _ {w h : ℕ} {recv list : List ℕ} (drains : Drains w h recv list) wher
   receiver-near : (c : ℕ) → c < w * h → Near w c (getD recv c 0)
   receiver-near c l = near-of (some-column w h c l) (drains .sides .wide) (good-is w h c (getD recv c 0) (drains .near c l))
 
-  pub steps-of : {n : ℕ} → n ≡ w * h → Steps w n recv
+  pub steps-of : {n : ℕ} → n ≡ w * h → NearReceivers w n recv
   steps-of {n} e =
       record {
         wide = drains .sides .wide;
@@ -52,7 +52,7 @@ module _ {w h : ℕ} {recv list : List ℕ} (drains : Drains w h recv list) wher
       }
 
   -- the words of its cells have steps
-  pub network : {n : ℕ} → 3 ≤ w → n ≡ w * h → Network w recv n
+  pub network : {n : ℕ} → 3 ≤ w → n ≡ w * h → SteppedNetwork w recv n
   network wide e = record { columns = wide; steps = steps-of (drains .along .receivers); long = e ∙ sym (drains .along .receivers) }
 
   -- what is made along the list by areas that are given is the incision of the definition

@@ -13,8 +13,8 @@ use Rattle.drainage.specs.Ground.{Ground}
 use Rattle.drainage.specs.Receivers.{distanceTo}
 use Rattle.drainage.specs.Ways.{WorkList, areasAlong}
 use Rattle.drainage.proofs.AreaLaws.{length-areas, areas}
-use Rattle.ways_down.specs.Settled.{madeAlong}
-use Rattle.ways_down.proofs.SettleLaws.{along-alike}
+use Rattle.incision_paths.specs.Settled.{madeAlong}
+use Rattle.incision_paths.proofs.SettleLaws.{along-alike}
 use Rattle.fluvial_erosion.specs.Incision.{incisedHeight, incisedAt, inciseAlong, incisedBy}
 use Rattle.fluvial_erosion.specs.Independence.{Independence}
 use Rattle.fluvial_erosion.specs.declared.FluvialParams.{FluvialParams}

@@ -9,11 +9,11 @@ use lib.ListN.{length, getD, drop}
 use lib.Dec.{eqb, ltb}
 use lib.Ieee.{Float}
 use borrow.Author.Tests.{lt-ltb, le-ltb, ltb-false, eqb-true, not-false}
-use Rattle.lists.proofs.TestLaws.{neither, through}
+use Rattle.loops.proofs.TestLaws.{neither, through}
 use Rattle.answers.specs.Outcome.{Outcome, gives, refused, refusedAt, answerOf}
 use Rattle.answers.specs.declared.Answer.{Answer}
-use Rattle.spacing.specs.Distances.{squareDistances}
-use Rattle.spacing.specs.declared.Distances.{Distances}
+use Rattle.grid_spacing.specs.Distances.{squareDistances}
+use Rattle.grid_spacing.specs.declared.Distances.{Distances}
 use Rattle.drainage.specs.Ground.{groundBy}
 use Rattle.answers.specs.declared.Refusal.{Refusal}
 use Rattle.grid.specs.Sides.{badSides, InRange}
@@ -23,11 +23,11 @@ use Rattle.grid.proofs.SidesLaws.{good-sides, cells-bound, cell-back}
 use Rattle.grid.proofs.HeightsLaws.{all-finite, not-all-finite}
 use Rattle.lent_receivers.specs.Receivers.{firstBadReceiver, receiverTest}
 use Rattle.lent_list.specs.Entries.{firstBadEntry, goodEntry}
-use Rattle.lent_list.specs.Walks.{Lengths, Near}
-use Rattle.lists.proofs.FirstLaws.{first-of, all-first}
+use Rattle.lent_list.specs.Walks.{ListLengths, WithinOverlap}
+use Rattle.loops.proofs.FirstLaws.{first-of, all-first}
 use Rattle.lent_list.proofs.ListLaws.{good-at, good-work}
 use Rattle.lent_receivers.proofs.ReceiverLaws.{good-cell, good-is}
-use Rattle.steps.proofs.PlaceLaws.{near-of}
+use Rattle.receiver_steps.proofs.PlaceLaws.{near-of}
 use Rattle.fluvial_erosion.specs.Incision.{incisedBy}
 use Rattle.fluvial_erosion.specs.Incise.{badLengths, badIncision, inciseRefusal, incised, InciseMade}
 use Rattle.fluvial_erosion.specs.Along.{Drains, Carved}
@@ -82,14 +82,14 @@ entries-good n recv list e =
     let none : firstBadEntry n recv list ≡ n = omega (arith, ltb-false (firstBadEntry n recv list) n e, first-of n (goodEntry n recv list) .bound) in
     all-first n (goodEntry n recv list) none
 
-pub network-of : (w h : ℕ) (recv list : List ℕ) → length recv ≡ w * h → length list ≡ w * h → ltb (firstBadReceiver w h recv) (w * h) ≡ false → Lengths (w * h) recv list
+pub network-of : (w h : ℕ) (recv list : List ℕ) → length recv ≡ w * h → length list ≡ w * h → ltb (firstBadReceiver w h recv) (w * h) ≡ false → ListLengths (w * h) recv list
 network-of w h recv list a b e = record { receivers = a; entries = b; inside = λ c l. good-cell w h c (getD recv c 0) (receivers-good w h recv e c l) }
 
 -- cells of which one is the other or a neighbour of it: their numbers differ by at most a row and one
 not-far : (w x y u v : ℕ) → x ≤ u + 1 → y ≤ v + 1 → x + y * w ≤ u + v * w + (w + 1)
 not-far w x y u v a b = let wide : w ≤ w = omega arith in omega (arith, mul-le-mul b wide)
 
-pub near-network : (w h : ℕ) (recv : List ℕ) → InRange w h → ltb (firstBadReceiver w h recv) (w * h) ≡ false → Near (w * h) recv
+pub near-network : (w h : ℕ) (recv : List ℕ) → InRange w h → ltb (firstBadReceiver w h recv) (w * h) ≡ false → WithinOverlap (w * h) recv
 near-network w h recv i e =
     record {
       few = cells-bound w h (i .wide) (i .high);
@@ -97,7 +97,7 @@ near-network w h recv i e =
       down = λ c l. let k = step c l in omega (arith, i .wide, cell-back w c, cell-back w (getD recv c 0), not-far w _ _ _ _ (k .west) (k .north));
     }
   where
-    step : (c : ℕ) → c < w * h → Rattle.steps.specs.Step.Near w c (getD recv c 0)
+    step : (c : ℕ) → c < w * h → Rattle.receiver_steps.specs.Step.Near w c (getD recv c 0)
     step c l = near-of (omega (arith, i .columns)) (i .wide) (good-is w h c (getD recv c 0) (receivers-good w h recv e c l))
 
 module _ (w h : ℕ) (hs : List Float) (p : FluvialParams) (recv list : List ℕ) (result scratch : ℕ) where
@@ -116,7 +116,7 @@ module _ (w h : ℕ) (hs : List Float) (p : FluvialParams) (recv list : List ℕ
   ends-side a e = rw (sym a ∙ e)
 
   -- what the tests let pass
-  pub record Accepted : Type 0 where
+  pub record AcceptedIncision : Type 0 where
     pub sides : badSides w h ≡ false
     pub lengths : badLengths (w * h) (length hs) (length recv) (length list) result scratch ≡ false
     pub setting : badIncision p ≡ false
@@ -124,7 +124,7 @@ module _ (w h : ℕ) (hs : List Float) (p : FluvialParams) (recv list : List ℕ
     pub receivers : ltb (firstBadReceiver w h recv) (w * h) ≡ false
     pub entries : ltb (firstBadEntry (w * h) recv list) (w * h) ≡ false
 
-  pub ends-done : Accepted → gives tt ≡ decided
+  pub ends-done : AcceptedIncision → gives tt ≡ decided
   ends-done a = rw (a .sides, a .lengths, a .setting, a .heights, a .receivers, a .entries)
 
   module _ (sides : badSides w h ≡ false) where
@@ -147,7 +147,7 @@ module _ (w h : ℕ) (hs : List Float) (p : FluvialParams) (recv list : List ℕ
           ends-entry r e q = rw (sides, lengths, setting, heights, r, e) (ap (refusedAt 7) q)
 
   -- an accepted input, from its outcome
-  pub accepted : gives tt ≡ decided → Accepted
+  pub accepted : gives tt ≡ decided → AcceptedIncision
   accepted e =
       let a = not-refused (badSides w h) (refused 1) _ tt refl (sym e) in
       let b = not-refused (badLengths (w * h) (length hs) (length recv) (length list) result scratch) (refused 3) _ tt refl (a .1) in
@@ -157,7 +157,7 @@ module _ (w h : ℕ) (hs : List Float) (p : FluvialParams) (recv list : List ℕ
       let g = not-refused (ltb (firstBadEntry (w * h) recv list) (w * h)) (refusedAt 7 (firstBadEntry (w * h) recv list)) _ tt refl (f .1) in
       record { sides = a .0; lengths = b .0; setting = c .0; heights = d .0; receivers = f .0; entries = g .0 }
 
-  module _ (a : Accepted) where
+  module _ (a : AcceptedIncision) where
     pub accepted-sizes : Sized (w * h) (length hs) (length recv) (length list) result scratch
     accepted-sizes = sized (w * h) (length hs) (length recv) (length list) result scratch (a .lengths)
 

@@ -5,13 +5,13 @@ use mathlib.Core.Bool.{Bool}
 use mathlib.Core.List.{List}
 use lib.ListN.{length}
 use lib.Ieee.{Float}
-use Rattle.spacing.specs.declared.Distances.{Distances}
+use Rattle.grid_spacing.specs.declared.Distances.{Distances}
 use Rattle.drainage.specs.Ground.{groundBy}
 use Rattle.drainage.specs.Ways.{WorkList}
-use Rattle.cuts.specs.declared.Incision.{Incision}
-use Rattle.ways_down.specs.Settled.{settledHeights}
-use Rattle.ways_down.specs.Walk.{Ways}
-use Rattle.ways_down.proofs.HeightLaws.{heights-along}
+use Rattle.incision_cell.specs.declared.Incision.{Incision}
+use Rattle.incision_paths.specs.Settled.{settledHeights}
+use Rattle.incision_paths.specs.Walk.{Ways}
+use Rattle.incision_paths.proofs.HeightLaws.{heights-along}
 use Rattle.fluvial_erosion.specs.Incision.{inciseAlong}
 use Rattle.fluvial_erosion.specs.Along.{onGrid, Drains, Lengths}
 use Rattle.fluvial_erosion.specs.declared.FluvialParams.{FluvialParams}

@@ -1,22 +1,22 @@
--- What the inner calls of an incision ask, and what they leave.
+-- What the inner functions of an incision require, and what they leave in their slices.
 use Prim.Native.Nat.{ℕ, _*_, _<_}
 use mathlib.Core.Path.{_≡_}
 use mathlib.Core.Bool.{Bool, true}
 use mathlib.Core.List.{List}
 use lib.ListN.{getD}
-use lib.IntN.{pos}
-use lib.Ieee.{Float, binary32, ofInt}
+use lib.Ieee.{Float}
+use Rattle.floats.specs.Stand.{whole}
 use Rattle.grid.specs.Sides.{InRange}
-use Rattle.spacing.specs.declared.Distances.{Distances}
+use Rattle.grid_spacing.specs.declared.Distances.{Distances}
 use Rattle.drainage.specs.Ground.{groundBy}
 use Rattle.drainage.specs.Ways.{WorkList, areasAlong}
-use Rattle.ways.specs.Apart.{Along}
-use Rattle.cuts.specs.declared.Incision.{Incision}
+use Rattle.areas.specs.Sums.{Along}
+use Rattle.incision_cell.specs.declared.Incision.{Incision}
 use Rattle.lent_receivers.specs.Receivers.{goodReceiver}
 use Rattle.fluvial_erosion.specs.Incision.{inciseAlong, incisedBy}
 use Rattle.fluvial_erosion.specs.declared.FluvialParams.{FluvialParams}
 
--- receivers and a work list of them on a w × h grid: every receiver is its own cell or a neighbour
+-- recv are receivers on a w × h grid, each its own cell or a neighbour, and list is a work list of them
 pub record Drains (w h : ℕ) (recv list : List ℕ) : Type 0 where
   pub sides : InRange w h
   pub along : Along (w * h) recv list
@@ -31,7 +31,7 @@ pub record Lengths (n hmap out area : ℕ) : Type 0 where
 
 -- the settings of an incision on a w × h grid with the distances between its cells
 abbrev pub onGrid : ℕ → ℕ → FluvialParams → Distances → Incision
-onGrid w h p ds = record { width = w; cells = ofInt binary32 (pos (w * h)); k = p .k; uplift = p .uplift; water = p .«water_level»; distances = ds }
+onGrid w h p ds = record { width = w; cells = whole (w * h); k = p .k; uplift = p .uplift; water = p .«water_level»; distances = ds }
 
 -- what an incision by given areas leaves: the heights incised along the list, whatever cells are base level, and the
 -- areas as they were

@@ -11,7 +11,7 @@ use Rattle.answers.specs.Outcome.{Outcome, gives, refused, refusedAt, answerOf,
 use Rattle.answers.specs.declared.Answer.{Answer}
 use Rattle.grid.specs.Sides.{badSides}
 use Rattle.grid.specs.Heights.{firstNotFinite, allFinite}
-use Rattle.spacing.specs.Distances.{squareDistances}
+use Rattle.grid_spacing.specs.Distances.{squareDistances}
 use Rattle.drainage.specs.Ground.{groundBy}
 use Rattle.drainage.specs.Ways.{areasAlong}
 use Rattle.fluvial_erosion.specs.Incision.{incisedBy}
@@ -30,8 +30,8 @@ abbrev pub badLengths : ℕ → ℕ → ℕ → ℕ → ℕ → ℕ → Bool
 badLengths n heights recv list result scratch =
     not (eqb heights n) || (not (eqb recv n) || (not (eqb list n) || (not (eqb result n) || ltb scratch n)))
 
--- 1: a side; 3: a length; 4: a setting; 5: a height; 6: a receiver; 7: the
--- list; else `then`. `number` and `at` say what a refusal gives
+-- the first refusal that applies, else `then`: 1: a side; 3: a length; 4: a setting; 5: a height; 6: a receiver; 7: the
+-- list. `number n` is what refusal n gives, `at n place` what one gives that carries a cell or a position
 abbrev pub inciseRefusal : {A : Type 0} → ℕ → ℕ → List Float → FluvialParams → List ℕ → List ℕ → ℕ → ℕ → (ℕ → A) → (ℕ → ℕ → A) → A → A
 inciseRefusal w h hs p recv list result scratch number at then =
     let n = w * h in
@@ -41,11 +41,12 @@ inciseRefusal w h hs p recv list result scratch number at then =
     (cond (not (allFinite hs)) (at 5 (firstNotFinite hs))
     (cond (ltb (firstBadReceiver w h recv) n) (at 6 (firstBadReceiver w h recv)) (cond (ltb (firstBadEntry n recv list) n) (at 7 (firstBadEntry n recv list)) then)))))
 
--- the heights incised along lent receivers; base level is no part of it, so the ground has no base cell
+-- the heights incised along lent receivers and a lent list; incision does not use base level, so the ground has no base
+-- cell
 abbrev pub incised : ℕ → ℕ → List Float → FluvialParams → List ℕ → List ℕ → List Float
 incised w h hs p recv list = incisedBy (groundBy w h squareDistances (λ c. false)) p recv list hs
 
--- then 22: a height not finite
+-- the answer of `incise`: a refusal by 1 to 7, then by 22: an incised height not finite
 abbrev pub inciseAnswer : ℕ → ℕ → List Float → FluvialParams → List ℕ → List ℕ → ℕ → ℕ → Outcome (Unit {0})
 inciseAnswer w h hs p recv list result scratch =
     inciseRefusal w h hs p recv list result scratch refused refusedAt (cond (allFinite (incised w h hs p recv list)) (gives tt) (refused 22))

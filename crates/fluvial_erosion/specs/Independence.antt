@@ -9,7 +9,7 @@ use Rattle.drainage.specs.Ways.{WorkList, areasAlong}
 use Rattle.fluvial_erosion.specs.Incision.{incisedBy}
 use Rattle.fluvial_erosion.specs.declared.FluvialParams.{FluvialParams}
 
--- the areas and the heights are the same, bit for bit
+-- the lists `first` and `second` give the same areas and the same incised heights, bit for bit
 pub record SameIncision (g : Ground) (p : FluvialParams) (recv first second : List ℕ) (hs : List Float) : Type 0 where
   pub areas : areasAlong (g .cells) recv first ≡ areasAlong (g .cells) recv second
   pub heights : incisedBy g p recv first hs ≡ incisedBy g p recv second hs

@@ -1,30 +1,30 @@
-// The source's fluvial_erosion.rs, one incision: every cell is lowered toward the cell it drains into, in proportion to the square root of its
-// drainage area, in the order of a work list.
+// The source's fluvial_erosion.rs, one incision: every cell is lowered toward the cell it drains into, in proportion to
+// the square root of its drainage area, in the order of a work list.
 use answers::Answer;
 use answers::Refusal;
 use answers::outside;
-use area_words::areas_along;
-use area_words::read_areas;
-use area_words::to_words;
-use area_words::words_along;
-use cuts::Incision;
-use cuts::incise_cell;
-use cuts::settle_cell;
+use areas::areas_along;
+use areas::read_areas;
+use areas::to_words;
+use areas::words_along;
 use floats::is_finite;
 use grid::Sides;
 use grid::all_finite;
 use grid::bad_sides;
 use grid::copy_heights;
 use grid::first_not_finite;
+use grid_spacing::Distances;
+use grid_spacing::square_distances;
+use incision_cell::Incision;
+use incision_cell::incise_cell;
+use incision_cell::settle_cell;
+use incision_paths::incise_ways;
+use incision_rates::table;
+use incision_rates::table_size;
 use lent_list::first_bad_entry;
 use lent_receivers::first_bad_receiver;
-use rates::table;
-use rates::table_size;
-use spacing::Distances;
-use spacing::square_distances;
-use steps::step_distances;
-use steps::step_offsets;
-use ways_down::incise_ways;
+use receiver_steps::step_distances;
+use receiver_steps::step_offsets;
 ghost use mathlib.Core.Path.{_≡_};
 ghost use mathlib.Core.Bool.{Bool};
 ghost use Prim.Native.Nat.{ℕ, _*_, _≤_, _<_};
@@ -32,14 +32,18 @@ ghost use lib.ListN.{length};
 ghost use lib.Ieee.{nan};
 ghost use Rattle.grid.specs.Sides.{InRange};
 ghost use Rattle.drainage.specs.Ground.{groundBy};
-ghost use Rattle.ways.specs.Apart.{Along};
-ghost use Rattle.area_words.specs.Words.{areasIn, Network, Worded, WholeAreas};
-ghost use Rattle.cuts.specs.Cut.{cutDown};
-ghost use Rattle.ways_down.specs.Settled.{madeAlong};
+ghost use Rattle.areas.specs.Sums.{Along};
+ghost use Rattle.areas.specs.Words.{areasIn, SteppedNetwork, Worded, WholeAreas};
+ghost use Rattle.incision_cell.specs.Cut.{cutDown};
+ghost use Rattle.incision_paths.specs.Settled.{madeAlong};
 ghost use Rattle.fluvial_erosion.specs.Incision.{inciseAlong};
 ghost use Rattle.answers.specs.Outcome.{gives, refused, refusedAt, answerOf};
 ghost use Rattle.fluvial_erosion.specs.Incise.{badLengths, badIncision, inciseRefusal, InciseMade};
 ghost use Rattle.fluvial_erosion.specs.Along.{onGrid, Drains, Lengths, Incised, Carved};
+
+// The most cells whose heights are incised along the list; those of larger grids are incised by ways down, which stay
+// near in memory.
+const LISTED: usize = 4194304;
 
 // The settings of an incision on its grid.
 pub struct FluvialParams {
@@ -63,11 +67,13 @@ fn incision_of(size: Sides, params: FluvialParams, ds: Distances) -> Incision
     }
 }
 
-// Incises the heights in `out` along the list, as document 01 says it: for grids of one or two columns, whose steps have no numbers.
+// Incises the heights in `out` along the list, as document 01 states it, without words: for grids of one or two
+// columns, where steps have no numbers.
 fn incise_plain(by: Incision, area: &[f32], recv: &[u32], order: &[u32], out: &mut [f32])
     requires { ⌜ Along (length (now out)) (now recv) (now order) ⌝ }
     requires { ⌜ (0 < by .width) × (length (now area) ≡ length (now out)) ⌝ }
-    ensures { λ _. ⌜ now (out .exit) ≡ madeAlong nan (now (recv .entry)) (cutDown by (now (area .entry)) (now (recv .entry))) (now (order .entry)) (now (out .entry)) ⌝ }
+    ensures { λ _. ⌜ now (out .exit) ≡ madeAlong nan (now (recv .entry))
+        (cutDown by (now (area .entry)) (now (recv .entry))) (now (order .entry)) (now (out .entry)) ⌝ }
 {
     let len = order.len();
     let mut i: usize = 0;
@@ -77,13 +83,14 @@ fn incise_plain(by: Incision, area: &[f32], recv: &[u32], order: &[u32], out: &m
     }
 }
 
-// Incises the heights in `out` along the list by the words of the cells: a list by height comes to them at random, and goes to two slices here and not
-// to four.
+// Incises the heights in `out` along the list by the words of the cells. A list in order of height visits cells
+// scattered over memory; with words it reads two slices and not four.
 fn incise_listed(by: Incision, recv: &[u32], words: &[f32], order: &[u32], out: &mut [f32])
     requires { ⌜ Along (length (now out)) (now recv) (now order) ⌝ }
-    requires { ⌜ Network (by .width) (now recv) (length (now out)) ⌝ }
+    requires { ⌜ SteppedNetwork (by .width) (now recv) (length (now out)) ⌝ }
     requires { ⌜ Worded (by .width) (now recv) (now words) ⌝ }
-    ensures { λ _. ⌜ now (out .exit) ≡ madeAlong nan (now (recv .entry)) (cutDown by (areasIn (now (words .entry))) (now (recv .entry))) (now (order .entry)) (now (out .entry)) ⌝ }
+    ensures { λ _. ⌜ now (out .exit) ≡ madeAlong nan (now (recv .entry))
+        (cutDown by (areasIn (now (words .entry))) (now (recv .entry))) (now (order .entry)) (now (out .entry)) ⌝ }
 {
     let by_step = step_distances(by.distances);
     let offsets = step_offsets(by.width);
@@ -99,7 +106,7 @@ fn incise_listed(by: Incision, recv: &[u32], words: &[f32], order: &[u32], out: 
     }
 }
 
-// The heights of `hmap` in `out`, incised along the list by areas that are given, in the plain form.
+// Writes the heights of `hmap`, incised along the list by the areas given, to `out`, without words.
 fn incise_narrow(
     size: Sides,
     hmap: &[f32],
@@ -112,15 +119,17 @@ fn incise_narrow(
 )
     requires { ⌜ Drains (size .w) (size .h) (now recv) (now order) ⌝ }
     requires { ⌜ Lengths (size .w * size .h) (length (now hmap)) (length (now out)) (length (now area)) ⌝ }
-    ensures { λ _. ⌜ ((base : ℕ → Bool) → now (out .exit) ≡ inciseAlong (groundBy (size .w) (size .h) ds base) params (now (area .entry)) (now (recv .entry)) (now (order .entry)) (now (hmap .entry))) ⌝ }
+    ensures { λ _. ⌜ ((base : ℕ → Bool) → now (out .exit) ≡ inciseAlong (groundBy (size .w) (size .h) ds base) params
+        (now (area .entry)) (now (recv .entry)) (now (order .entry)) (now (hmap .entry))) ⌝ }
 {
     let by = incision_of(size, params, ds);
     copy_heights(hmap, out);
     incise_plain(by, area, recv, order, out);
 }
 
-// The heights of `hmap` in `out`, incised by the areas in words, which become areas again. They do not depend on the list: on a grid of many cells, where an
-// order by height is at random in memory, each cell is incised with its way down.
+// Writes the heights of `hmap`, incised by the areas in words, to `out`, and turns the words back into areas. The
+// heights do not depend on the work list: on a grid of more than `LISTED` cells, where an order by height is scattered
+// over memory, each cell is incised with its way down.
 fn incise_words(
     size: Sides,
     hmap: &[f32],
@@ -134,10 +143,11 @@ fn incise_words(
     requires { ⌜ Drains (size .w) (size .h) (now recv) (now order) ⌝ }
     requires { ⌜ Lengths (size .w * size .h) (length (now hmap)) (length (now out)) (length (now words)) ⌝ }
     requires { ⌜ (3 ≤ size .w) × Worded (size .w) (now recv) (now words) ⌝ }
-    ensures { λ _. ⌜ Incised (size .w) (size .h) (now (hmap .entry)) params ds (areasIn (now (words .entry))) (now (recv .entry)) (now (order .entry)) (now (out .exit)) (now (words .exit)) ⌝ }
+    ensures { λ _. ⌜ Incised (size .w) (size .h) (now (hmap .entry)) params ds (areasIn (now (words .entry)))
+        (now (recv .entry)) (now (order .entry)) (now (out .exit)) (now (words .exit)) ⌝ }
 {
     let by = incision_of(size, params, ds);
-    if 4194304 < words.len() {
+    if LISTED < words.len() {
         incise_ways(by, hmap, recv, words, out);
         read_areas(words);
         return;
@@ -147,7 +157,8 @@ fn incise_words(
     read_areas(words);
 }
 
-// The heights of `hmap` in `out`, incised along the list by areas that are given, each a number of cells; `area` is scratch meanwhile.
+// Writes the heights of `hmap`, incised along the list by the areas in `area`, to `out`. Each area is a whole number of
+// cells; `area` is scratch meanwhile and has the areas again afterwards.
 pub fn incise_along(
     size: Sides,
     hmap: &[f32],
@@ -161,7 +172,8 @@ pub fn incise_along(
     requires { ⌜ Drains (size .w) (size .h) (now recv) (now order) ⌝ }
     requires { ⌜ Lengths (size .w * size .h) (length (now hmap)) (length (now out)) (length (now area)) ⌝ }
     requires { ⌜ WholeAreas (now area) ⌝ }
-    ensures { λ _. ⌜ Incised (size .w) (size .h) (now (hmap .entry)) params ds (now (area .entry)) (now (recv .entry)) (now (order .entry)) (now (out .exit)) (now (area .exit)) ⌝ }
+    ensures { λ _. ⌜ Incised (size .w) (size .h) (now (hmap .entry)) params ds (now (area .entry)) (now (recv .entry))
+        (now (order .entry)) (now (out .exit)) (now (area .exit)) ⌝ }
 {
     if size.w < 3 {
         incise_narrow(size, hmap, params, ds, area, recv, order, out);
@@ -171,7 +183,7 @@ pub fn incise_along(
     incise_words(size, hmap, params, ds, recv, order, out, area);
 }
 
-// The heights of `hmap` in `out`, incised along the list, with the areas along it in `area`.
+// Writes the heights of `hmap`, incised along the list, to `out`, and the areas along the list to `area`.
 pub fn incise_into(
     size: Sides,
     hmap: &[f32],
@@ -184,7 +196,8 @@ pub fn incise_into(
 )
     requires { ⌜ Drains (size .w) (size .h) (now recv) (now order) ⌝ }
     requires { ⌜ Lengths (size .w * size .h) (length (now hmap)) (length (now out)) (length (now area)) ⌝ }
-    ensures { λ _. ⌜ Carved (size .w) (size .h) (now (hmap .entry)) params ds (now (recv .entry)) (now (order .entry)) (now (out .exit)) (now (area .exit)) ⌝ }
+    ensures { λ _. ⌜ Carved (size .w) (size .h) (now (hmap .entry)) params ds (now (recv .entry)) (now (order .entry))
+        (now (out .exit)) (now (area .exit)) ⌝ }
 {
     if size.w < 3 {
         areas_along(size.w, recv, order, area);
@@ -195,7 +208,7 @@ pub fn incise_into(
     incise_words(size, hmap, params, ds, recv, order, out, area);
 }
 
-// Refusal 3: a slice of another length than n, or a scratch slice of fewer.
+// Refusal 3: whether a slice has another length than n, or the scratch slice fewer than n values.
 fn bad_lengths(
     n: usize,
     heights: usize,
@@ -234,7 +247,8 @@ fn bad_incision(params: FluvialParams) -> bool
     !is_finite(params.water_level)
 }
 
-// The refusals of `incise` by number, `Done` where there is none; `result` and `scratch` are the lengths of the slices to write.
+// Returns the first refusal of `incise` in number order, `Done` where there is none; `result` and `scratch` are the
+// lengths of the slices to write.
 fn refusal(
     size: Sides,
     hmap: &[f32],
@@ -244,7 +258,8 @@ fn refusal(
     result: usize,
     scratch: usize,
 ) -> Answer
-    ensures { λ r. ⌜ answerOf r ≡ inciseRefusal (size .w) (size .h) (now (hmap .entry)) params (now (recv .entry)) (now (order .entry)) result scratch refused refusedAt (gives tt) ⌝ }
+    ensures { λ r. ⌜ answerOf r ≡ inciseRefusal (size .w) (size .h) (now (hmap .entry)) params (now (recv .entry))
+        (now (order .entry)) result scratch refused refusedAt (gives tt) ⌝ }
 {
     if bad_sides(size) {
         return Answer::Refused(Refusal::Side);
@@ -271,7 +286,8 @@ fn refusal(
     Answer::Done
 }
 
-// One incision of the source along a lent list of lent receivers, from hmap to out, with the areas in the first n places of `area`.
+// One incision of the source along a lent list of lent receivers, from hmap to out, with the areas in the first n
+// places of `area`.
 pub fn incise(
     size: Sides,
     hmap: &[f32],
@@ -281,7 +297,8 @@ pub fn incise(
     out: &mut [f32],
     area: &mut [f32],
 ) -> Answer
-    ensures { λ r. ⌜ InciseMade (size .w) (size .h) (now (hmap .entry)) params (now (recv .entry)) (now (order .entry)) (now (out .entry)) (now (area .entry)) r (now (out .exit)) (now (area .exit)) ⌝ }
+    ensures { λ r. ⌜ InciseMade (size .w) (size .h) (now (hmap .entry)) params (now (recv .entry)) (now (order .entry))
+        (now (out .entry)) (now (area .entry)) r (now (out .exit)) (now (area .exit)) ⌝ }
 {
     let answer = refusal(size, hmap, params, recv, order, out.len(), area.len());
     let Answer::Done = answer else {

@@ -1,4 +1,4 @@
--- What a fluvial run asks of the map, the plan and the scratch slices, on the map or on a reduced grid.
+-- What a fluvial run requires of the map, the plan and the scratch slices, on the map or on a reduced grid.
 use Prim.Native.Nat.{ℕ, _*_, _≤_}
 use mathlib.Core.Path.{_≡_}
 use mathlib.Core.Bool.{true}
@@ -8,7 +8,7 @@ use lib.Ieee.{Float}
 use Rattle.grid.specs.Heights.{allFinite}
 use Rattle.grid.specs.Base.{allOpen}
 use Rattle.resample.specs.WorkSize.{Within}
-use Rattle.runs.specs.Nested.{Bounded}
+use Rattle.run_machine.specs.Nested.{Bounded}
 use Rattle.fluvial_loop.specs.Loops.{courseBy}
 use Rattle.fluvial_loop.specs.declared.FluvialPlan.{FluvialPlan}
 use Rattle.fluvial_grid.specs.declared.Scratch.{Scratch}
@@ -26,7 +26,8 @@ scratchOf small eroded copy area order recv queue status =
       status = length status;
     }
 
--- what a run on its dw × dh working grid asks: averages and scratch of as many cells
+-- what a run on its dw × dh working grid requires: a finite map, and averages and scratch of as many cells as that
+-- grid, queue and status of at least as many
 pub record Erodes (w h dw dh : ℕ) (plan : FluvialPlan) (stop : ℕ) (map : List Float) (s : Scratch) : Type 0 where
   pub sides : Within w h dw dh
   pub bounded : Bounded (courseBy dw dh plan stop)

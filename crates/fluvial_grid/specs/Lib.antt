@@ -1,2 +1,2 @@
--- What a fluvial run on its working grid asks.
+-- What a fluvial run on its working grid requires.
 pub mod Grids

@@ -1,16 +1,17 @@
 // A fluvial run on the grid it works on: the map, or a reduced grid whose change is added back.
-use erosion::Reached;
-use erosion::add_back;
-use erosion::begun;
-use erosion::ended;
-use erosion::on_map;
-use erosion::reduce;
+use answers::RUN_OFF;
 use fluvial_loop::FluvialPlan;
 use fluvial_loop::run_iterations;
 use generators::fresh;
 use grid::Sides;
+use run_parts::Reached;
+use run_parts::add_back;
+use run_parts::begun;
+use run_parts::ended;
+use run_parts::on_map;
+use run_parts::reduce;
 ghost use mathlib.Core.Path.{_≡_};
-ghost use Rattle.erosion.specs.Reached.{Worked, wholeRun};
+ghost use Rattle.run_parts.specs.Reached.{Worked, wholeRun};
 ghost use Rattle.fluvial_loop.specs.Loops.{courseBy};
 ghost use Rattle.fluvial_grid.specs.Grids.{scratchOf, Erodes};
 
@@ -26,8 +27,8 @@ pub struct Scratch {
     pub status: usize,
 }
 
-// A run on its working grid: on the map itself where the sides are the map's; else on a reduced copy, whose difference is then added to the map. There
-// 21 and 22 leave the map as it came. All slices after stop are scratch.
+// A run on its working grid: on the map itself where the sides are the map's; else on a reduced copy, whose difference
+// is then added to the map. There 21 and 22 leave the map as it came. All slices after stop are scratch.
 pub fn erode(
     size: Sides,
     hmap: &mut [f32],
@@ -43,8 +44,10 @@ pub fn erode(
     queue: &mut [u32],
     status: &mut [u8],
 ) -> Reached
-    requires { ⌜ Erodes (size .w) (size .h) (work .w) (work .h) plan stop (now hmap) (scratchOf (now small) (now eroded) (now copy) (now area) (now order) (now recv) (now queue) (now status)) ⌝ }
-    ensures { λ r. ⌜ _≡_ {A = Worked} (record { heights = now (hmap .exit); reached = r }) (wholeRun (size .w) (size .h) (courseBy (work .w) (work .h) plan stop) (now (hmap .entry))) ⌝ }
+    requires { ⌜ Erodes (size .w) (size .h) (work .w) (work .h) plan stop (now hmap)
+        (scratchOf (now small) (now eroded) (now copy) (now area) (now order) (now recv) (now queue) (now status)) ⌝ }
+    ensures { λ r. ⌜ _≡_ {A = Worked} (record { heights = now (hmap .exit); reached = r })
+        (wholeRun (size .w) (size .h) (courseBy (work .w) (work .h) plan stop) (now (hmap .entry))) ⌝ }
 {
     if on_map(work, size) {
         return run_iterations(
@@ -61,7 +64,7 @@ pub fn erode(
         );
     }
     if !reduce(size, hmap, work, small, eroded) {
-        return ended(22, fresh(), begun());
+        return ended(RUN_OFF, fresh(), begun());
     }
     let done = run_iterations(
         work,

@@ -7,7 +7,7 @@ use native.Mathlib.Nat.{mul-le-mul-right}
 use native.Mathlib.Omega.{arith}
 use lib.ListN.{length}
 use lib.Ieee.{Float}
-use Rattle.lists.proofs.TurnLaws.{turns-more}
+use Rattle.loops.proofs.TurnLaws.{turns-more}
 use Rattle.float_order.specs.Fit.{Fit}
 use Rattle.grid.specs.Heights.{allFinite}
 use Rattle.generators.specs.Marks.{reportOf}
@@ -17,24 +17,24 @@ use Rattle.grid.specs.Base.{allOpen}
 use Rattle.grid.specs.declared.OpenSides.{OpenSides}
 use Rattle.drainage.specs.Ground.{gridGround, noBase}
 use Rattle.drainage.proofs.GroundLaws.{north-based}
-use Rattle.flood.specs.Slices.{Accepted}
+use Rattle.flood.specs.Slices.{AcceptedGrid}
 use Rattle.flow.specs.Route.{Enough}
 use Rattle.flow.specs.declared.Lent.{Lent}
-use Rattle.runs.specs.Machine.{Course, State, start, steps}
-use Rattle.runs.specs.Run.{ours}
-use Rattle.runs.specs.Nested.{oneOpening, oneIteration, iterated, nested, Due, Bounded}
-use Rattle.runs.proofs.SoundLaws.{Sound}
-use Rattle.runs.proofs.KeptLaws.{iterated-sound}
-use Rattle.runs.proofs.CutLaws.{incision-sized}
-use Rattle.runs.proofs.AskedLaws.{opening-asked, iterated-asked}
-use Rattle.runs.proofs.IterationLaws.{due-iterated}
-use Rattle.erosion.specs.Reached.{Worked, seen, begun, afterMade}
-use Rattle.erosion.specs.declared.Reached.{Reached}
-use Rattle.erosion.proofs.ReachedLaws.{worked, openedBy, made-cases}
-use Rattle.erosion.proofs.LoopLaws.{Going, going-none, going-done, going-ended, going-asked, going-incisions, going-opening}
+use Rattle.run_machine.specs.Machine.{Course, State, start, steps}
+use Rattle.run_machine.specs.Run.{ours}
+use Rattle.run_machine.specs.Nested.{oneOpening, oneIteration, iterated, nested, Due, Bounded}
+use Rattle.run_machine.proofs.SoundLaws.{Sound}
+use Rattle.run_machine.proofs.KeptLaws.{iterated-sound}
+use Rattle.run_machine.proofs.CutLaws.{incision-sized}
+use Rattle.run_machine.proofs.AskedLaws.{opening-asked, iterated-asked}
+use Rattle.run_machine.proofs.IterationLaws.{due-iterated}
+use Rattle.run_parts.specs.Reached.{Worked, seen, begun, afterMade}
+use Rattle.run_parts.specs.declared.Reached.{Reached}
+use Rattle.run_parts.proofs.ReachedLaws.{worked, openedBy, made-cases}
+use Rattle.run_parts.proofs.LoopLaws.{Going, going-none, going-done, going-ended, going-asked, going-incisions, going-opening}
 use Rattle.fluvial_carve.specs.Carve.{carvedOf}
-use Rattle.incision_step.specs.Opening.{afterOpening, Counts}
-use Rattle.incision_step.proofs.OpeningLaws.{carved-by}
+use Rattle.fluvial_opening.specs.Opening.{afterOpening, Counts}
+use Rattle.fluvial_opening.proofs.OpeningLaws.{carved-by}
 use Rattle.fluvial_loop.specs.Loops.{courseBy, slidBy, Slides}
 use Rattle.fluvial_loop.specs.declared.FluvialPlan.{FluvialPlan}
 use Rattle.fluvial_loop.proofs.SlideLaws.{slid-seen}
@@ -72,7 +72,7 @@ module _ (w h : ℕ) (plan : FluvialPlan) (stop : ℕ) (hs : List Float) (then :
     iterating-enough e = subst (Enough (w * h)) (sym (i .lengths)) e
 
     -- the heights are those of a grid that may be routed
-    pub iterating-accepted : Accepted w h hs → Fit hs → length map ≡ w * h → Accepted w h map
+    pub iterating-accepted : AcceptedGrid w h hs → Fit hs → length map ≡ w * h → AcceptedGrid w h map
     iterating-accepted a fit e =
         let sound : Sound (w * h) (iterated course it hs) =
         iterated-sound (w * h) course (λ it hs. incision-sized (gridGround w h (plan .land)) (plan .cuts) ours (w * h) it hs) hs

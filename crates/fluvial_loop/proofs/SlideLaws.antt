@@ -12,19 +12,19 @@ use lib.Dec.{T, eqb}
 use lib.IntN.{pos}
 use lib.Ieee.{Float, binary32, inFloat}
 use Rattle.floats.proofs.WholeLaws.{float-in}
-use Rattle.lists.specs.Loops.{turns}
-use Rattle.lists.proofs.TestLaws.{either}
-use Rattle.lists.proofs.TurnLaws.{turns-none, turns-more, turns-hold, turns-stay, turns-through}
-use Rattle.lists.proofs.LoopLaws.{at-end}
+use Rattle.loops.specs.Loops.{turns}
+use Rattle.loops.proofs.TestLaws.{either}
+use Rattle.loops.proofs.TurnLaws.{turns-none, turns-more, turns-hold, turns-stay, turns-through}
+use Rattle.loops.proofs.LoopLaws.{at-end}
 use Rattle.thermal_erosion.specs.SlidePass.{Pass, rowsOf}
 use Rattle.thermal_erosion.proofs.PassLaws as Rows
-use Rattle.runs.specs.Machine.{Course, State}
-use Rattle.runs.specs.Nested.{onePass, oneOpening, oneIteration, Due, Bounded}
-use Rattle.runs.proofs.PassLaws.{pass-ended}
-use Rattle.runs.proofs.IterationLaws.{Place, place-opening, place-pass}
-use Rattle.erosion.specs.Reached.{Worked, seen, halted, afterPass, PassReady}
-use Rattle.erosion.specs.declared.Reached.{Reached}
-use Rattle.erosion.proofs.ReachedLaws.{worked, rowsBy, pass-seen, made-cases}
+use Rattle.run_machine.specs.Machine.{Course, State}
+use Rattle.run_machine.specs.Nested.{onePass, oneOpening, oneIteration, Due, Bounded}
+use Rattle.run_machine.proofs.PassLaws.{pass-ended}
+use Rattle.run_machine.proofs.IterationLaws.{Place, place-opening, place-pass}
+use Rattle.run_parts.specs.Reached.{Worked, seen, halted, afterPass, PassReady}
+use Rattle.run_parts.specs.declared.Reached.{Reached}
+use Rattle.run_parts.proofs.ReachedLaws.{worked, rowsBy, pass-seen, made-cases}
 use Rattle.fluvial_loop.specs.Loops.{courseBy, passedBy, slidBy, Places, Slides}
 use Rattle.fluvial_loop.specs.declared.FluvialPlan.{FluvialPlan}
 

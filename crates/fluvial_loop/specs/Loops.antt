@@ -3,14 +3,14 @@ use Prim.Native.Nat.{ℕ, suc, _+_, _*_, _^_, _≤_, _<_}
 use mathlib.Core.Path.{_≡_}
 use mathlib.Core.Bool.{cond}
 use lib.Dec.{eqb}
-use Rattle.lists.specs.Loops.{turns}
+use Rattle.loops.specs.Loops.{turns}
 use Rattle.thermal_erosion.specs.SlidePass.{rowsOf}
-use Rattle.runs.specs.Plan.{Plan}
-use Rattle.runs.specs.Machine.{Course}
-use Rattle.runs.specs.Run.{ours, fluvialCourse}
-use Rattle.runs.specs.Nested.{Bounded}
-use Rattle.erosion.specs.Reached.{Worked, afterPass}
-use Rattle.erosion.specs.declared.Reached.{Reached}
+use Rattle.run_machine.specs.Plan.{Plan}
+use Rattle.run_machine.specs.Machine.{Course}
+use Rattle.run_machine.specs.Run.{ours, fluvialCourse}
+use Rattle.run_machine.specs.Nested.{Bounded}
+use Rattle.run_parts.specs.Reached.{Worked, afterPass}
+use Rattle.run_parts.specs.declared.Reached.{Reached}
 use Rattle.fluvial_loop.specs.declared.FluvialPlan.{FluvialPlan}
 
 abbrev pub planOf : FluvialPlan → Plan
@@ -20,7 +20,7 @@ planOf p = record { iterations = p .iterations; passes = p .passes; cuts = p .cu
 abbrev pub courseBy : ℕ → ℕ → FluvialPlan → ℕ → Course
 courseBy w h p stop = fluvialCourse w h (planOf p) stop ours
 
--- pass q of iteration it, where the run has not ended
+-- the map and the run after pass q of iteration it; a run that has ended stays as it is
 abbrev pub passedBy : Course → ℕ → ℕ → Worked → Worked
 passedBy c it q x =
     cond (eqb (x .reached .number) 0)
@@ -28,19 +28,19 @@ passedBy c it q x =
     (rowsOf (c .w) (c .h) (c .thresholds) (c .strength) (c .water) (x .heights) (c .begins it q) (c .begins it (suc q)) (c .stop) (c .h) (x .reached .marks)))
     x
 
--- n passes of iteration it
+-- the map and the run after the first n passes of iteration it
 unfoldable pub slidBy : Course → ℕ → ℕ → Worked → Worked
 unfolding turns
 slidBy c it n x = turns n (passedBy c it) x
 
--- counts that are exact in binary32
+-- the numbers it and pass and the counts of the plan are at most 32,768, so that they are exact in binary32
 pub record Places (p : FluvialPlan) (it pass : ℕ) : Type 0 where
   pub iteration : it ≤ 32768
   pub passed : pass ≤ 32768
   pub iterations : p .iterations ≤ 32768
   pub passes : p .passes ≤ 32768
 
--- what the passes of an iteration ask of the lengths of the map and its copy, and of the counts before them
+-- what the passes of an iteration require of the lengths of the map and its copy, and of the counts before them
 pub record Slides (c : Course) (it map copy : ℕ) (r : Reached) : Type 0 where
   pub bounded : Bounded c
   pub due : it < c .iterations

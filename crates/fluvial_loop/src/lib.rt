@@ -1,22 +1,22 @@
 // The loops of gen_fluvial_erosion on its working grid: iterations, each an opening and then its talus passes.
 use drainage::Land;
-use erosion::Reached;
-use erosion::begun;
-use erosion::run_pass;
 use fluvial_erosion::FluvialParams;
+use fluvial_opening::open_iteration;
 use grid::Sides;
-use incision_step::open_iteration;
+use run_parts::Reached;
+use run_parts::begun;
+use run_parts::run_pass;
 use talus::thresholds;
 use thermal_erosion::ThermalParams;
 ghost use mathlib.Core.Path.{_≡_};
 ghost use Prim.Native.Nat.{_*_};
 ghost use lib.ListN.{length};
 ghost use Rattle.grid.specs.Base.{allOpen};
-ghost use Rattle.flood.specs.Slices.{Accepted};
+ghost use Rattle.flood.specs.Slices.{AcceptedGrid};
 ghost use Rattle.flow.specs.Route.{lentOf, Enough};
-ghost use Rattle.runs.specs.Run.{fluvialBegins};
-ghost use Rattle.runs.specs.Nested.{nested, Bounded};
-ghost use Rattle.erosion.specs.Reached.{Worked, seen};
+ghost use Rattle.run_machine.specs.Run.{fluvialBegins};
+ghost use Rattle.run_machine.specs.Nested.{nested, Bounded};
+ghost use Rattle.run_parts.specs.Reached.{Worked, seen};
 ghost use Rattle.fluvial_loop.specs.Loops.{courseBy, slidBy, Places, Slides};
 
 // What a fluvial run does on its working grid.
@@ -36,7 +36,8 @@ fn pass_begins(plan: FluvialPlan, it: usize, pass: usize) -> f32
     (it as f32 + 0.5 + 0.5 * pass as f32 / plan.passes as f32) / plan.iterations as f32
 }
 
-// The talus passes of an iteration; a run that has ended does none.
+// Runs the talus passes of an iteration until 21 or 22 ends the run; a run that has ended does none. Returns what the
+// run has reached.
 fn talus_passes(
     size: Sides,
     hmap: &mut [f32],
@@ -47,7 +48,9 @@ fn talus_passes(
     reached: Reached,
 ) -> Reached
     requires { ⌜ Slides (courseBy (size .w) (size .h) plan stop) it (length (now hmap)) (length (now copy)) reached ⌝ }
-    ensures { λ e. ⌜ _≡_ {A = Worked} (record { heights = now (hmap .exit); reached = e }) (slidBy (courseBy (size .w) (size .h) plan stop) it (plan .passes) (record { heights = now (hmap .entry); reached = reached })) ⌝ }
+    ensures { λ e. ⌜ _≡_ {A = Worked} (record { heights = now (hmap .exit); reached = e }) (slidBy
+        (courseBy (size .w) (size .h) plan stop) it (plan .passes)
+        (record { heights = now (hmap .entry); reached = reached })) ⌝ }
 {
     let ts = thresholds(plan.slides.threshold, plan.land.distances);
     let passes = plan.passes;
@@ -65,7 +68,8 @@ fn talus_passes(
     r
 }
 
-// The iterations of a run on its working grid, until one of them is ended by 21 or 22. All slices after stop are scratch.
+// Runs the iterations on the working grid until 21 or 22 ends the run. Returns what the run has reached. All slices
+// after stop are scratch.
 pub fn run_iterations(
     size: Sides,
     hmap: &mut [f32],
@@ -79,10 +83,12 @@ pub fn run_iterations(
     status: &mut [u8],
 ) -> Reached
     requires { ⌜ Bounded (courseBy (size .w) (size .h) plan stop) ⌝ }
-    requires { ⌜ Accepted (size .w) (size .h) (now hmap) ⌝ }
-    requires { ⌜ Enough (size .w * size .h) (lentOf (now hmap) (now order) (now recv) (now copy) (now area) (now queue) (now status)) ⌝ }
+    requires { ⌜ AcceptedGrid (size .w) (size .h) (now hmap) ⌝ }
+    requires { ⌜ Enough (size .w * size .h)
+        (lentOf (now hmap) (now order) (now recv) (now copy) (now area) (now queue) (now status)) ⌝ }
     requires { ⌜ plan .land .sides ≡ allOpen ⌝ }
-    ensures { λ e. ⌜ _≡_ {A = Worked} (record { heights = now (hmap .exit); reached = e }) (seen (nested (courseBy (size .w) (size .h) plan stop) (now (hmap .entry)))) ⌝ }
+    ensures { λ e. ⌜ _≡_ {A = Worked} (record { heights = now (hmap .exit); reached = e })
+        (seen (nested (courseBy (size .w) (size .h) plan stop) (now (hmap .entry)))) ⌝ }
 {
     let iterations = plan.iterations;
     let mut r = begun();

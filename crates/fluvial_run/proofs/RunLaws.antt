@@ -15,24 +15,25 @@ use Rattle.grid.specs.Sides.{InRange}
 use Rattle.grid.specs.declared.Sides.{Sides}
 use Rattle.resample.specs.WorkSize.{Within, workSize}
 use Rattle.upsample.specs.Samples.{asSource}
-use Rattle.runs.specs.Plan.{Plan, fluvialPlan}
-use Rattle.runs.specs.Machine.{Course}
-use Rattle.runs.specs.Run.{ours, fluvialCourse, runOn, runBy}
-use Rattle.runs.specs.Refusals.{badFluvial}
-use Rattle.runs.specs.Nested.{Bounded}
-use Rattle.runs.specs.declared.FluvialSettings.{FluvialSettings}
-use Rattle.runs.proofs.BoundLaws.{fluvial-bounded}
-use Rattle.plans.specs.Accepted as Input
-use Rattle.plans.specs.Accepted.{refusalOn}
-use Rattle.plans.proofs.RefusalLaws.{accepted-by}
-use Rattle.plans.proofs.InputLaws.{within-range, within-cells, decided-by, accepted-within, fluvial-iterations}
-use Rattle.erosion.specs.Reached.{wholeRun}
-use Rattle.erosion.specs.Ending.{refusedTo, Answered}
-use Rattle.erosion.specs.declared.Reached.{Reached}
-use Rattle.erosion.specs.declared.RunAnswer.{RunAnswer}
-use Rattle.erosion.proofs.ReachedLaws.{worked}
-use Rattle.erosion.proofs.EndingLaws.{ending-refused, ending-ran, done-accepts, done-keeps}
-use Rattle.erosion.proofs.WholeLaws.{whole-run}
+use Rattle.run_machine.specs.Plan.{Plan, fluvialPlan}
+use Rattle.run_machine.specs.Machine.{Course}
+use Rattle.run_machine.specs.Run.{ours, fluvialCourse, runOn, runBy}
+use Rattle.run_settings.specs.Refusals.{badFluvial}
+use Rattle.run_machine.specs.Nested.{Bounded}
+use Rattle.run_settings.specs.declared.FluvialSettings.{FluvialSettings}
+use Rattle.run_machine.proofs.BoundLaws.{fluvial-bounded}
+use Rattle.run_settings.specs.Accepted as Input
+use Rattle.run_settings.specs.Accepted.{refusalOn}
+use Rattle.run_settings.proofs.RefusalLaws.{accepted-by}
+use Rattle.run_plans.proofs.InputLaws.{within-range, within-cells, accepted-within}
+use Rattle.run_settings.proofs.RefusalLaws.{decided-by, fluvial-iterations}
+use Rattle.run_parts.specs.Reached.{wholeRun}
+use Rattle.run_parts.specs.Ending.{refusedTo, Answered}
+use Rattle.run_parts.specs.declared.Reached.{Reached}
+use Rattle.answers.specs.declared.RunAnswer.{RunAnswer}
+use Rattle.run_parts.proofs.ReachedLaws.{worked}
+use Rattle.run_parts.proofs.EndingLaws.{ending-refused, ending-ran, done-accepts, done-keeps}
+use Rattle.run_parts.proofs.WholeLaws.{whole-run}
 use Rattle.fluvial_loop.specs.Loops.{planOf, courseBy}
 use Rattle.fluvial_loop.specs.declared.FluvialPlan.{FluvialPlan}
 use Rattle.fluvial_grid.specs.Grids.{scratchOf, Erodes}
@@ -93,7 +94,7 @@ module _ (w h : ℕ) (conf : FluvialSettings) (stop : ℕ) (map small eroded cop
   }
 
   module _ {early : Answer} (f : answerOf early ≡ outcome) (e : early ≡ Answer.Done) where
-    pub run-accepted : Input.Accepted w h (badFluvial conf) map (shortestOf lengths)
+    pub run-accepted : Input.AcceptedRun w h (badFluvial conf) map (shortestOf lengths)
     run-accepted = accepted-by w h (badFluvial conf) map _ (done-accepts f e)
 
     module _ {work : Sides} (g : work ≡ workSize w h (conf .«work_res»)) where

@@ -4,13 +4,13 @@ use mathlib.Core.Path.{_≡_}
 use mathlib.Core.Bool.{false}
 use mathlib.Core.List.{List}
 use lib.Ieee.{Float}
-use Rattle.answers.specs.Outcome.{Outcome}
-use Rattle.runs.specs.Run.{ours, runBy}
-use Rattle.runs.specs.Refusals.{badFluvial}
-use Rattle.runs.specs.declared.FluvialSettings.{FluvialSettings}
-use Rattle.plans.specs.Accepted.{refusalOn}
-use Rattle.erosion.specs.Ending.{endingOf, endedWith, accepted}
-use Rattle.erosion.specs.declared.RunAnswer.{RunAnswer}
+use Rattle.answers.specs.Outcome.{Outcome, given}
+use Rattle.run_machine.specs.Run.{ours, runBy}
+use Rattle.run_settings.specs.Refusals.{badFluvial}
+use Rattle.run_settings.specs.declared.FluvialSettings.{FluvialSettings}
+use Rattle.run_settings.specs.Accepted.{refusalOn}
+use Rattle.run_parts.specs.Ending.{endingOf, endedWith}
+use Rattle.answers.specs.declared.RunAnswer.{RunAnswer}
 use Rattle.fluvial_grid.specs.Grids.{scratchOf}
 use Rattle.fluvial_grid.specs.declared.Scratch.{Scratch}
 
@@ -18,7 +18,7 @@ abbrev pub shortestOf : Scratch → ℕ
 shortestOf s =
     min (min (min (s .small) (s .eroded)) (min (s .copy) (s .area))) (min (min (s .order) (s .recv)) (min (s .queue) (s .status)))
 
--- what is refused of the input, where the shortest scratch slice counts
+-- the refusals of the input; of the scratch slices the shortest is tested
 abbrev pub inputRefusal : ℕ → ℕ → FluvialSettings → List Float → Scratch → Outcome (Unit {0})
 inputRefusal w h conf map s = refusalOn w h (badFluvial conf) map (shortestOf s)
 
@@ -29,11 +29,11 @@ pub record FluvialRun (w h : ℕ) (conf : FluvialSettings) (stop : ℕ) (map sma
   pub ended :
       endedWith r map′
       ≡ endingOf (inputRefusal w h conf map (scratchOf small eroded copy area order recv queue status)) map (runBy w h conf stop ours map)
-  pub small-kept : accepted (inputRefusal w h conf map (scratchOf small eroded copy area order recv queue status)) ≡ false → small′ ≡ small
-  pub eroded-kept : accepted (inputRefusal w h conf map (scratchOf small eroded copy area order recv queue status)) ≡ false → eroded′ ≡ eroded
-  pub copy-kept : accepted (inputRefusal w h conf map (scratchOf small eroded copy area order recv queue status)) ≡ false → copy′ ≡ copy
-  pub area-kept : accepted (inputRefusal w h conf map (scratchOf small eroded copy area order recv queue status)) ≡ false → area′ ≡ area
-  pub order-kept : accepted (inputRefusal w h conf map (scratchOf small eroded copy area order recv queue status)) ≡ false → order′ ≡ order
-  pub recv-kept : accepted (inputRefusal w h conf map (scratchOf small eroded copy area order recv queue status)) ≡ false → recv′ ≡ recv
-  pub queue-kept : accepted (inputRefusal w h conf map (scratchOf small eroded copy area order recv queue status)) ≡ false → queue′ ≡ queue
-  pub status-kept : accepted (inputRefusal w h conf map (scratchOf small eroded copy area order recv queue status)) ≡ false → status′ ≡ status
+  pub small-kept : given (inputRefusal w h conf map (scratchOf small eroded copy area order recv queue status)) ≡ false → small′ ≡ small
+  pub eroded-kept : given (inputRefusal w h conf map (scratchOf small eroded copy area order recv queue status)) ≡ false → eroded′ ≡ eroded
+  pub copy-kept : given (inputRefusal w h conf map (scratchOf small eroded copy area order recv queue status)) ≡ false → copy′ ≡ copy
+  pub area-kept : given (inputRefusal w h conf map (scratchOf small eroded copy area order recv queue status)) ≡ false → area′ ≡ area
+  pub order-kept : given (inputRefusal w h conf map (scratchOf small eroded copy area order recv queue status)) ≡ false → order′ ≡ order
+  pub recv-kept : given (inputRefusal w h conf map (scratchOf small eroded copy area order recv queue status)) ≡ false → recv′ ≡ recv
+  pub queue-kept : given (inputRefusal w h conf map (scratchOf small eroded copy area order recv queue status)) ≡ false → queue′ ≡ queue
+  pub status-kept : given (inputRefusal w h conf map (scratchOf small eroded copy area order recv queue status)) ≡ false → status′ ≡ status

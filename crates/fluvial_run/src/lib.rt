@@ -1,25 +1,25 @@
 // The source's gen_fluvial_erosion: a whole fluvial run, with what it refuses.
 use answers::Answer;
-use erosion::RunAnswer;
-use erosion::answered;
-use erosion::refused;
+use answers::RunAnswer;
 use fluvial_grid::Scratch;
 use fluvial_grid::erode;
 use fluvial_loop::FluvialPlan;
 use grid::Sides;
 use grid::least;
-use plans::bad_fluvial;
-use plans::fluvial_iterations;
-use plans::fluvial_land;
-use plans::fluvial_passes;
-use plans::fluvial_plan;
-use plans::refusal;
-use plans::talus_plan;
 use resample::work_sides;
-use runs::FluvialSettings;
+use run_parts::answered;
+use run_parts::refused;
+use run_plans::fluvial_iterations;
+use run_plans::fluvial_land;
+use run_plans::fluvial_passes;
+use run_plans::fluvial_plan;
+use run_plans::talus_plan;
+use run_settings::FluvialSettings;
+use run_settings::bad_fluvial;
+use run_settings::refusal;
 ghost use mathlib.Core.Path.{_≡_};
 ghost use Prim.Native.Nat.{_≤_};
-ghost use Rattle.runs.specs.Plan.{fluvialPlan};
+ghost use Rattle.run_machine.specs.Plan.{fluvialPlan};
 ghost use Rattle.fluvial_loop.specs.Loops.{planOf};
 ghost use Rattle.fluvial_run.specs.FluvialRun.{shortestOf, FluvialRun};
 
@@ -49,7 +49,8 @@ fn plan_on(work: Sides, conf: FluvialSettings) -> FluvialPlan
     }
 }
 
-// A whole fluvial run of document 01. All slices after stop are scratch: a run takes as much of them as its working grid has cells.
+// A whole fluvial run of document 01. All slices after stop are scratch: a run takes as much of them as its working
+// grid has cells.
 pub fn gen_fluvial_erosion(
     size: Sides,
     hmap: &mut [f32],
@@ -64,7 +65,11 @@ pub fn gen_fluvial_erosion(
     queue: &mut [u32],
     status: &mut [u8],
 ) -> RunAnswer
-    ensures { λ r. ⌜ FluvialRun (size .w) (size .h) conf stop (now (hmap .entry)) (now (small .entry)) (now (eroded .entry)) (now (copy .entry)) (now (area .entry)) (now (order .entry)) (now (recv .entry)) (now (queue .entry)) (now (status .entry)) r (now (hmap .exit)) (now (small .exit)) (now (eroded .exit)) (now (copy .exit)) (now (area .exit)) (now (order .exit)) (now (recv .exit)) (now (queue .exit)) (now (status .exit)) ⌝ }
+    ensures { λ r. ⌜ FluvialRun (size .w) (size .h) conf stop (now (hmap .entry)) (now (small .entry))
+        (now (eroded .entry)) (now (copy .entry)) (now (area .entry)) (now (order .entry)) (now (recv .entry))
+        (now (queue .entry)) (now (status .entry)) r (now (hmap .exit)) (now (small .exit)) (now (eroded .exit))
+        (now (copy .exit)) (now (area .exit)) (now (order .exit)) (now (recv .exit)) (now (queue .exit))
+        (now (status .exit)) ⌝ }
 {
     let scratch = Scratch {
         small: small.len(),

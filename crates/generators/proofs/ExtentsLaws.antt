@@ -9,9 +9,9 @@ use lib.ListN.{length, getD, take, length-map, List·getD-map}
 use lib.Seq.{take-all, take-suc}
 use lib.Ieee.{Float, nan, binary32, ofBits}
 use lib.Ieee.Scale.{finite}
-use Rattle.lists.specs.Loops.{tabulate}
-use Rattle.lists.proofs.TableLaws.{tabulate-same, tabulate-getD}
-use Rattle.lists.proofs.FillLaws.{Filling, filling-next, filling-done}
+use Rattle.loops.specs.Loops.{tabulate}
+use Rattle.loops.proofs.TableLaws.{tabulate-same, tabulate-getD}
+use Rattle.loops.proofs.FillLaws.{Filling, filling-next, filling-done}
 use Rattle.grid.specs.Heights.{allFinite, FiniteBelow, FirstBad}
 use Rattle.grid.proofs.HeightsLaws.{below-none, below-more, below-less, below-all, first-at, not-all-finite}
 use Rattle.generators.specs.declared.MinMax.{MinMax}

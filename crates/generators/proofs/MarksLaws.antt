@@ -7,7 +7,7 @@ use native.Mathlib.Omega.{arith}
 use borrow.Author.Tests.{ltb-false}
 use lib.Dec.{eqb}
 use lib.Ieee.{Float, binary32, ofBits, neg}
-use Rattle.lists.proofs.TestLaws.{fourth}
+use Rattle.loops.proofs.TestLaws.{fourth}
 use Rattle.answers.specs.Outcome.{gives, outsideOf}
 use Rattle.answers.specs.declared.Refusal.{Refusal}
 use Rattle.generators.specs.declared.Progress.{Progress}

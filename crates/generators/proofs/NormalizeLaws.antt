@@ -24,13 +24,13 @@ module _ (v : List Float) (lo hi : Float) where
       record { answer = rw (b, f) (ap (refusedAt 5) e); heights = rw (b, f) }
 
   -- past refusals 4 and 5, with the extent m and the slope k
-  pub record Accepted (m : MinMax) (k : Float) : Type 0 where
+  pub record NormalizeAccepted (m : MinMax) (k : Float) : Type 0 where
     pub targets : badTargets lo hi ≡ false
     pub finites : allFinite v ≡ true
     pub extent : m ≡ minMaxOf v
     pub slope : k ≡ slopeOf m lo hi
 
-  module _ (m : MinMax) (k : Float) (a : Accepted m k) where
+  module _ (m : MinMax) (k : Float) (a : NormalizeAccepted m k) where
     scaled-result : map (scaledBy (m .min) lo k) v ≡ normalizedOf v lo hi
     unfolding normalizedOf
     scaled-result =

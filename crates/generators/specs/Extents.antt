@@ -4,13 +4,13 @@ use mathlib.Core.Bool.{Bool, not, _||_, cond}
 use mathlib.Core.List.{List, [], _∷_, map}
 use lib.Ieee.{Float, binary32, ofBits, add, sub, mul, div, lt, eq}
 use lib.Ieee.Scale.{finite}
-use Rattle.answers.specs.Outcome.{Outcome, gives, refused, refusedAt, refusalOf, answerOf}
+use Rattle.answers.specs.Outcome.{Outcome, gives, refused, refusedAt, refusalOf, given, answerOf}
 use Rattle.answers.specs.declared.Answer.{Answer}
 use Rattle.grid.specs.Heights.{firstNotFinite, allFinite}
 use Rattle.generators.specs.declared.MinMax.{MinMax}
 use Rattle.generators.specs.declared.Extent.{Extent}
 
--- one value more: above max it becomes max, else below min it becomes min
+-- min and max with the value x added: above max it becomes max, else below min it becomes min
 abbrev pub widened : MinMax → Float → MinMax
 widened m x = cond (lt (m .max) x) (record { min = m .min; max = x }) (cond (lt x (m .min)) (record { min = x; max = m .max }) m)
 
@@ -18,7 +18,7 @@ unfoldable pub widenedBy : MinMax → List Float → MinMax
 widenedBy m [] = m
 widenedBy m (x ∷ xs) = widenedBy (widened m x) xs
 
--- (min, max) of a map, from its first value on; +0 and +0 for an empty one
+-- (min, max) of a map, starting with its first value; +0 and +0 for an empty one
 unfoldable pub minMaxOf : List Float → MinMax
 unfolding widenedBy
 minMaxOf [] = record { min = ofBits binary32 0; max = ofBits binary32 0 }
@@ -28,7 +28,7 @@ abbrev pub extentOf : Extent → Outcome MinMax
 extentOf (Extent.Of m) = gives m
 extentOf (Extent.Refused r) = refusalOf r
 
--- 5: a height not finite
+-- the answer of `get_min_max`: (min, max), or 5 with the first height that is not finite
 abbrev pub getMinMaxAnswer : List Float → Outcome MinMax
 getMinMaxAnswer v = cond (allFinite v) (gives (minMaxOf v)) (refusedAt 5 (firstNotFinite v))
 
@@ -51,7 +51,7 @@ normalizedOf v lo hi = map (normalizedAt (minMaxOf v) lo hi) v
 abbrev pub badTargets : Float → Float → Bool
 badTargets lo hi = not (finite lo) || not (finite hi)
 
--- 4: a target not finite; 5: a height not finite; 22: a value of the result not finite
+-- the answer of `normalize`: 4: a target not finite; 5: a height not finite; 22: a value of the result not finite
 abbrev pub normalizeAnswer : List Float → Float → Float → Outcome (Unit {0})
 normalizeAnswer v lo hi =
     cond (badTargets lo hi) (refused 4)
@@ -59,10 +59,9 @@ normalizeAnswer v lo hi =
 
 -- what the slice holds at the end: the result, or on any refusal what it held
 abbrev pub normalizeHeights : List Float → Float → Float → List Float
-normalizeHeights v lo hi =
-    cond (badTargets lo hi) v (cond (allFinite v) (cond (allFinite (normalizedOf v lo hi)) (normalizedOf v lo hi) v) v)
+normalizeHeights v lo hi = cond (given (normalizeAnswer v lo hi)) (normalizedOf v lo hi) v
 
--- what `normalize` promises of its answer and of the slice after it
+-- r is the answer of `normalize` for v and the targets lo and hi, and `after` is what the slice holds at the end
 pub record NormalizeMade (v : List Float) (lo hi : Float) (r : Answer) (after : List Float) : Type 0 where
   pub answer : answerOf r ≡ normalizeAnswer v lo hi
   pub heights : after ≡ normalizeHeights v lo hi

@@ -34,15 +34,15 @@ goOf Go.On = gives true
 goOf Go.Stop = gives false
 goOf (Go.Refused r) = refusalOf r
 
--- what the call answers: whether to go on
+-- the answer of a report: whether to go on, or 4
 abbrev pub reportAnswer : Progress → Float → ℕ → Outcome Bool
 reportAnswer m p s = cond (badReport m p) (refused 4) (gives (not (reportOf m p s .stopped)))
 
--- and the record that it hands back, on a refusal as given
+-- the record that a report hands back; on a refusal it is m as given
 abbrev pub reportRecord : Progress → Float → ℕ → Progress
 reportRecord m p s = cond (badReport m p) m (reportOf m p s)
 
--- what a report promises of its result
+-- r holds the answer and the record of a report of p, from the record m under the stop number s
 pub record ReportMade (m : Progress) (p : Float) (s : ℕ) (r : Reported) : Type 0 where
   pub answer : goOf (r .go) ≡ reportAnswer m p s
   pub handed : r .progress ≡ reportRecord m p s

@@ -1,4 +1,5 @@
-// The parts of the source's mod.rs that the erosion uses: the progress record with its stop marks, `get_min_max` and `normalize`.
+// The parts of the source's mod.rs that the erosion uses: the progress record with its stop marks, `get_min_max` and
+// `normalize`.
 use answers::Answer;
 use answers::Refusal;
 use answers::outside;
@@ -11,7 +12,8 @@ ghost use mathlib.Core.Bool.{not};
 ghost use mathlib.Core.List.{map};
 ghost use Rattle.grid.specs.Heights.{allFinite};
 ghost use Rattle.generators.specs.Marks.{badReport, reportOf, ReportMade};
-ghost use Rattle.generators.specs.Extents.{widened, minMaxOf, extentOf, getMinMaxAnswer, slopeOf, scaledBy, badTargets, NormalizeMade};
+ghost use Rattle.generators.specs.Extents.{widened, minMaxOf, extentOf, getMinMaxAnswer, slopeOf, scaledBy};
+ghost use Rattle.generators.specs.Extents.{badTargets, NormalizeMade};
 
 // Document 01's record of the stop marks: the last p asked at, the questions asked, and whether one got yes.
 pub struct Progress {
@@ -27,7 +29,7 @@ pub enum Go {
     Refused(Refusal),
 }
 
-// A report hands the record back with its answer.
+// What a report returns: its answer, and the record after it.
 pub struct Reported {
     pub go: Go,
     pub progress: Progress,
@@ -58,8 +60,8 @@ pub fn bad_report(m: Progress, p: f32) -> bool
 }
 
 impl Progress {
-    // A report without the test of its ranges, for passes and runs: a question if p is far enough from the last one,
-    // and yes if it is the stop-th.
+    // A report without the range tests of refusal 4, for passes and runs. Returns the record after it: a question is
+    // asked if p - last ≥ 0.01, and the stop-th question gets yes; a stopped record asks none.
     pub fn ask(self, p: f32, stop: u32) -> Progress
         requires { ⌜ self .asked < 2 ^ 32 - 1 ⌝ }
         ensures { λ r. ⌜ r ≡ reportOf self p stop ⌝ }
@@ -79,7 +81,8 @@ impl Progress {
         self
     }
 
-    // Reports p: whether to go on, and the record after it. The stop-th question asked gets yes; 0 means never.
+    // Reports p. Returns whether to go on, and the record after the report; on refusal 4 the record as given. The
+    // stop-th question asked gets yes; 0 means never.
     pub fn report(self, p: f32, stop: u32) -> Reported
         ensures { λ r. ⌜ ReportMade self p stop r ⌝ }
     {
@@ -109,13 +112,13 @@ pub struct MinMax {
     pub max: f32,
 }
 
-// The answer of `get_min_max`.
+// The answer of `get_min_max`: the least and the greatest value, or the refusal.
 pub enum Extent {
     Of(MinMax),
     Refused(Refusal),
 }
 
-// One value more: above max it becomes max, else below min it becomes min.
+// Min and max with the value x added: above max it becomes max, else below min it becomes min.
 fn widen(m: MinMax, x: f32) -> MinMax
     ensures { λ r. ⌜ r ≡ widened m x ⌝ }
 {
@@ -128,7 +131,7 @@ fn widen(m: MinMax, x: f32) -> MinMax
     m
 }
 
-// (min, max) of any values, from the first on; (0, 0) of none.
+// (min, max) of the values, starting with the first; (0, 0) of an empty slice.
 fn min_max(v: &[f32]) -> MinMax
     ensures { λ r. ⌜ r ≡ minMaxOf (now (v .entry)) ⌝ }
 {
@@ -149,7 +152,7 @@ fn min_max(v: &[f32]) -> MinMax
     m
 }
 
-// (min, max) of a map of any length.
+// (min, max) of a map of any length, or refusal 5 with the first height that is not finite.
 pub fn get_min_max(v: &[f32]) -> Extent
     ensures { λ r. ⌜ extentOf r ≡ getMinMaxAnswer (now (v .entry)) ⌝ }
 {
@@ -161,7 +164,7 @@ pub fn get_min_max(v: &[f32]) -> Extent
     Extent::Of(min_max(v))
 }
 
-// What a difference of heights is multiplied by: 0 where min and max are equal.
+// The factor of `normalize`: (hi - lo) / (max - min), or 0 where min and max are equal.
 fn slope(m: MinMax, lo: f32, hi: f32) -> f32
     ensures { λ r. ⌜ r ≡ slopeOf m lo hi ⌝ }
 {
@@ -215,7 +218,8 @@ fn bad_targets(lo: f32, hi: f32) -> bool
     true
 }
 
-// Stretches a map of any length to target_min … target_max. On a refusal the slice is as it came: every result is tested before the first is stored.
+// Scales a map of any length to target_min … target_max. On a refusal the slice is as it came: every result is tested
+// before the first is stored.
 pub fn normalize(v: &mut [f32], target_min: f32, target_max: f32) -> Answer
     ensures { λ r. ⌜ NormalizeMade (now (v .entry)) «target_min» «target_max» r (now (v .exit)) ⌝ }
 {

@@ -10,9 +10,9 @@ use lib.Dec.{eqb, eqb·suc-suc, eqb·zero-suc}
 use lib.Ieee.{Float, nan}
 use lib.Ieee.Scale.{finite}
 use borrow.Author.Tests.{eq-eqb, ne-eqb, eqb-true}
-use Rattle.lists.specs.Loops.{tabulate}
-use Rattle.lists.proofs.LoopLaws.{at-end, below-suc}
-use Rattle.lists.proofs.TableLaws.{tabulate-getD}
+use Rattle.loops.specs.Loops.{tabulate}
+use Rattle.loops.proofs.LoopLaws.{at-end, below-suc}
+use Rattle.loops.proofs.TableLaws.{tabulate-getD}
 use Rattle.grid.specs.Heights.{firstNotFinite, allFinite, FiniteBelow, FirstBad}
 
 pub below-none : (hs : List Float) (n : ℕ) → n ≤ 0 → FiniteBelow hs n

@@ -11,7 +11,7 @@ use mir.Syntax.{w32}
 use mir.Val.{ofZ, toZ}
 use lib.Dec.{ltb}
 use borrow.Author.Tests.{lt-ltb, le-ltb, ltb-true}
-use Rattle.lists.proofs.TestLaws.{clash, not-second}
+use Rattle.loops.proofs.TestLaws.{clash, not-second}
 use Rattle.grid.specs.Sides.{cellOf, columnOf, rowOf}
 use Rattle.grid.specs.Directions.{dirX, dirY, Step, shiftedOf, steppedOf, neighbourOf, neighbourAt}
 use Rattle.grid.specs.Joined.{Mutual, Apart}
@@ -151,8 +151,8 @@ pub record Beside (w h x y d nx ny : ℕ) : Type 0 where
   pub columns : nx < w
   pub rows : ny < h
 
-pub beside : {w h x y d nx ny : ℕ} → Beside w h x y d nx ny → neighbourOf w h x y d ≡ cellOf w nx ny
-beside {w} {h} {x} {y} {d} {nx} {ny} b = by-step w h x y d ∙ within w h x y (stepX d) (stepY d) nx (b .column) ny (b .row) (b .columns) (b .rows)
+pub neighbour-beside : {w h x y d nx ny : ℕ} → Beside w h x y d nx ny → neighbourOf w h x y d ≡ cellOf w nx ny
+neighbour-beside {w} {h} {x} {y} {d} {nx} {ny} b = by-step w h x y d ∙ within w h x y (stepX d) (stepY d) nx (b .column) ny (b .row) (b .columns) (b .rows)
 
 -- a neighbour lies outside the grid, or beside
 pub outside-or-beside : (w h x y d : ℕ) → (neighbourOf w h x y d ≡ w * h) ⊎ Beside w h x y d (shiftedOf x (stepX d) w) (shiftedOf y (stepY d) h)
@@ -180,7 +180,7 @@ inside-beside w h a b d l e = go (outside-or-beside w h (columnOf w a) (rowOf w 
     go : {nx ny : ℕ} → (neighbourAt w h a d ≡ w * h) ⊎ Beside w h (columnOf w a) (rowOf w a) d nx ny → Beside w h (columnOf w a) (rowOf w a) d (columnOf w b) (rowOf w b)
     go (inl o) = absurd (omega arith)
     go {nx} {ny} (inr s) =
-        let same : b ≡ cellOf w nx ny = sym e ∙ beside s in
+        let same : b ≡ cellOf w nx ny = sym e ∙ neighbour-beside s in
         let column : columnOf w b ≡ nx = ap (columnOf w) same ∙ column-cell w nx ny (s .columns) in
         let row : rowOf w b ≡ ny = ap (rowOf w) same ∙ row-cell w nx ny (s .columns) in
         rw (column, row) s
@@ -210,7 +210,7 @@ adjacent-back w h a b l s =
       first = omega arith;
       last = omega arith;
       inside = l;
-      leads = beside (back-beside w h a d (s .first) (s .last) l b (s .inside) (s .leads)) ∙ cell-back w a;
+      leads = neighbour-beside (back-beside w h a d (s .first) (s .last) l b (s .inside) (s .leads)) ∙ cell-back w a;
     }
 
 pub adjacent-apart : (w h : ℕ) → Apart w h

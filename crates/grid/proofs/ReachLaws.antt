@@ -9,7 +9,7 @@ use Rattle.grid.specs.Directions.{shiftedOf, Adjacent, Reaches}
 use Rattle.grid.specs.Directions.Reaches.{here, step}
 use Rattle.grid.specs.Joined.{Connected, Spreads}
 use Rattle.grid.proofs.SidesLaws.{cell-lt, column-cell, row-cell, column-lt, row-lt, cell-back, some-column}
-use Rattle.grid.proofs.NeighbourLaws.{Beside, beside, shift-ahead, adjacent-back}
+use Rattle.grid.proofs.NeighbourLaws.{Beside, neighbour-beside, shift-ahead, adjacent-back}
 
 module _ {w h : ℕ} where
   pub join : {a b c : ℕ} → Reaches w h a b → Reaches w h b c → Reaches w h a c
@@ -40,7 +40,7 @@ module _ (w h : ℕ) where
         first = lo;
         last = hi;
         inside = cell-lt w nx ny (b .columns) h (b .rows);
-        leads = rw (column-cell w x y hx, row-cell w x y hx) (beside b);
+        leads = rw (column-cell w x y hx, row-cell w x y hx) (neighbour-beside b);
       }
 
   to-east : (x y : ℕ) → suc x < w → y < h → Adjacent w h (cellOf w x y) (cellOf w (suc x) y)

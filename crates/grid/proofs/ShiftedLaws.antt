@@ -14,7 +14,7 @@ use borrow.Author.Tests.{ltb-true, ltb-false, lt-ltb, le-ltb}
 use mir.Syntax.{w32, w64}
 use mir.Val.{Fits, SFits, ofZ, toZ}
 use mir.ValLaws.{toZ-ofZ, toZ-pos}
-use Rattle.grid.specs.Directions.{Steps, shiftedOf}
+use Rattle.grid.specs.Directions.{AlongSide, shiftedOf}
 
 -- a sum of two signs is no further from 0 than its parts
 mag-sum : (x : ℕ) (d : ℤ) → x < 4096 → natAbs d ≤ 1 → mag (pos x +ℤ d) < 2 ^ 31
@@ -53,7 +53,7 @@ held-sum x (negsuc k) side h = go (ltb k x) refl
         let x≤ : x ≤ k = ltb-false k x e in
         rw (lt-ltb x (suc k) (omega arith))
 
-module _ {x : ℕ} {d : ℤ} {side : ℕ} (p : Steps x d side) where
+module _ {x : ℕ} {d : ℤ} {side : ℕ} (p : AlongSide x d side) where
   sum-is : sumOf x d ≡ pos x +ℤ d
   sum-is = rw (toZ-pos w32 x (omega arith), toZ-ofZ w32 d (small d (p .small)))
 
@@ -100,7 +100,7 @@ module _ (z : ℤ) (s : natAbs z ≤ 1) where
   pub read-small : toZ w32 (ofZ w32 z) ≡ z
   read-small = toZ-ofZ w32 z (small z s)
 
-  pub read-steps : (x side : ℕ) → x < side → side ≤ 4096 → Steps x (toZ w32 (ofZ w32 z)) side
+  pub read-steps : (x side : ℕ) → x < side → side ≤ 4096 → AlongSide x (toZ w32 (ofZ w32 z)) side
   read-steps x side h k = record { inside = h; bound = k; small = rw read-small s }
 
   pub read-shifts : (x side : ℕ) {r : ℕ} → r ≡ shiftedOf x (toZ w32 (ofZ w32 z)) side → shiftedOf x z side ≡ r

@@ -10,7 +10,7 @@ use lib.Dec.{eqb, ltb}
 use borrow.Author.Tests.{eqb-false, ltb-false, ne-eqb, le-ltb}
 use mir.Syntax.{w64}
 use mir.Val.{Fits}
-use Rattle.lists.proofs.TestLaws.{neither}
+use Rattle.loops.proofs.TestLaws.{neither}
 use Rattle.grid.specs.Sides.{cellOf, columnOf, rowOf, Coordinates, badSide, badSides, InRange}
 use Rattle.grid.specs.Directions.{Place}
 

@@ -17,7 +17,7 @@ onBorder w h x y = eqb x 0 || eqb y 0 || eqb x (w - 1) || eqb y (h - 1)
 abbrev pub borderAt : ℕ → ℕ → ℕ → Bool
 borderAt w h c = onBorder w h (columnOf w c) (rowOf w c)
 
--- x is the first of `side` places, where the first is open, or the last of them, where the last is
+-- x is an open end of a side: place 0 if `first` is open, place side - 1 if `last` is
 abbrev pub openEnd : Bool → Bool → ℕ → ℕ → Bool
 openEnd first last side x = (first && eqb x 0) || (last && eqb x (side - 1))
 
@@ -25,11 +25,11 @@ openEnd first last side x = (first && eqb x 0) || (last && eqb x (side - 1))
 abbrev pub onOpen : OpenSides → ℕ → ℕ → ℕ → ℕ → Bool
 onOpen o w h x y = openEnd (o .west) (o .east) w x || openEnd (o .north) (o .south) h y
 
--- base level, of column x, row y with a height
+-- column x, row y with this height is base level
 abbrev pub baseAt : ℕ → ℕ → OpenSides → Float → ℕ → ℕ → Float → Bool
 baseAt w h o water x y height = onOpen o w h x y || le height water
 
--- base level, of a cell of a map with heights hs
+-- cell c of a map with heights hs is base level
 abbrev pub baseOn : ℕ → ℕ → OpenSides → Float → List Float → ℕ → Bool
 baseOn w h o water hs c = baseAt w h o water (columnOf w c) (rowOf w c) (getD hs c nan)
 
@@ -40,7 +40,7 @@ allOpen = record { north = true; east = true; south = true; west = true }
 abbrev pub AllOpen : Type 0
 AllOpen = (w h : ℕ) (water : Float) (hs : List Float) (c : ℕ) → baseOn w h allOpen water hs c ≡ (borderAt w h c || le (getD hs c nan) water)
 
--- each side alone
+-- only the named side is open
 abbrev pub onlyNorth : OpenSides
 onlyNorth = record { north = true; east = false; south = false; west = false }
 

@@ -19,8 +19,8 @@ abbrev pub shiftedOf : ℕ → ℤ → ℕ → ℕ
 shiftedOf x (pos k) side = cond (ltb (x + k) side) (x + k) side
 shiftedOf x (negsuc k) side = cond (ltb k x) (x - suc k) side
 
--- what moving along a side asks: a place on a side of at most 4,096, and at most one step
-pub record Steps (x : ℕ) (d : ℤ) (side : ℕ) : Type 0 where
+-- x is a place on a side of at most 4,096, and d is a step of at most 1
+pub record AlongSide (x : ℕ) (d : ℤ) (side : ℕ) : Type 0 where
   pub inside : x < side
   pub bound : side ≤ 4096
   pub small : natAbs d ≤ 1

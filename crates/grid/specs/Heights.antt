@@ -1,4 +1,5 @@
--- 'All heights are finite', for refusal 5 and for every 22 but `bilinear`'s: one definition over the list of heights.
+-- 'All heights are finite': one definition over the list of heights, for refusal 5 and for every refusal 22 but that of
+-- `bilinear`.
 use Prim.Native.Nat.{ℕ, suc, _<_}
 use mathlib.Core.Path.{_≡_}
 use mathlib.Core.Bool.{Bool, true, false, cond}

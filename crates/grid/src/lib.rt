@@ -1,4 +1,5 @@
-// The grid that every call works on: sides, cells, the eight neighbours, base level, the first height that is not finite, and a copy of heights.
+// The grid that every call works on: sides, cells, the eight neighbours, base level, the first height that is not
+// finite, and a copy of heights.
 use floats::is_finite;
 ghost use mathlib.Core.Path.{_≡_};
 ghost use mathlib.Core.Bool.{_&&_, _||_};
@@ -6,7 +7,7 @@ ghost use Prim.Native.Nat.{_-_, _*_, _<_, max, min};
 ghost use lib.Dec.{eqb};
 ghost use lib.ListN.{length};
 ghost use Rattle.grid.specs.Sides.{badSide, badSides};
-ghost use Rattle.grid.specs.Directions.{Steps, Place, Step, shiftedOf, steppedOf};
+ghost use Rattle.grid.specs.Directions.{AlongSide, Place, Step, shiftedOf, steppedOf};
 ghost use Rattle.grid.specs.Base.{openEnd, baseAt, allOpen};
 ghost use Rattle.grid.specs.Heights.{firstNotFinite, allFinite};
 
@@ -24,19 +25,22 @@ pub struct OpenSides {
     pub west: bool,
 }
 
-// Column and row of each direction: none, NW, N, NE, W, E, SW, S, SE.
+// Column step and row step of each direction: none, NW, N, NE, W, E, SW, S, SE.
 pub const DIRX: [i32; 9] = [0, -1, 0, 1, -1, 1, -1, 0, 1];
 
 pub const DIRY: [i32; 9] = [0, -1, -1, -1, 0, 0, 1, 1, 1];
 
+// Document 01's longest side.
+const SIDE_MAX: usize = 4096;
+
 // Whether a side is outside 1 to 4,096.
-pub fn bad_side(side: usize) -> bool
+fn bad_side(side: usize) -> bool
     ensures { λ r. ⌜ r ≡ badSide side ⌝ }
 {
     if side == 0 {
         return true;
     }
-    4096 < side
+    SIDE_MAX < side
 }
 
 // Refusal 1: whether either side is outside 1 to 4,096.
@@ -64,8 +68,8 @@ pub fn longest(g: Sides) -> usize
 }
 
 // x moved by d, or `side` where that leaves 0 to side - 1. The sign is tested before the cast.
-pub fn shifted(x: usize, d: i32, side: usize) -> usize
-    requires { ⌜ Steps x d side ⌝ }
+fn shifted(x: usize, d: i32, side: usize) -> usize
+    requires { ⌜ AlongSide x d side ⌝ }
     ensures { λ r. ⌜ r ≡ shiftedOf x d side ⌝ }
 {
     let moved = x as i32 + d;
@@ -123,7 +127,7 @@ pub fn all_open() -> OpenSides
     }
 }
 
-// Whether x is an end of a side of the map, and open.
+// Whether x is `end`, and that end of the side is open.
 fn at_open(is_open: bool, x: usize, end: usize) -> bool
     ensures { λ r. ⌜ r ≡ («is_open» && eqb x end) ⌝ }
 {
@@ -133,7 +137,7 @@ fn at_open(is_open: bool, x: usize, end: usize) -> bool
     false
 }
 
-// Whether x is the first of `side` places, where the first is open, or the last of them, where the last is.
+// Whether x is an open end of a side: place 0 if `first` is open, place side - 1 if `last` is.
 fn open_end(first: bool, last: bool, side: usize, x: usize) -> bool
     ensures { λ r. ⌜ r ≡ openEnd first last side x ⌝ }
 {
@@ -146,7 +150,7 @@ fn open_end(first: bool, last: bool, side: usize, x: usize) -> bool
     at_open(last, x, side - 1)
 }
 
-// Base level: a cell on an open side, or one that is not above the water.
+// Whether column x, row y is base level: on an open side, or of a height ≤ the water level.
 pub fn is_base(g: Sides, sides: OpenSides, water: f32, x: usize, y: usize, height: f32) -> bool
     ensures { λ r. ⌜ r ≡ baseAt (g .w) (g .h) sides water x y height ⌝ }
 {
@@ -159,7 +163,7 @@ pub fn is_base(g: Sides, sides: OpenSides, water: f32, x: usize, y: usize, heigh
     height <= water
 }
 
-// Whether every height is finite, with no branch, so that the compiler tests several at a time.
+// Whether every height is finite. The loop has no branch, so that the compiler tests several heights at a time.
 pub fn all_finite(hs: &[f32]) -> bool
     ensures { λ r. ⌜ r ≡ allFinite (now (hs .entry)) ⌝ }
 {

@@ -11,7 +11,7 @@ ghost use Rattle.fluvial_carve.specs.Carve.{CarveMade};
 ghost use Rattle.thermal_erosion.specs.SlidePass.{SlideMade};
 ghost use Rattle.harness_calls.specs.Word.{Exported};
 
-// The network of a map.
+// `route`: the network of a map.
 #[no_mangle]
 pub extern "C" fn harness_route(
     w: usize,
@@ -25,7 +25,10 @@ pub extern "C" fn harness_route(
     queue: &mut [u32],
     status: &mut [u8],
 ) -> u64
-    ensures { λ r. ⌜ Exported (λ a. Routed w h (now (hmap .entry)) «water_level» (now (order .entry)) (now (recv .entry)) (now (spill .entry)) (now (area .entry)) (now (queue .entry)) (now (status .entry)) a (now (order .exit)) (now (recv .exit)) (now (spill .exit)) (now (area .exit)) (now (queue .exit)) (now (status .exit))) r ⌝ }
+    ensures { λ r. ⌜ Exported (λ a. Routed w h (now (hmap .entry)) «water_level» (now (order .entry))
+        (now (recv .entry)) (now (spill .entry)) (now (area .entry)) (now (queue .entry)) (now (status .entry)) a
+        (now (order .exit)) (now (recv .exit)) (now (spill .exit)) (now (area .exit)) (now (queue .exit))
+        (now (status .exit))) r ⌝ }
 {
     let size = Sides { w, h };
     word(flow::route(
@@ -41,7 +44,7 @@ pub extern "C" fn harness_route(
     ))
 }
 
-// An incision along lent receivers and a lent list.
+// `incise`: an incision along lent receivers and a lent list.
 #[no_mangle]
 pub extern "C" fn harness_incise(
     w: usize,
@@ -55,7 +58,9 @@ pub extern "C" fn harness_incise(
     out: &mut [f32],
     area: &mut [f32],
 ) -> u64
-    ensures { λ r. ⌜ Exported (λ a. InciseMade w h (now (hmap .entry)) (record { k = k; uplift = uplift; «water_level» = «water_level» }) (now (recv .entry)) (now (order .entry)) (now (out .entry)) (now (area .entry)) a (now (out .exit)) (now (area .exit))) r ⌝ }
+    ensures { λ r. ⌜ Exported (λ a. InciseMade w h (now (hmap .entry))
+        (record { k = k; uplift = uplift; «water_level» = «water_level» }) (now (recv .entry)) (now (order .entry))
+        (now (out .entry)) (now (area .entry)) a (now (out .exit)) (now (area .exit))) r ⌝ }
 {
     let size = Sides { w, h };
     let params = FluvialParams {
@@ -84,7 +89,10 @@ pub extern "C" fn harness_carve(
     queue: &mut [u32],
     status: &mut [u8],
 ) -> u64
-    ensures { λ r. ⌜ Exported (λ a. CarveMade w h (now (hmap .entry)) (record { k = k; uplift = uplift; «water_level» = «water_level» }) (now (order .entry)) (now (recv .entry)) (now (out .entry)) (now (area .entry)) (now (queue .entry)) (now (status .entry)) a (now (order .exit)) (now (recv .exit)) (now (out .exit)) (now (area .exit)) (now (queue .exit)) (now (status .exit))) r ⌝ }
+    ensures { λ r. ⌜ Exported (λ a. CarveMade w h (now (hmap .entry))
+        (record { k = k; uplift = uplift; «water_level» = «water_level» }) (now (order .entry)) (now (recv .entry))
+        (now (out .entry)) (now (area .entry)) (now (queue .entry)) (now (status .entry)) a (now (order .exit))
+        (now (recv .exit)) (now (out .exit)) (now (area .exit)) (now (queue .exit)) (now (status .exit))) r ⌝ }
 {
     let size = Sides { w, h };
     let params = FluvialParams {
@@ -95,7 +103,7 @@ pub extern "C" fn harness_carve(
     word(fluvial_carve::carve(size, hmap, params, order, recv, out, area, queue, status))
 }
 
-// A talus pass; the record is read and written in place.
+// `slide_pass`: a talus pass; the record is read and written in place.
 #[no_mangle]
 pub extern "C" fn harness_slide_pass(
     w: usize,
@@ -112,7 +120,14 @@ pub extern "C" fn harness_slide_pass(
     stopped: &mut bool,
     stop: u32,
 ) -> u64
-    ensures { λ r. ⌜ Exported (λ a. SlideMade w h (now (hmap .entry)) (now (out .entry)) (record { threshold = threshold; strength = strength; «water_level» = «water_level» }) from to (record { last = now (last .entry); asked = now (asked .entry); stopped = now (stopped .entry) }) stop (record { answer = a; progress = record { last = now (last .exit); asked = now (asked .exit); stopped = now (stopped .exit) } }) (now (out .exit))) r ⌝ }
+    ensures { λ r. ⌜ Exported (λ a. SlideMade w h (now (hmap .entry)) (now (out .entry))
+        (record { threshold = threshold; strength = strength; «water_level» = «water_level» }) from to
+        (record { last = now (last .entry); asked = now (asked .entry); stopped = now (stopped .entry) }) stop
+        (record {
+          answer = a;
+          progress = record { last = now (last .exit); asked = now (asked .exit); stopped = now (stopped .exit) };
+        })
+        (now (out .exit))) r ⌝ }
 {
     let size = Sides { w, h };
     let params = ThermalParams {

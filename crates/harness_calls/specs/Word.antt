@@ -8,10 +8,10 @@ use Rattle.answers.specs.Outcome.{Outcome, gives, refused, refusedAt, answerOf}
 use Rattle.answers.specs.declared.Answer.{Answer}
 use Rattle.generators.specs.declared.MinMax.{MinMax}
 
-abbrev pub wordOf : {A : Type 0} → (A → ℕ) → Outcome A → ℕ
-wordOf value (gives a) = value a
-wordOf value (refused n) = n * 2 ^ 32
-wordOf value (refusedAt n p) = n * 2 ^ 32 + p % 2 ^ 32
+abbrev pub exportWord : {A : Type 0} → (A → ℕ) → Outcome A → ℕ
+exportWord value (gives a) = value a
+exportWord value (refused n) = n * 2 ^ 32
+exportWord value (refusedAt n p) = n * 2 ^ 32 + p % 2 ^ 32
 
 abbrev pub leastBits : MinMax → ℕ
 leastBits m = toBits binary32 (m .min)
@@ -19,13 +19,13 @@ leastBits m = toBits binary32 (m .min)
 abbrev pub greatestBits : MinMax → ℕ
 greatestBits m = toBits binary32 (m .max)
 
--- either of the two
+-- the bits of the greatest or of the least value
 abbrev pub endBits : Bool → MinMax → ℕ
 endBits greatest m = toBits binary32 (cond greatest (m .max) (m .min))
 
--- The export makes what the call makes, and gives the word of that call's answer. `Made` is the call's own promise with
--- its answer left open; that promise fixes the answer by an equation, and so the word.
+-- The exported function does what the public call does, and returns the word of that call's answer. `Made` is the
+-- call's own promise as a property of its answer; that promise fixes the answer by an equation, and so the word.
 pub record Exported (Made : Answer → Type 0) (word : ℕ) : Type 0 where
   pub answer : Answer
   pub made : Made answer
-  pub worded : word ≡ wordOf (λ _. 0) (answerOf answer)
+  pub worded : word ≡ exportWord (λ _. 0) (answerOf answer)

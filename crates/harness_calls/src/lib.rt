@@ -18,11 +18,11 @@ ghost use Rattle.generators.specs.Extents.{extentOf, getMinMaxAnswer, Normalize
 ghost use Rattle.resample.specs.Blocks.{Downsampled};
 ghost use Rattle.bilinear.specs.Samples.{bilinearAnswer};
 ghost use Rattle.upsample.specs.Samples.{Added};
-ghost use Rattle.harness_calls.specs.Word.{wordOf, leastBits, greatestBits, endBits, Exported};
+ghost use Rattle.harness_calls.specs.Word.{exportWord, leastBits, greatestBits, endBits, Exported};
 ghost use Rattle.harness_calls.specs.Reporting.{goValue, Reporting};
 
 // A refusal's number and place in one word.
-pub fn refusal_word(r: Refusal) -> u64
+fn refusal_word(r: Refusal) -> u64
     ensures { λ w. ⌜ w ≡ numberOf r * 2 ^ 32 + placeOf r % 2 ^ 32 ⌝ }
 {
     let place = answers::place(r) % 0x1_0000_0000;
@@ -31,7 +31,7 @@ pub fn refusal_word(r: Refusal) -> u64
 
 // An answer's word, 0 if it is no refusal.
 pub fn word(a: Answer) -> u64
-    ensures { λ w. ⌜ w ≡ wordOf (λ _. 0) (answerOf a) ⌝ }
+    ensures { λ w. ⌜ w ≡ exportWord (λ _. 0) (answerOf a) ⌝ }
 {
     match a {
         Answer::Done => 0,
@@ -41,7 +41,7 @@ pub fn word(a: Answer) -> u64
 
 // The bits of a value, or a refusal's word.
 fn value_word(v: Value) -> u64
-    ensures { λ w. ⌜ w ≡ wordOf (toBits binary32) (valueOf v) ⌝ }
+    ensures { λ w. ⌜ w ≡ exportWord (toBits binary32) (valueOf v) ⌝ }
 {
     match v {
         Value::Given(x) => floats::to_bits(x) as u64,
@@ -49,7 +49,7 @@ fn value_word(v: Value) -> u64
     }
 }
 
-// One end of an extent: max, or min.
+// Returns one end of an extent: max where `greatest` is true, else min.
 fn end_of(m: MinMax, greatest: bool) -> f32
     ensures { λ r. ⌜ r ≡ cond greatest (m .max) (m .min) ⌝ }
 {
@@ -58,7 +58,7 @@ fn end_of(m: MinMax, greatest: bool) -> f32
 
 // The bits of one end of an extent, or a refusal's word.
 fn extent_word(e: Extent, greatest: bool) -> u64
-    ensures { λ w. ⌜ w ≡ wordOf (endBits greatest) (extentOf e) ⌝ }
+    ensures { λ w. ⌜ w ≡ exportWord (endBits greatest) (extentOf e) ⌝ }
 {
     match e {
         Extent::Of(m) => floats::to_bits(end_of(m, greatest)) as u64,
@@ -68,7 +68,7 @@ fn extent_word(e: Extent, greatest: bool) -> u64
 
 // `get_min_max`: the bits of one end.
 fn end_word(v: &[f32], greatest: bool) -> u64
-    ensures { λ w. ⌜ w ≡ wordOf (endBits greatest) (getMinMaxAnswer (now (v .entry))) ⌝ }
+    ensures { λ w. ⌜ w ≡ exportWord (endBits greatest) (getMinMaxAnswer (now (v .entry))) ⌝ }
 {
     extent_word(generators::get_min_max(v), greatest)
 }
@@ -76,7 +76,7 @@ fn end_word(v: &[f32], greatest: bool) -> u64
 // `get_min_max`: the bits of min.
 #[no_mangle]
 pub extern "C" fn harness_least(v: &[f32]) -> u64
-    ensures { λ w. ⌜ w ≡ wordOf leastBits (getMinMaxAnswer (now (v .entry))) ⌝ }
+    ensures { λ w. ⌜ w ≡ exportWord leastBits (getMinMaxAnswer (now (v .entry))) ⌝ }
 {
     end_word(v, false)
 }
@@ -84,7 +84,7 @@ pub extern "C" fn harness_least(v: &[f32]) -> u64
 // `get_min_max`: the bits of max.
 #[no_mangle]
 pub extern "C" fn harness_greatest(v: &[f32]) -> u64
-    ensures { λ w. ⌜ w ≡ wordOf greatestBits (getMinMaxAnswer (now (v .entry))) ⌝ }
+    ensures { λ w. ⌜ w ≡ exportWord greatestBits (getMinMaxAnswer (now (v .entry))) ⌝ }
 {
     end_word(v, true)
 }
@@ -107,7 +107,8 @@ pub extern "C" fn harness_downsample(
     dw: usize,
     dh: usize,
 ) -> u64
-    ensures { λ r. ⌜ Exported (λ a. Downsampled (now (src .entry)) w h (now (dst .entry)) dw dh a (now (dst .exit))) r ⌝ }
+    ensures { λ r. ⌜ Exported (λ a. Downsampled (now (src .entry)) w h (now (dst .entry)) dw dh a (now (dst .exit)))
+        r ⌝ }
 {
     let size = Sides { w, h };
     let dsize = Sides { w: dw, h: dh };
@@ -134,14 +135,14 @@ pub extern "C" fn harness_add_upsampled(
 // `bilinear`: the bits of the sample.
 #[no_mangle]
 pub extern "C" fn harness_bilinear(v: &[f32], x: f32, y: f32, w: usize, h: usize) -> u64
-    ensures { λ r. ⌜ r ≡ wordOf (toBits binary32) (bilinearAnswer (now (v .entry)) x y w h) ⌝ }
+    ensures { λ r. ⌜ r ≡ exportWord (toBits binary32) (bilinearAnswer (now (v .entry)) x y w h) ⌝ }
 {
     value_word(bilinear::bilinear(v, x, y, Sides { w, h }))
 }
 
-// A report's answer: 1 to go on, 0 to stop, or the refusal's word.
+// Returns the word of a report's answer: 1 to go on, 0 to stop, or the refusal's word.
 fn go_word(go: Go) -> u64
-    ensures { λ r. ⌜ r ≡ wordOf goValue (goOf go) ⌝ }
+    ensures { λ r. ⌜ r ≡ exportWord goValue (goOf go) ⌝ }
 {
     match go {
         Go::On => 1,
@@ -150,7 +151,7 @@ fn go_word(go: Go) -> u64
     }
 }
 
-// A report; the record is read and written in place.
+// `report`; the record is read and written in place.
 #[no_mangle]
 pub extern "C" fn harness_report(
     last: &mut f32,
@@ -159,7 +160,9 @@ pub extern "C" fn harness_report(
     p: f32,
     stop: u32,
 ) -> u64
-    ensures { λ r. ⌜ Reporting (record { last = now (last .entry); asked = now (asked .entry); stopped = now (stopped .entry) }) p stop (record { last = now (last .exit); asked = now (asked .exit); stopped = now (stopped .exit) }) r ⌝ }
+    ensures { λ r. ⌜ Reporting
+        (record { last = now (last .entry); asked = now (asked .entry); stopped = now (stopped .entry) }) p stop
+        (record { last = now (last .exit); asked = now (asked .exit); stopped = now (stopped .exit) }) r ⌝ }
 {
     let before = Progress {
         last: *last,

@@ -1,11 +1,11 @@
-// Whole runs by the C convention, for the oracle's bench and comparison: a slice passes as pointer and length, an answer is one u64
-// (specs/Exported.antt). No part of the public calls.
+// Whole runs by the C convention, for the oracle's bench and comparison: a slice passes as pointer and length, an
+// answer is one u64 (specs/Exported.antt). No part of the public calls.
+use answers::RunAnswer;
 use answers::answer_number;
 use answers::answer_place;
-use erosion::RunAnswer;
 use grid::Sides;
-use runs::FluvialSettings;
-use runs::ThermalSettings;
+use run_settings::FluvialSettings;
+use run_settings::ThermalSettings;
 ghost use mathlib.Core.Path.{_≡_};
 ghost use Rattle.thermal_run.specs.ThermalRun.{ThermalRun};
 ghost use Rattle.fluvial_run.specs.FluvialRun.{FluvialRun};
@@ -38,7 +38,14 @@ pub extern "C" fn harness_thermal_run(
     eroded: &mut [f32],
     copy: &mut [f32],
 ) -> u64
-    ensures { λ r. ⌜ Exported (λ a. ThermalRun w h (record { «water_level» = «water_level»; talus = talus; strength = strength; iterations = iterations; «work_res» = «work_res» }) stop (now (hmap .entry)) (now (small .entry)) (now (eroded .entry)) (now (copy .entry)) a (now (hmap .exit)) (now (small .exit)) (now (eroded .exit)) (now (copy .exit))) r ⌝ }
+    ensures { λ r. ⌜ Exported (λ a. ThermalRun w h (record {
+      «water_level» = «water_level»;
+      talus = talus;
+      strength = strength;
+      iterations = iterations;
+      «work_res» = «work_res»;
+    }) stop (now (hmap .entry)) (now (small .entry)) (now (eroded .entry)) (now (copy .entry)) a (now (hmap .exit))
+        (now (small .exit)) (now (eroded .exit)) (now (copy .exit))) r ⌝ }
 {
     let size = Sides { w, h };
     let conf = ThermalSettings {
@@ -73,7 +80,17 @@ pub extern "C" fn harness_fluvial_run(
     queue: &mut [u32],
     status: &mut [u8],
 ) -> u64
-    ensures { λ r. ⌜ Exported (λ a. FluvialRun w h (record { «water_level» = «water_level»; strength = strength; talus = talus; uplift = uplift; iterations = iterations; «work_res» = «work_res» }) stop (now (hmap .entry)) (now (small .entry)) (now (eroded .entry)) (now (copy .entry)) (now (area .entry)) (now (order .entry)) (now (recv .entry)) (now (queue .entry)) (now (status .entry)) a (now (hmap .exit)) (now (small .exit)) (now (eroded .exit)) (now (copy .exit)) (now (area .exit)) (now (order .exit)) (now (recv .exit)) (now (queue .exit)) (now (status .exit))) r ⌝ }
+    ensures { λ r. ⌜ Exported (λ a. FluvialRun w h (record {
+      «water_level» = «water_level»;
+      strength = strength;
+      talus = talus;
+      uplift = uplift;
+      iterations = iterations;
+      «work_res» = «work_res»;
+    }) stop (now (hmap .entry)) (now (small .entry)) (now (eroded .entry)) (now (copy .entry)) (now (area .entry))
+        (now (order .entry)) (now (recv .entry)) (now (queue .entry)) (now (status .entry)) a (now (hmap .exit))
+        (now (small .exit)) (now (eroded .exit)) (now (copy .exit)) (now (area .exit)) (now (order .exit))
+        (now (recv .exit)) (now (queue .exit)) (now (status .exit))) r ⌝ }
 {
     let size = Sides { w, h };
     let conf = FluvialSettings {

@@ -11,7 +11,7 @@ use lib.Ieee.Scale.{finite}
 use lib.Ieee.Bits.{toBits-lt}
 use lib.Ieee.Fits.{round-fits}
 use lib.IntN.{pos}
-use Rattle.lists.proofs.TestLaws.{by-test, either, behind}
+use Rattle.loops.proofs.TestLaws.{by-test, either, behind}
 use Rattle.answers.specs.Outcome.{Outcome, gives, refused, refusedAt}
 use Rattle.answers.proofs.OutcomeLaws.{not-refused-unless}
 use Rattle.grid.specs.Sides.{badSides}

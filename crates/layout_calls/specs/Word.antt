@@ -20,7 +20,7 @@ numberFrom (gives a) = 0
 numberFrom (refused n) = n
 numberFrom (refusedAt n p) = n
 
--- and its value: `value` says what stands for a result, and a refusal has none
+-- the value of an outcome: what `value` gives for a result, 0 for a refusal
 abbrev pub valueFrom : {A : Type 0} → (A → ℕ) → Outcome A → ℕ
 valueFrom value (gives a) = value a
 valueFrom value (refused n) = 0
@@ -42,12 +42,12 @@ sidesWord w h res = wordOf sidesValue (workAnswer w h res)
 abbrev pub checkWord : List ℕ → ℕ
 checkWord s = wordOf (λ _. 0) (readStream false s)
 
--- A word says both: its high half is the number, its low half the value.
+-- The number and the value can be read from the word: its high half is the number, its low half the value.
 pub record Unpacks {A : Type 0} (value : A → ℕ) (answer : Outcome A) : Type 0 where
   pub number : wordOf value answer / 2 ^ 32 ≡ numberFrom answer
   pub rest : wordOf value answer % 2 ^ 32 ≡ valueFrom value answer
 
--- That holds of every word of the three calls; every operand is a binary32 value. Proved in proofs/HostLaws.antt.
+-- Unpacks is true of every word of the three calls; every operand is a binary32 value. Proved in proofs/HostLaws.antt.
 pub record WordsUnpack : Type 0 where
   pub root : (x : Float) → T (fits binary32 x) → Unpacks (toBits binary32) (rootAnswer x)
   pub sides : (w h res : ℕ) → Unpacks sidesValue (workAnswer w h res)

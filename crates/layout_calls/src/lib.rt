@@ -1,5 +1,6 @@
-// What the layout engine calls by the C convention: the square root, the working sides and the stream check. A slice passes as pointer and length. Each gives
-// one u64, the refusal number × 2^32 plus, where that number is 0, its value (specs/Word.antt).
+// What the layout engine calls by the C convention: the square root, the working sides and the stream check. A slice
+// passes as pointer and length. Each gives one u64, the refusal number × 2^32 plus, where that number is 0, its value
+// (specs/Word.antt).
 use answers::Refusal;
 use answers::Value;
 use grid::Sides;

@@ -1,4 +1,4 @@
 -- Laws of the definitions in specs/.
 pub mod ListLaws
-pub mod StretchLaws
+pub mod SegmentLaws
 pub mod BlockLaws

@@ -9,13 +9,13 @@ use lib.ListN.{length, getD, take, drop, length-append}
 use lib.Seq.{split-at, take-at, getD-at, take-length}
 use lib.Dec.{eqb, ltb}
 use borrow.Author.Tests.{eqb-true, ltb-true, lt-ltb, eq-eqb, ne-eqb}
-use Rattle.drainage.proofs.TallyLaws.{one-same, one-other, times-more}
-use Rattle.lists.proofs.TestLaws.{both}
-use Rattle.drainage.specs.Ways.{one, times, sumBelow, WorkList}
-use Rattle.drainage.proofs.CountLaws.{sum-bound, times-here}
+use Rattle.loops.proofs.CountLaws.{one-same, one-other, times-more, sum-bound, times-here}
+use Rattle.loops.proofs.TestLaws.{both}
+use Rattle.loops.specs.Counts.{oneIf, times, sumBelow}
+use Rattle.drainage.specs.Ways.{WorkList}
 use Rattle.drainage.proofs.WorkListLaws.{length-is, below-of, split, entry-lt}
 use Rattle.lent_list.specs.Entries.{goodEntry, GoodAt, ListTest}
-use Rattle.lists.proofs.FirstLaws.{first-all, all-first}
+use Rattle.loops.proofs.FirstLaws.{first-all, all-first}
 
 -- the test and what it means
 either : (a b : Bool) → (a || b) ≡ true → a ≡ false → b ≡ true
@@ -82,7 +82,7 @@ module _ (n : ℕ) (recv list : List ℕ) (long : length list ≡ n) where
         go : Dec (getD list i 0 ≡ c) → times c (take i list) ≤ 1 → times c (take (suc i) list) ≤ 1
         go (yes e) r =
             let f : times c (take i list) ≡ 0 = rw e at (good i l .fresh) in
-            omega (arith, times-more c i list (omega arith), ap (λ (k : ℕ). one k c) e, one-same c c refl)
+            omega (arith, times-more c i list (omega arith), ap (λ (k : ℕ). oneIf k c) e, one-same c c refl)
         go (no h) r = omega (arith, times-more c i list (omega arith), one-other (getD list i 0) c h)
 
     whole : take n list ≡ list

@@ -5,9 +5,10 @@ use mathlib.Core.Bool.{Bool, true, _&&_, _||_}
 use mathlib.Core.List.{List}
 use lib.ListN.{length, getD, take}
 use lib.Dec.{eqb, ltb}
-use Rattle.lists.specs.Loops.{turns}
-use Rattle.lists.specs.Firsts.{firstFailing}
-use Rattle.drainage.specs.Ways.{times, WorkList}
+use Rattle.loops.specs.Loops.{turns}
+use Rattle.loops.specs.Firsts.{firstFailing}
+use Rattle.loops.specs.Counts.{times}
+use Rattle.drainage.specs.Ways.{WorkList}
 
 -- every entry of a list is one of n cells
 unfoldable pub everyCell : ℕ → List ℕ → Bool
@@ -27,13 +28,13 @@ goodEntry n recv list position =
 abbrev pub firstBadEntry : ℕ → List ℕ → List ℕ → ℕ
 firstBadEntry n recv list = firstFailing n (goodEntry n recv list)
 
--- what the test of an entry says
+-- the entry at a position is good: one of n cells, not earlier in the list, and its receiver, if another cell, earlier
 pub record GoodAt (n : ℕ) (recv list : List ℕ) (position : ℕ) : Type 0 where
   pub cell : getD list position 0 < n
   pub fresh : times (getD list position 0) (take position list) ≡ 0
   pub after : (getD recv (getD list position 0) 0 ≡ getD list position 0 → ⊥) → 0 < times (getD recv (getD list position 0) 0) (take position list)
 
--- Refusal 7 is two-way: a list of n entries is let pass exactly if it is a work list.
+-- Refusal 7 is two-way: a list of n entries passes exactly if it is a work list.
 pub record ListTest (n : ℕ) (recv list : List ℕ) : Type 0 where
   pub sound : firstBadEntry n recv list ≡ n → WorkList n recv list
   pub complete : WorkList n recv list → firstBadEntry n recv list ≡ n

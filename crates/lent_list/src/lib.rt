@@ -1,22 +1,31 @@
 // Refusal 7: the check of a lent list. Nothing lent is written before it is decided.
-use list_blocks::block_end;
-use list_blocks::positions_in;
-use list_blocks::receivers_of;
-use list_blocks::taken;
-use list_marks::bad_in_stretch;
+use lent_list_blocks::block_end;
+use lent_list_blocks::positions_in;
+use lent_list_blocks::receivers_of;
+use lent_list_blocks::taken;
+use lent_list_marks::SEGMENT;
+use lent_list_marks::bad_in_segment;
 ghost use mathlib.Core.Path.{_≡_};
 ghost use mathlib.Core.Bool.{true, false};
 ghost use Prim.Native.Nat.{_+_, _*_, _^_, _≤_};
 ghost use lib.ListN.{length, getD};
 ghost use lib.Dec.{ltb};
-ghost use Rattle.lists.specs.Firsts.{First};
-ghost use Rattle.list_marks.specs.Seen.{span, isMarked, Blank};
-ghost use Rattle.list_blocks.specs.Blocks.{CellsBefore, takenAt, Listed};
+ghost use Rattle.loops.specs.Firsts.{First};
+ghost use Rattle.lent_list_marks.specs.Seen.{span, isMarked, Blank};
+ghost use Rattle.lent_list_blocks.specs.Blocks.{CellsBefore, takenAt, Picked};
 ghost use Rattle.lent_list.specs.Entries.{everyCell, firstBadEntry};
-ghost use Rattle.lent_list.specs.Walks.{Walk, Passed, Scanned, Lengths, ReceiversIn, Near};
+ghost use Rattle.lent_list.specs.Walks.{Walk, WalkEnded, Scanned, ListLengths, ReceiversIn, WithinOverlap};
 
-// Goes along the k positions taken of the block from `from` to `to`: the first whose entry is bad by the marks of the stretch from lo, `to` where none is.
-// Where the whole block is taken, `places` is not read, and that every receiver lies in the stretch is known.
+// The most cells whose marks are bytes in an array of 64 KB on the stack, which stays in a near cache.
+const FEW: usize = 65536;
+
+// The most cells whose marks are bytes in an array of 1 MB on the stack, which stays in a farther cache; for more cells
+// marks are bits.
+const MANY: usize = 1048576;
+
+// Checks k entries of the block from `from` to before `to`: all of them where `whole` is true, else those at the
+// positions in `places`. Returns the position of the first one that is bad by the marks of the segment from lo, or
+// `to`. Where `whole` is true, `places` is not read, and every receiver is known to lie in the segment.
 fn first_in_block(
     seen: &mut [u64],
     lo: usize,
@@ -31,16 +40,17 @@ fn first_in_block(
     requires { ⌜ (span ≤ length (now seen) * 64) × (whole ≡ true → ReceiversIn lo (length (now recv)) (now recv)) ⌝ }
     requires { ⌜ (to ≤ from + 1024) × (to ≤ length (now list)) × (whole ≡ false → k ≤ length (now places)) ⌝ }
     requires { ⌜ CellsBefore (length (now recv)) (now list) to ⌝ }
-    requires { ⌜ Listed (now list) lo from to (takenAt whole (now places) from) k ⌝ }
+    requires { ⌜ Picked (now list) lo from to (takenAt whole (now places) from) k ⌝ }
     requires { ⌜ Walk span (length (now recv)) (now recv) (now list) lo to from (isMarked (now seen)) ⌝ }
-    ensures { λ r. ⌜ Passed (length (now (recv .entry))) (now (recv .entry)) (now (list .entry)) lo to (now (seen .exit)) r ⌝ }
+    ensures { λ r. ⌜ WalkEnded (length (now (recv .entry))) (now (recv .entry)) (now (list .entry)) lo to
+        (now (seen .exit)) r ⌝ }
 {
     let mut below: [u32; 1024] = [0; 1024];
     receivers_of(recv, list, places, k, &mut below, whole, from);
     let mut i: usize = 0;
     while i < k {
         let p = taken(whole, places, from, i);
-        if bad_in_stretch(seen, lo, list[p] as usize, below[i] as usize, whole) {
+        if bad_in_segment(seen, lo, list[p] as usize, below[i] as usize, whole) {
             return p;
         }
         i += 1;
@@ -48,8 +58,9 @@ fn first_in_block(
     to
 }
 
-// The same for any block, at most 1,024 positions long: all are taken in the stretch from 0 where that holds every cell, else those whose cells lie in the
-// stretch are picked out first.
+// Checks the entries of one block, at most 1,024 positions long, whose cells lie in the segment from lo. Returns the
+// position of the first bad one, or `to`. Where the segment from 0 holds every cell, the whole block is checked; else
+// the positions with cells of the segment are listed first.
 fn first_in_some(
     seen: &mut [u64],
     lo: usize,
@@ -60,13 +71,14 @@ fn first_in_some(
 ) -> usize
     requires { ⌜ (span ≤ length (now seen) * 64) × (lo ≤ 2 ^ 24) ⌝ }
     requires { ⌜ (to ≤ from + 1024) × (to ≤ length (now list)) × (to ≤ 2 ^ 24) ⌝ }
-    requires { ⌜ Lengths (length (now recv)) (now recv) (now list) ⌝ }
+    requires { ⌜ ListLengths (length (now recv)) (now recv) (now list) ⌝ }
     requires { ⌜ CellsBefore (length (now recv)) (now list) to ⌝ }
     requires { ⌜ Walk span (length (now recv)) (now recv) (now list) lo to from (isMarked (now seen)) ⌝ }
-    ensures { λ r. ⌜ Passed (length (now (recv .entry))) (now (recv .entry)) (now (list .entry)) lo to (now (seen .exit)) r ⌝ }
+    ensures { λ r. ⌜ WalkEnded (length (now (recv .entry))) (now (recv .entry)) (now (list .entry)) lo to
+        (now (seen .exit)) r ⌝ }
 {
     if lo == 0 {
-        if recv.len() <= 8388608 {
+        if recv.len() <= SEGMENT {
             return first_in_block(seen, 0, recv, list, from, to, list, to - from, true);
         }
     }
@@ -75,9 +87,9 @@ fn first_in_some(
     first_in_block(seen, lo, recv, list, from, to, &places, k, false)
 }
 
-// The first position below the limit whose entry is bad by the marks of the stretch from lo; the limit where none is.
-fn first_in_stretch(n: usize, recv: &[u32], list: &[u32], lo: usize, limit: usize) -> usize
-    requires { ⌜ Lengths n (now recv) (now list) ⌝ }
+// Returns the first position below the limit whose entry is bad by the marks of the segment from lo, or the limit.
+fn first_in_segment(n: usize, recv: &[u32], list: &[u32], lo: usize, limit: usize) -> usize
+    requires { ⌜ ListLengths n (now recv) (now list) ⌝ }
     requires { ⌜ (limit ≤ n) × (n ≤ 2 ^ 24) × (lo ≤ 2 ^ 24) ⌝ }
     requires { ⌜ CellsBefore n (now list) limit ⌝ }
     ensures { λ r. ⌜ Scanned n (now (recv .entry)) (now (list .entry)) lo (lo + span) limit r ⌝ }
@@ -109,7 +121,7 @@ fn every_cell(n: u32, list: &[u32]) -> bool
     good
 }
 
-// Searches the list for the first position with an entry that is no cell; n where each is one.
+// Searches the list. Returns the first position with an entry that is none of the n cells, or n.
 fn search_outside(n: usize, list: &[u32]) -> usize
     requires { ⌜ length (now list) ≡ n ⌝ }
     ensures { λ r. ⌜ First n (λ p. ltb (getD (now (list .entry)) p 0) n) r ⌝ }
@@ -124,7 +136,8 @@ fn search_outside(n: usize, list: &[u32]) -> usize
     n
 }
 
-// The first position with an entry that is no cell, n where each is one. The list is searched only where there is one, or where n is no u32.
+// Returns the first position with an entry that is none of the n cells, or n. The list is searched only where
+// `every_cell` is false, or where n does not fit in a u32.
 fn first_outside(n: usize, list: &[u32]) -> usize
     requires { ⌜ length (now list) ≡ n ⌝ }
     ensures { λ r. ⌜ First n (λ p. ltb (getD (now (list .entry)) p 0) n) r ⌝ }
@@ -137,9 +150,10 @@ fn first_outside(n: usize, list: &[u32]) -> usize
     search_outside(n, list)
 }
 
-// The first position whose entry is no cell or is bad, for cells that all have a byte in `seen`, none of them set yet; n where none is.
+// Returns the first position whose entry is none of the n cells or is bad by the marks, or n. `seen` has a byte for
+// each cell, none of them set yet.
 fn first_in_bytes(n: usize, recv: &[u32], list: &[u32], seen: &mut [u8]) -> usize
-    requires { ⌜ Lengths n (now recv) (now list) ⌝ }
+    requires { ⌜ ListLengths n (now recv) (now list) ⌝ }
     requires { ⌜ Blank n (now seen) ⌝ }
     ensures { λ r. ⌜ Scanned n (now (recv .entry)) (now (list .entry)) 0 (0 + n) n r ⌝ }
 {
@@ -161,9 +175,10 @@ fn first_in_bytes(n: usize, recv: &[u32], list: &[u32], seen: &mut [u8]) -> usiz
     n
 }
 
-// The same with bytes for 65,536 cells, which small grids do not wait for.
+// Returns the first position with a bad entry, or n, on at most 65,536 cells, with as many bytes for marks: a small
+// grid need not clear more.
 fn first_of_few(n: usize, recv: &[u32], list: &[u32]) -> usize
-    requires { ⌜ Lengths n (now recv) (now list) ⌝ }
+    requires { ⌜ ListLengths n (now recv) (now list) ⌝ }
     requires { ⌜ n ≤ 65536 ⌝ }
     ensures { λ r. ⌜ Scanned n (now (recv .entry)) (now (list .entry)) 0 (0 + n) n r ⌝ }
 {
@@ -171,9 +186,9 @@ fn first_of_few(n: usize, recv: &[u32], list: &[u32]) -> usize
     first_in_bytes(n, recv, list, &mut seen)
 }
 
-// The same with bytes for 1,048,576 cells.
+// Returns the first position with a bad entry, or n, on at most 1,048,576 cells, with as many bytes for marks.
 fn first_of_many(n: usize, recv: &[u32], list: &[u32]) -> usize
-    requires { ⌜ Lengths n (now recv) (now list) ⌝ }
+    requires { ⌜ ListLengths n (now recv) (now list) ⌝ }
     requires { ⌜ n ≤ 1048576 ⌝ }
     ensures { λ r. ⌜ Scanned n (now (recv .entry)) (now (list .entry)) 0 (0 + n) n r ⌝ }
 {
@@ -181,31 +196,33 @@ fn first_of_many(n: usize, recv: &[u32], list: &[u32]) -> usize
     first_in_bytes(n, recv, list, &mut seen)
 }
 
-// The same for any number of cells, a bit for each: the list is read once for each stretch of them.
+// Returns the first position with a bad entry, or n, on any number of cells, with a bit for each mark: the list is read
+// once for each segment of cells.
 fn first_of_all(n: usize, recv: &[u32], list: &[u32]) -> usize
-    requires { ⌜ Lengths n (now recv) (now list) ⌝ }
-    requires { ⌜ Near n (now recv) ⌝ }
+    requires { ⌜ ListLengths n (now recv) (now list) ⌝ }
+    requires { ⌜ WithinOverlap n (now recv) ⌝ }
     ensures { λ r. ⌜ r ≡ firstBadEntry n (now (recv .entry)) (now (list .entry)) ⌝ }
 {
     let mut bad = first_outside(n, list);
     let mut lo: usize = 0;
     while lo < n {
-        bad = first_in_stretch(n, recv, list, lo, bad);
-        lo += 8388608;
+        bad = first_in_segment(n, recv, list, lo, bad);
+        lo += SEGMENT;
     }
     bad
 }
 
-// Refusal 7: the first position with a bad entry, n where the list is a work list. No receiver is far from its cell.
+// Refusal 7: returns the first position with a bad entry, or n where the list is a work list. No receiver may be far
+// from its cell.
 pub fn first_bad_entry(n: usize, recv: &[u32], list: &[u32]) -> usize
-    requires { ⌜ Lengths n (now recv) (now list) ⌝ }
-    requires { ⌜ Near n (now recv) ⌝ }
+    requires { ⌜ ListLengths n (now recv) (now list) ⌝ }
+    requires { ⌜ WithinOverlap n (now recv) ⌝ }
     ensures { λ r. ⌜ r ≡ firstBadEntry n (now (recv .entry)) (now (list .entry)) ⌝ }
 {
-    if n <= 65536 {
+    if n <= FEW {
         return first_of_few(n, recv, list);
     }
-    if n <= 1048576 {
+    if n <= MANY {
         return first_of_many(n, recv, list);
     }
     first_of_all(n, recv, list)

@@ -9,12 +9,12 @@ use mathlib.Core.Bool.{Bool, true, false, not, _&&_, _||_, true≢false}
 use lib.IntN.{ℤ, pos, negsuc, natAbs}
 use lib.Dec.{eqb, ltb, lit≤}
 use borrow.Author.Tests.{lt-ltb, le-ltb, ltb-true, eqb-true, eq-eqb}
-use Rattle.lists.proofs.TestLaws.{both}
-use Rattle.lists.specs.Loops.{turns}
+use Rattle.loops.proofs.TestLaws.{both}
+use Rattle.loops.specs.Loops.{turns}
 use Rattle.grid.specs.Sides.{cellOf}
 use Rattle.grid.specs.Directions.{Place, shiftedOf, neighbourOf, neighbourAt, Adjacent}
 use Rattle.grid.proofs.SidesLaws.{cell-lt, cells-bound}
-use Rattle.grid.proofs.NeighbourLaws.{stepX, stepY, Beside, beside, outside-or-beside, neighbour-cell, step-of, close-step, shift-ahead, shift-behind}
+use Rattle.grid.proofs.NeighbourLaws.{stepX, stepY, Beside, neighbour-beside, outside-or-beside, neighbour-cell, step-of, close-step, shift-ahead, shift-behind}
 use Rattle.grid.proofs.ReachLaws.{beside-adjacent}
 use Rattle.lent_receivers.specs.Receivers.{goodReceiver}
 
@@ -178,7 +178,7 @@ module _ (w h x y : ℕ) (cx : x < w) (cy : y < h) where
       near d l q (inl o) = absurd (omega arith)
       near d l q {nx} {ny} (inr b) =
           let s = step-of d in
-          rows nx ny (q ∙ beside b) (step-from x (stepX d) w nx (s .columns) (b .column) (b .columns)) (step-from y (stepY d) h ny (s .rows) (b .row) (b .rows))
+          rows nx ny (q ∙ neighbour-beside b) (step-from x (stepX d) w nx (s .columns) (b .column) (b .columns)) (step-from y (stepY d) h ny (s .rows) (b .row) (b .rows))
           (ℕ-discrete (ny + 1) y) (ℕ-discrete ny y)
 
       go : (r ≡ cellOf w x y) ⊎ Adjacent w h (cellOf w x y) r → Band r

@@ -8,14 +8,14 @@ use mathlib.Core.List.{List}
 use lib.ListN.{getD}
 use lib.Dec.{eqb, leb, ltb}
 use borrow.Author.Tests.{lt-ltb, le-ltb, ltb-true, ltb-false, eqb-false, ne-eqb, leb-true, le-leb, lt-leb}
-use Rattle.lists.proofs.TestLaws.{both, chosen, passed}
-use Rattle.lists.proofs.LoopLaws.{all-pass}
+use Rattle.loops.proofs.TestLaws.{both, chosen, passed}
+use Rattle.loops.proofs.LoopLaws.{all-pass}
 use Rattle.grid.specs.Sides.{InRange, cellOf}
 use Rattle.grid.proofs.SidesLaws.{cell-lt, cells-bound}
-use Rattle.lists.specs.Firsts.{First}
+use Rattle.loops.specs.Firsts.{First}
 use Rattle.lent_receivers.specs.Receivers.{amongThree, besideInner, innerPass, rowPasses, goodReceiver, receiverTest}
 use Rattle.lent_receivers.proofs.ReceiverLaws.{above, level, below, band-good}
-use Rattle.lists.proofs.FirstLaws.{first-end}
+use Rattle.loops.proofs.FirstLaws.{first-end}
 
 -- ---- the code's test of three cells: the difference wraps below the first
 three-is : (from r d : ℕ) → from ≤ 4096 * 4096 → d < 2 ^ 32 → (d + from) % 2 ^ 32 ≡ r → ltb d 3 ≡ amongThree from r

@@ -4,8 +4,8 @@ use mathlib.Core.Bool.{Bool, true, false, not, _&&_, _||_, cond}
 use mathlib.Core.List.{List}
 use lib.ListN.{getD}
 use lib.Dec.{eqb, leb, ltb}
-use Rattle.lists.specs.Loops.{turns}
-use Rattle.lists.specs.Firsts.{firstFailing}
+use Rattle.loops.specs.Loops.{turns}
+use Rattle.loops.specs.Firsts.{firstFailing}
 use Rattle.grid.specs.Directions.{neighbourAt}
 
 -- r is the cell c itself or one of its 8 neighbours
@@ -21,18 +21,20 @@ receiverTest w h recv c = goodReceiver w h c (getD recv c 0)
 abbrev pub amongThree : ℕ → ℕ → Bool
 amongThree a r = leb a r && ltb r (a + 3)
 
--- a quick test of a whole row. Of an inner cell c: r is one of three cells in the row above, in the cell's own or in the one below
+-- r is an inner cell c or a neighbour of it: one of three cells in the row above, in the cell's own row or in the row
+-- below
 abbrev pub besideInner : ℕ → ℕ → ℕ → Bool
 besideInner w c r =
     let from = c - (w + 1) in
     amongThree from r || amongThree (from + w) r || amongThree (from + w + w) r
 
--- every inner cell of row y passes it
+-- the receiver of every inner cell of row y is that cell or a neighbour of it, by besideInner
 unfoldable pub innerPass : ℕ → List ℕ → ℕ → Bool
 unfolding turns
 innerPass w recv y = turns (w - 2) (λ i good. good && besideInner w (1 + i + y * w) (getD recv (1 + i + y * w) 0)) true
 
--- row y is an inner row, its first and last receivers are good, and the inner ones pass
+-- the quick test of a whole row: row y is an inner row, its first and last receivers are good, and so are those of its
+-- inner cells
 unfoldable pub rowPasses : ℕ → ℕ → List ℕ → ℕ → Bool
 unfolding innerPass goodReceiver
 rowPasses w h recv y =

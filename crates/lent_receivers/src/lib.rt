@@ -4,10 +4,11 @@ ghost use mathlib.Core.Path.{_≡_};
 ghost use mathlib.Core.Bool.{not};
 ghost use Prim.Native.Nat.{_+_, _-_, _*_, min, _≤_, _<_};
 ghost use lib.ListN.{length};
-ghost use Rattle.lists.specs.Firsts.{First};
+ghost use Rattle.loops.specs.Firsts.{First};
 ghost use Rattle.grid.specs.Sides.{InRange, cellOf};
 ghost use Rattle.grid.specs.Directions.{Place};
-ghost use Rattle.lent_receivers.specs.Receivers.{besideInner, innerPass, rowPasses, goodReceiver, receiverTest, firstBadReceiver};
+ghost use Rattle.lent_receivers.specs.Receivers.{besideInner, innerPass, rowPasses, goodReceiver, receiverTest};
+ghost use Rattle.lent_receivers.specs.Receivers.{firstBadReceiver};
 
 // The cell before cell c of column x in its row, or c itself in the first column.
 fn cell_before(x: usize, c: usize) -> usize
@@ -31,7 +32,8 @@ fn cell_after(w: usize, x: usize, c: usize) -> usize
     c + 1
 }
 
-// Whether r is neither the cell of column x and row y nor a neighbour of it: those stand from one column before it to one after it, in three rows.
+// Whether r is neither the cell of column x and row y nor a neighbour of it: those stand from one column before it to
+// one after it, in three rows.
 fn bad_receiver(size: Sides, x: usize, y: usize, r: usize) -> bool
     requires { ⌜ Place (size .w) (size .h) x y ⌝ }
     ensures { λ b. ⌜ b ≡ not (goodReceiver (size .w) (size .h) (cellOf (size .w) x y) r) ⌝ }
@@ -64,8 +66,8 @@ fn bad_receiver(size: Sides, x: usize, y: usize, r: usize) -> bool
     true
 }
 
-// Whether r is an inner cell or a neighbour of it, with no branch to be foreseen. `from` is the first of these nine.
-fn beside(r: u32, from: u32, w: u32) -> bool
+// Whether r is an inner cell or a neighbour of it, without a branch. `from` is the first of these nine cells.
+fn is_near(r: u32, from: u32, w: u32) -> bool
     requires { ⌜ from + w + w ≤ 4096 * 4096 ⌝ }
     ensures { λ b. ⌜ b ≡ besideInner w (from + (w + 1)) r ⌝ }
 {
@@ -75,7 +77,8 @@ fn beside(r: u32, from: u32, w: u32) -> bool
         | (std::num::wrapping_sub_u32(past, w + w) < 3)
 }
 
-// Whether every inner cell of an inner row y passes. `above` is the first cell of the row above.
+// Whether the receiver of every inner cell of an inner row y is that cell or a neighbour of it. `above` is the first
+// cell of the row above.
 fn inner_pass(size: Sides, recv: &[u32], y: usize) -> bool
     requires { ⌜ InRange (size .w) (size .h) ⌝ }
     requires { ⌜ length (now recv) ≡ size .w * size .h ⌝ }
@@ -88,13 +91,14 @@ fn inner_pass(size: Sides, recv: &[u32], y: usize) -> bool
     let mut good = true;
     let mut i: usize = 0;
     while i < n {
-        good = good & beside(recv[1 + i + y * w], above + (i as u32), w as u32);
+        good = good & is_near(recv[1 + i + y * w], above + (i as u32), w as u32);
         i += 1;
     }
     good
 }
 
-// Whether row y is seen at once to have no bad receiver: an inner row with good ones at both ends whose inner cells pass.
+// A quick test that row y has no bad receiver: true for an inner row with good receivers at both ends and in all inner
+// cells. Where it is false, the row may still have no bad receiver.
 fn row_passes(size: Sides, recv: &[u32], y: usize) -> bool
     requires { ⌜ InRange (size .w) (size .h) ⌝ }
     requires { ⌜ length (now recv) ≡ size .w * size .h ⌝ }
@@ -120,12 +124,13 @@ fn row_passes(size: Sides, recv: &[u32], y: usize) -> bool
     inner_pass(size, recv, y)
 }
 
-// The first column of row y with a bad receiver, the number of columns where it has none.
+// Returns the first column of row y with a bad receiver, or the number of columns where there is none.
 fn first_in_row(size: Sides, recv: &[u32], y: usize) -> usize
     requires { ⌜ InRange (size .w) (size .h) ⌝ }
     requires { ⌜ length (now recv) ≡ size .w * size .h ⌝ }
     requires { ⌜ y < size .h ⌝ }
-    ensures { λ r. ⌜ First (size .w) (λ x. receiverTest (size .w) (size .h) (now (recv .entry)) (cellOf (size .w) x y)) r ⌝ }
+    ensures { λ r. ⌜ First (size .w) (λ x. receiverTest (size .w) (size .h) (now (recv .entry)) (cellOf (size .w) x y))
+        r ⌝ }
 {
     let w = size.w;
     if row_passes(size, recv, y) {
@@ -141,7 +146,7 @@ fn first_in_row(size: Sides, recv: &[u32], y: usize) -> usize
     w
 }
 
-// Refusal 6: the first cell with a bad receiver, the number of cells where every receiver is good.
+// Refusal 6: returns the first cell with a bad receiver, or the number of cells where every receiver is good.
 pub fn first_bad_receiver(size: Sides, recv: &[u32]) -> usize
     requires { ⌜ InRange (size .w) (size .h) ⌝ }
     requires { ⌜ length (now recv) ≡ size .w * size .h ⌝ }

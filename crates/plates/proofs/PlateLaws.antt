@@ -1,7 +1,7 @@
 -- The plates of specs/Plates.antt, by computation.
 use mathlib.Core.Path.{refl}
 use lib.Ieee.{ofBits, toBits, ofInt, round, add, sub, mul, div, lt, le, toUnsigned}
-use Rattle.lists.specs.Loops.{turns, tabulate}
+use Rattle.loops.specs.Loops.{turns, tabulate}
 use Rattle.floats.specs.Stand.{wholeBy}
 use Rattle.grid.specs.Directions.{neighbourOf}
 use Rattle.grid.specs.Heights.{firstNotFinite, allFinite}
@@ -9,12 +9,13 @@ use Rattle.square_root.specs.Root.{rootOf, nearestRoot, wholeRoot, digits}
 use Rattle.generators.specs.Marks.{reportOf}
 use Rattle.drainage.specs.Flood.{start, step, leastWaiting, pushAll, floodAfter}
 use Rattle.drainage.specs.Receivers.{receivers, receiverOf, steepestOf, directionTo}
-use Rattle.drainage.specs.Ways.{areasAlong, times}
-use Rattle.lists.specs.Firsts.{firstFailing}
+use Rattle.loops.specs.Counts.{times}
+use Rattle.drainage.specs.Ways.{areasAlong}
+use Rattle.loops.specs.Firsts.{firstFailing}
 use Rattle.lent_receivers.specs.Receivers.{goodReceiver}
 use Rattle.lent_list.specs.Entries.{goodEntry}
 use Rattle.fluvial_erosion.specs.Incision.{incisedBy, inciseAlong}
-use Rattle.talus.specs.Talus.{shedStep, shedOf, gainStep, gainsOf, slideCell, slideRow}
+use Rattle.talus.specs.Talus.{shedTo, shedStep, shedOf, gainTo, gainStep, gainsOf, slideCell, slideRow}
 use Rattle.thermal_erosion.specs.SlidePass.{rowsOf}
 use Rattle.resample.specs.WorkSize.{workSize, scaledSide}
 use Rattle.resample.specs.Blocks.{rowSum, blockSum, averageOf, downsampled}
@@ -23,5 +24,5 @@ use Rattle.upsample.specs.Samples.{addedOf}
 use Rattle.plates.specs.Plates.{AllPlates}
 
 pub all-plates : AllPlates
-unfolding ofBits toBits ofInt round add sub mul div lt le toUnsigned turns tabulate wholeBy neighbourOf firstNotFinite allFinite rootOf nearestRoot wholeRoot digits reportOf start step leastWaiting pushAll floodAfter receivers receiverOf steepestOf directionTo areasAlong times firstFailing goodReceiver goodEntry incisedBy inciseAlong shedStep shedOf gainStep gainsOf slideCell slideRow rowsOf workSize scaledSide rowSum blockSum averageOf downsampled bilinearOf addedOf
+unfolding ofBits toBits ofInt round add sub mul div lt le toUnsigned turns tabulate wholeBy neighbourOf firstNotFinite allFinite rootOf nearestRoot wholeRoot digits reportOf start step leastWaiting pushAll floodAfter receivers receiverOf steepestOf directionTo areasAlong times firstFailing goodReceiver goodEntry incisedBy inciseAlong shedTo shedStep shedOf gainTo gainStep gainsOf slideCell slideRow rowsOf workSize scaledSide rowSum blockSum averageOf downsampled bilinearOf addedOf
 all-plates = (refl, (refl, (refl, (refl, (refl, (refl, (refl, (refl, (refl, (refl, (refl, (refl, (refl, tt)))))))))))))

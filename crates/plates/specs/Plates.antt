@@ -1,14 +1,16 @@
--- Document 01, 'Plates on the wall': the 13 plates as one list, each of the definitions that the calls' contracts name, with the call's answer.
+-- Document 01, 'Plates on the wall': the 13 plates as one list. Each is stated of the definitions that the calls'
+-- contracts name, with the call's answer.
 use Prim.Native.Nat.{ℕ}
 use mathlib.Core.Path.{_≡_}
 use mathlib.Core.List.{List, [], _∷_, map}
 use lib.ListN.{getD, replicate}
 use lib.Ieee.{Float, nan, binary32, ofBits}
-use Rattle.float_order.specs.Whole.{whole}
+use Rattle.drainage.specs.Routing.{orderOn, receiversOn, spillOn, areasOn}
+use Rattle.floats.specs.Stand.{whole}
 use Rattle.answers.specs.Outcome.{Outcome, gives, refused, refusedAt}
 use Rattle.generators.specs.Marks.{fresh}
-use Rattle.drainage.specs.Ground.{squareLand}
-use Rattle.flow.specs.Route.{lentOf, routeAnswer, orderOf, floodOf, receiversOf, areasOf}
+use Rattle.drainage.specs.Ground.{gridGround, squareLand}
+use Rattle.flow.specs.Route.{lentOf, routeAnswer}
 use Rattle.fluvial_erosion.specs.Incise.{inciseRefusal, inciseAnswer, incised}
 use Rattle.fluvial_erosion.specs.declared.FluvialParams.{FluvialParams}
 use Rattle.thermal_erosion.specs.SlidePass.{slideRefusal, passAnswer, passOf}
@@ -53,7 +55,7 @@ abbrev pub 2½ : Float
 abbrev pub Left : Type 0
 Left = Outcome (Unit {0}) × List Float
 
--- a slice as it is lent to a call: no number stands in it
+-- a slice of n values as it is lent to a call: every value is a NaN
 abbrev pub lent : ℕ → List Float
 lent n = replicate n nan
 
@@ -62,15 +64,15 @@ abbrev pub routed : List ℕ → ℕ → (Outcome (Unit {0}) × List ℕ) × ℕ
 routed heights cell =
     let hs : List Float = floats heights in
     let zeros : List ℕ = replicate 9 0 in (
-      (routeAnswer 3 3 hs (whole 0) (lentOf hs zeros zeros (lent 9) (lent 9) zeros zeros), orderOf 3 3 hs (squareLand (whole 0))),
-      getD (receiversOf 3 3 hs (squareLand (whole 0))) cell 0,
+      (routeAnswer 3 3 hs (whole 0) (lentOf hs zeros zeros (lent 9) (lent 9) zeros zeros), orderOn (gridGround 3 3 (squareLand (whole 0))) hs),
+      getD (receiversOn (gridGround 3 3 (squareLand (whole 0))) hs) cell 0,
     )
 
--- and with the cell's spill height and another cell's area
+-- the same as `routed`, with the cell's spill height and another cell's area besides
 abbrev pub drained : List ℕ → ℕ → ℕ → ((Outcome (Unit {0}) × List ℕ) × ℕ) × (Float × Float)
 drained heights cell other =
     let hs : List Float = floats heights in
-    (routed heights cell, (getD (floodOf 3 3 hs (squareLand (whole 0)) .spill) cell nan, getD (areasOf 3 3 hs (squareLand (whole 0))) other nan))
+    (routed heights cell, (getD (spillOn (gridGround 3 3 (squareLand (whole 0))) hs) cell nan, getD (areasOn (gridGround 3 3 (squareLand (whole 0))) hs) other nan))
 
 -- 1 × 1: a height, water 0, k 1, an uplift
 abbrev pub incise : ℕ → Float → Left

@@ -10,24 +10,24 @@ use lib.Dec.{eqb}
 use lib.ListN.{length, getD, set, drop, length-set}
 use lib.Seq.{getD-set-same, getD-set-other}
 use lib.Ieee.{Float, nan}
-use Rattle.lists.specs.Loops.{tabulate}
-use Rattle.lists.proofs.TableLaws.{filled-length, filled-read}
-use Rattle.lists.proofs.FillLaws.{Filling, filling-next}
+use Rattle.loops.specs.Loops.{tabulate}
+use Rattle.loops.proofs.TableLaws.{filled-length, filled-read}
+use Rattle.loops.proofs.FillLaws.{Filling, filling-next}
 use Rattle.grid.specs.Directions.{Adjacent}
-use Rattle.inner_cells.specs.Inner.{InnerRun}
-use Rattle.spacing.specs.Distances.{nineOf}
-use Rattle.spacing.specs.declared.Distances.{Distances}
+use Rattle.grid_inner.specs.Inner.{InnerRun}
+use Rattle.grid_spacing.specs.Distances.{nineOf}
+use Rattle.grid_spacing.specs.declared.Distances.{Distances}
 use Rattle.drainage.specs.Ground.{floats, groundBy}
 use Rattle.drainage.specs.Receivers.{receiverOf}
-use Rattle.network.specs.Passes.{Received}
-use Rattle.receiver_blocks.specs.Runs.{finderAs, steepestFrom, steepestAt, NearFinders, Begun, Leads, Stored, RunReceived}
+use Rattle.receiver.specs.Passes.{Received}
+use Rattle.receiver_blocks.specs.Runs.{discovererAs, steepestFrom, steepestAt, NearDiscoverers, Begun, Leads, Stored, RunReceived}
 use Rattle.receiver_blocks.proofs.OffsetLaws.{offset-enough, offset-below, offset-received}
 
 -- the lists keep their lengths
 pub begun-long :
     {ds : Distances} {w : ℕ} {spill : List Float} {recv : List ℕ} {c n : ℕ} {cells cells′ : List ℕ} {slopes slopes′ : List Float} → Begun ds w spill recv c n cells slopes cells′ slopes′
     → n ≤ length cells → length cells′ ≡ length cells
-begun-long {ds} {w} {spill} {recv} {c} {n} {cells} b l = ap length (b .offsets) ∙ filled-length (λ i. finderAs ds w spill (c + i) (getD recv (c + i) 0) .cell) n cells l
+begun-long {ds} {w} {spill} {recv} {c} {n} {cells} b l = ap length (b .offsets) ∙ filled-length (λ i. discovererAs ds w spill (c + i) (getD recv (c + i) 0) .cell) n cells l
 
 -- one cell more: the offset so far is still the one at the start
 pub steepest-next :
@@ -40,32 +40,32 @@ steepest-next by-direction w h spill c old slopes i p e =
 module _ (ds : Distances) (w h : ℕ) (spill : List Float) (recv : List ℕ) (c n : ℕ) {cells cells′ cells″ : List ℕ} {slopes slopes′ : List Float} where
   pub block-offset :
       Begun ds w spill recv c n cells slopes cells′ slopes′ → {by-direction : List Float} → by-direction ≡ nineOf ds → cells″ ≡ tabulate n (steepestAt by-direction w h spill c cells′ slopes′) ++ drop n cells′ → (i : ℕ) → i < n
-      → getD cells″ i 0 ≡ steepestFrom (nineOf ds) w h spill (c + i) (finderAs ds w spill (c + i) (getD recv (c + i) 0)) .cell
+      → getD cells″ i 0 ≡ steepestFrom (nineOf ds) w h spill (c + i) (discovererAs ds w spill (c + i) (getD recv (c + i) 0)) .cell
   block-offset b {by-direction} t e i l =
       filled-read (steepestAt by-direction w h spill c cells′ slopes′) n cells′ e i 0 l
       ∙ ap (λ (k : List Float). steepestAt k w h spill c cells′ slopes′ i) t
       ∙ ap₂ (λ (k : ℕ) (s : Float). steepestFrom (nineOf ds) w h spill (c + i) (record { cell = k; slope = s }) .cell)
-      (filled-read (λ i. finderAs ds w spill (c + i) (getD recv (c + i) 0) .cell) n cells (b .offsets) i 0 l)
-      (filled-read (λ i. finderAs ds w spill (c + i) (getD recv (c + i) 0) .slope) n slopes (b .downs) i nan l)
+      (filled-read (λ i. discovererAs ds w spill (c + i) (getD recv (c + i) 0) .cell) n cells (b .offsets) i 0 l)
+      (filled-read (λ i. discovererAs ds w spill (c + i) (getD recv (c + i) 0) .slope) n slopes (b .downs) i nan l)
 
 -- the receiver of cell c + i, whose offset o the block has found
 module _
-    (ds : Distances) (w h : ℕ) (spill : List Float) (long : length spill ≡ w * h) (recv : List ℕ) (c n : ℕ) (inner : InnerRun w h c n) (near : NearFinders w h c (c + n) recv) (i : ℕ)
-    (l : i < n) (o : ℕ) (e : o ≡ steepestFrom (nineOf ds) w h spill (c + i) (finderAs ds w spill (c + i) (getD recv (c + i) 0)) .cell) where
-  finder : (getD recv (c + i) 0 ≡ c + i) ⊎ Adjacent w h (c + i) (getD recv (c + i) 0)
-  finder = near .near (c + i) (omega arith) (omega arith)
+    (ds : Distances) (w h : ℕ) (spill : List Float) (long : length spill ≡ w * h) (recv : List ℕ) (c n : ℕ) (inner : InnerRun w h c n) (near : NearDiscoverers w h c (c + n) recv) (i : ℕ)
+    (l : i < n) (o : ℕ) (e : o ≡ steepestFrom (nineOf ds) w h spill (c + i) (discovererAs ds w spill (c + i) (getD recv (c + i) 0)) .cell) where
+  discoverer : (getD recv (c + i) 0 ≡ c + i) ⊎ Adjacent w h (c + i) (getD recv (c + i) 0)
+  discoverer = near .near (c + i) (omega arith) (omega arith)
 
   block-enough : w + 1 ≤ c + i + o
-  block-enough = rw e (offset-enough ds w h spill (c + i) (getD recv (c + i) 0) long (inner .inner i l) finder)
+  block-enough = rw e (offset-enough ds w h spill (c + i) (getD recv (c + i) 0) long (inner .inner i l) discoverer)
 
   block-below : c + i + o ≤ 2 ^ 25
-  block-below = rw e (offset-below ds w h spill (c + i) (getD recv (c + i) 0) long (inner .inner i l) finder)
+  block-below = rw e (offset-below ds w h spill (c + i) (getD recv (c + i) 0) long (inner .inner i l) discoverer)
 
   block-received :
       {v : ℕ} → v ≡ cond (eqb (getD recv (c + i) 0) (c + i)) (getD recv (c + i) 0) (c + i + o - (w + 1))
       → Received ds w h spill (c + i) (getD recv (c + i) 0) v
   block-received {v} q =
-      offset-received ds w h spill (c + i) (getD recv (c + i) 0) long (inner .inner i l) finder v
+      offset-received ds w h spill (c + i) (getD recv (c + i) 0) long (inner .inner i l) discoverer v
       (q ∙ ap (λ (o : ℕ). cond (eqb (getD recv (c + i) 0) (c + i)) (getD recv (c + i) 0) (c + i + o - (w + 1))) e)
 
 -- the loop of the stores
@@ -111,10 +111,10 @@ module _ {w c : ℕ} {cells r : List ℕ} where
 -- the stores of a whole block leave its receivers
 module _
     (ds : Distances) (w h : ℕ) (spill : List Float) (long : length spill ≡ w * h) (recv : List ℕ) (c n : ℕ)
-    (inner : InnerRun w h c n) (near : NearFinders w h c (c + n) recv) (cells : List ℕ)
+    (inner : InnerRun w h c n) (near : NearDiscoverers w h c (c + n) recv) (cells : List ℕ)
     (e :
     (i : ℕ) → i < n
-    → getD cells i 0 ≡ steepestFrom (nineOf ds) w h spill (c + i) (finderAs ds w spill (c + i) (getD recv (c + i) 0)) .cell) where
+    → getD cells i 0 ≡ steepestFrom (nineOf ds) w h spill (c + i) (discovererAs ds w spill (c + i) (getD recv (c + i) 0)) .cell) where
   pub block-leads : Leads w c n cells
   block-leads = record {
     enough = λ i l. block-enough ds w h spill long recv c n inner near i l (getD cells i 0) (e i l);

@@ -11,21 +11,21 @@ use lib.ListN.{length, getD}
 use lib.Ieee.{Float, nan, lt}
 use borrow.Author.Tests.{eq-eqb, ne-eqb}
 use native.Mathlib.Decide.{ℕ-discrete}
-use Rattle.lists.proofs.TurnLaws.{turns-hold}
+use Rattle.loops.proofs.TurnLaws.{turns-hold}
 use Rattle.grid.specs.Sides.{columnOf, rowOf}
 use Rattle.grid.specs.Directions.{neighbourAt, Adjacent}
 use Rattle.grid.proofs.SidesLaws.{cell-lt, cell-back, cells-bound}
-use Rattle.inner_cells.specs.Inner.{Inner}
-use Rattle.inner_cells.proofs.InnerLaws.{inner-cell, inner-below}
-use Rattle.spacing.specs.Distances.{nineOf, distanceIn}
-use Rattle.spacing.specs.declared.Distances.{Distances}
-use Rattle.ways.specs.Apart.{apart}
-use Rattle.steps.specs.Step.{Near, placeDistances, placeOf}
-use Rattle.steps.proofs.PlaceLaws.{near-of, gap-bound, place-read}
-use Rattle.network.specs.declared.Best.{Best}
-use Rattle.network.specs.Passes.{slopeDown, comparedAs, Received}
-use Rattle.network.proofs.ReceiverLaws.{Leading, leading-none, leading-more, leading-done, received-own, compared-inside}
-use Rattle.receiver_blocks.specs.Runs.{offsetFrom, finderAs, steepestFrom}
+use Rattle.grid_inner.specs.Inner.{Inner}
+use Rattle.grid_inner.proofs.InnerLaws.{inner-cell, inner-below}
+use Rattle.grid_spacing.specs.Distances.{nineOf, distanceIn}
+use Rattle.grid_spacing.specs.declared.Distances.{Distances}
+use Rattle.receiver_steps.specs.Distance.{apart}
+use Rattle.receiver_steps.specs.Step.{Near, placeDistances, distancePlace}
+use Rattle.receiver_steps.proofs.PlaceLaws.{near-of, gap-bound, place-read}
+use Rattle.receiver.specs.declared.Best.{Best}
+use Rattle.receiver.specs.Passes.{slopeDown, comparedAs, Received}
+use Rattle.receiver.proofs.ReceiverLaws.{Leading, leading-none, leading-more, leading-done, received-own, compared-inside}
+use Rattle.receiver_blocks.specs.Runs.{offsetFrom, discovererAs, steepestFrom}
 
 module _ {w h c : ℕ} (a : Inner w h c) where
   pub inner-inside : c < w * h
@@ -40,25 +40,25 @@ module _ {w h c : ℕ} (a : Inner w h c) where
   inner-few = cells-bound w h (a .wide) (a .high)
 
   module _ {f : ℕ} (n : (f ≡ c) ⊎ Adjacent w h c f) where
-    pub finder-near : Near w c f
-    finder-near = near-of (omega (arith, inner-wide)) (a .wide) n
+    pub discoverer-near : Near w c f
+    discoverer-near = near-of (omega (arith, inner-wide)) (a .wide) n
 
-    -- a finder lies at most one row and one cell away
-    pub finder-back : c ≤ f + (w + 1)
-    finder-back = omega (arith, gap-bound finder-near inner-wide)
+    -- a discoverer lies at most one row and one cell away
+    pub discoverer-back : c ≤ f + (w + 1)
+    discoverer-back = omega (arith, gap-bound discoverer-near inner-wide)
 
-    pub finder-ahead : f ≤ c + (w + 1)
-    finder-ahead = omega (arith, gap-bound finder-near inner-wide)
+    pub discoverer-ahead : f ≤ c + (w + 1)
+    discoverer-ahead = omega (arith, gap-bound discoverer-near inner-wide)
 
   -- so does a neighbour
   pub inner-adjacent : (d : ℕ) → d < 8 → (m : ℕ) → m ≡ neighbourAt w h c (d + 1) → Adjacent w h c m
   inner-adjacent d l m e =
       record { direction = d + 1; first = omega arith; last = omega arith; inside = inner-below w h c (d + 1) (omega arith) (omega arith) a _ _ refl e; leads = sym e }
 
--- the slope down to a finder, as the code works it out
+-- the slope down to a discoverer, as the code works it out
 pub slope-read :
     (ds : Distances) (w : ℕ) (spill : List Float) (c f : ℕ) → Near w c f → 3 ≤ w → (by-place : List Float) (place : ℕ) → by-place ≡ placeDistances ds
-    → place ≡ placeOf w c f
+    → place ≡ distancePlace w c f
     → slopeDown spill c f (getD by-place place nan) ≡ slopeDown spill c f (apart ds w c f)
 slope-read ds w spill c f near wide by-place place e p = ap (slopeDown spill c f) (place-read near ds wide by-place place e p)
 
@@ -72,18 +72,18 @@ offset-where : {w c : ℕ} (t : Bool) {a b : Best} (m o : ℕ) (s : Float) → O
 offset-where true m o s p e = record { cell = e; slope = refl }
 offset-where false m o s p e = p
 
--- the best of the finder f and the first d neighbours of cell c, by its offset
+-- the best of the discoverer f and the first d neighbours of cell c, by its offset
 pub record Following (ds : Distances) (w h : ℕ) (spill : List Float) (c f d : ℕ) (best : Best) : Type 0 where
   pub lead : Best
   pub leads : Leading ds w h spill c f d lead
   pub same : Offset w c lead best
 
 module _ (ds : Distances) (w h : ℕ) (spill : List Float) (c f : ℕ) (long : length spill ≡ w * h) (a : Inner w h c) (n : (f ≡ c) ⊎ Adjacent w h c f) where
-  following-none : Following ds w h spill c f 0 (finderAs ds w spill c f)
+  following-none : Following ds w h spill c f 0 (discovererAs ds w spill c f)
   following-none = record {
     lead = record { cell = f; slope = slopeDown spill c f (apart ds w c f) };
     leads = leading-none ds w h spill c f (inner-inside a) n (apart ds w c f) refl;
-    same = record { cell = omega (arith, finder-back a n); slope = refl };
+    same = record { cell = omega (arith, discoverer-back a n); slope = refl };
   }
 
   following-more :
@@ -105,33 +105,33 @@ module _ (ds : Distances) (w h : ℕ) (spill : List Float) (c f : ℕ) (long : l
             (record { cell = offsetFrom w c m; slope = slopeDown spill c m (distanceIn ds (d + 1)) }) b))
             (sym (p .same .slope))
             (offset-where (lt (getD spill m nan) (getD spill c nan) && lt (p .lead .slope) (slopeDown spill c m (distanceIn ds (d + 1)))) m _ _ (p .same)
-            (omega (arith, finder-back a (inr (inner-adjacent a d l m refl)))));
+            (omega (arith, discoverer-back a (inr (inner-adjacent a d l m refl)))));
       }
 
-  pub following-all : Following ds w h spill c f 8 (steepestFrom (nineOf ds) w h spill c (finderAs ds w spill c f))
+  pub following-all : Following ds w h spill c f 8 (steepestFrom (nineOf ds) w h spill c (discovererAs ds w spill c f))
   unfolding steepestFrom
   following-all =
-      turns-hold (λ i. comparedAs (nineOf ds) spill c (i + 1) (neighbourAt w h c (i + 1)) (offsetFrom w c (neighbourAt w h c (i + 1)))) (Following ds w h spill c f) (finderAs ds w spill c f) 8 following-none
+      turns-hold (λ i. comparedAs (nineOf ds) spill c (i + 1) (neighbourAt w h c (i + 1)) (offsetFrom w c (neighbourAt w h c (i + 1)))) (Following ds w h spill c f) (discovererAs ds w spill c f) 8 following-none
       (λ i t l p. subst (λ (k : ℕ). Following ds w h spill c f k (comparedAs (nineOf ds) spill c (i + 1) (neighbourAt w h c (i + 1)) (offsetFrom w c (neighbourAt w h c (i + 1))) t)) (add-one i) (following-more i t l p))
 
   -- the offset that the fold leaves: it leads to a cell, the receiver
-  pub offset-enough : w + 1 ≤ c + steepestFrom (nineOf ds) w h spill c (finderAs ds w spill c f) .cell
+  pub offset-enough : w + 1 ≤ c + steepestFrom (nineOf ds) w h spill c (discovererAs ds w spill c f) .cell
   offset-enough = let p = following-all in omega (arith, p .same .cell)
 
-  pub offset-below : c + steepestFrom (nineOf ds) w h spill c (finderAs ds w spill c f) .cell ≤ 2 ^ 25
+  pub offset-below : c + steepestFrom (nineOf ds) w h spill c (discovererAs ds w spill c f) .cell ≤ 2 ^ 25
   offset-below =
       let p = following-all in
       omega (arith, p .same .cell, p .leads .inside, inner-few a, a .wide)
 
   pub offset-received :
-      (r : ℕ) → r ≡ cond (eqb f c) f (c + steepestFrom (nineOf ds) w h spill c (finderAs ds w spill c f) .cell - (w + 1)) → Received ds w h spill c f r
+      (r : ℕ) → r ≡ cond (eqb f c) f (c + steepestFrom (nineOf ds) w h spill c (discovererAs ds w spill c f) .cell - (w + 1)) → Received ds w h spill c f r
   offset-received r e = go (ℕ-discrete f c)
     where
       go : Dec (f ≡ c) → Received ds w h spill c f r
       go (yes own) = subst (Received ds w h spill c f) (sym (e ∙ rw (eq-eqb f c own))) (received-own ds w h spill c f own (inner-inside a))
       go (no other) =
           let p = following-all in
-          let back : p .lead .cell ≡ c + steepestFrom (nineOf ds) w h spill c (finderAs ds w spill c f) .cell - (w + 1) = omega (arith, p .same .cell) in
+          let back : p .lead .cell ≡ c + steepestFrom (nineOf ds) w h spill c (discovererAs ds w spill c f) .cell - (w + 1) = omega (arith, p .same .cell) in
           subst (Received ds w h spill c f) (sym (e ∙ rw (ne-eqb f c other) (sym back))) (leading-done ds w h spill c f 8 (p .lead) other (omega arith) (omega arith) (p .leads))
 
 -- the loop over the directions: the neighbour in direction i + 1 against the best so far, as the code works it out

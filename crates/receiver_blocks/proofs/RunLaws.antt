@@ -8,10 +8,10 @@ use native.Mathlib.Decide.{decLt}
 use lib.ListN.{length, getD, set, length-set}
 use lib.Seq.{getD-set-same, getD-set-other}
 use lib.Ieee.{Float}
-use Rattle.spacing.specs.declared.Distances.{Distances}
+use Rattle.grid_spacing.specs.declared.Distances.{Distances}
 use Rattle.drainage.specs.Ground.{floats, groundBy}
 use Rattle.drainage.specs.Receivers.{receiverOf}
-use Rattle.network.specs.Passes.{Received}
+use Rattle.receiver.specs.Passes.{Received}
 use Rattle.receiver_blocks.specs.Runs.{RunReceived}
 
 module _ (ds : Distances) (w h : ℕ) (spill : List Float) where

@@ -1,2 +1,2 @@
--- Receivers of runs of cells.
+-- Receivers of segments of cells.
 pub mod Runs

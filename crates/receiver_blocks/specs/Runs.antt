@@ -1,4 +1,4 @@
--- Receivers in the place of finders, in runs of cells that follow each other in number.
+-- Receivers in the place of discoverers, in segments of cells with consecutive numbers.
 use Prim.Native.Nat.{ℕ, _+_, _-_, _^_, _≤_, _<_}
 use mathlib.Core.Path.{_≡_}
 use mathlib.Core.Bool.{Bool, cond}
@@ -7,48 +7,51 @@ use mathlib.Core.List.{List, _++_}
 use lib.ListN.{length, getD, drop}
 use lib.Dec.{eqb}
 use lib.Ieee.{Float, nan}
-use Rattle.lists.specs.Loops.{turns, tabulate}
+use Rattle.loops.specs.Loops.{turns, tabulate}
 use Rattle.grid.specs.Directions.{neighbourAt, Adjacent}
-use Rattle.spacing.specs.declared.Distances.{Distances}
+use Rattle.grid_spacing.specs.declared.Distances.{Distances}
 use Rattle.drainage.specs.Ground.{floats, groundBy}
 use Rattle.drainage.specs.Receivers.{receiverOf}
-use Rattle.ways.specs.Apart.{apart}
-use Rattle.network.specs.declared.Best.{Best}
-use Rattle.network.specs.Passes.{slopeDown, comparedAs}
+use Rattle.receiver_steps.specs.Distance.{apart}
+use Rattle.receiver.specs.declared.Best.{Best}
+use Rattle.receiver.specs.Passes.{slopeDown, comparedAs}
 
--- the offset of cell m from cell c: how far it lies behind the cell in the north-west of c, which is c - (w + 1)
+-- the offset of cell m for cell c: m minus the north-west neighbour of c, which is c - (w + 1)
 abbrev pub offsetFrom : ℕ → ℕ → ℕ → ℕ
 offsetFrom w c m = m + (w + 1) - c
 
--- the finder f of cell c, by its offset, and the slope down to it
-abbrev pub finderAs : Distances → ℕ → List Float → ℕ → ℕ → Best
-finderAs ds w spill c f = record { cell = offsetFrom w c f; slope = slopeDown spill c f (apart ds w c f) }
+-- the discoverer f of cell c, by its offset, and the slope down to it
+abbrev pub discovererAs : Distances → ℕ → List Float → ℕ → ℕ → Best
+discovererAs ds w spill c f = record { cell = offsetFrom w c f; slope = slopeDown spill c f (apart ds w c f) }
 
--- the neighbours of inner cell c, in their order, against the receiver so far, each by its offset
+-- the receiver so far after the neighbours of inner cell c, in scan order and by their offsets, were compared with it
 unfoldable pub steepestFrom : List Float → ℕ → ℕ → List Float → ℕ → Best → Best
 unfolding turns
 steepestFrom by-direction w h spill c = turns 8 (λ i. comparedAs by-direction spill c (i + 1) (neighbourAt w h c (i + 1)) (offsetFrom w c (neighbourAt w h c (i + 1))))
 
--- the offset of the steepest of cell c + i, the offsets and slopes of the receivers so far in two lists
+-- the offset of the steepest neighbour of cell c + i; `cells` and `slopes` hold the offsets and slopes of the receivers
+-- so far
 abbrev pub steepestAt : List Float → ℕ → ℕ → List Float → ℕ → List ℕ → List Float → ℕ → ℕ
 steepestAt by-direction w h spill c cells slopes i = steepestFrom by-direction w h spill (c + i) (record { cell = getD cells i 0; slope = getD slopes i nan }) .cell
 
--- each cell from `from` to below `to` is its own finder, or a neighbour is
-pub record NearFinders (w h from to : ℕ) (recv : List ℕ) : Type 0 where
+-- the discoverer of each cell from `from` to below `to` is the cell itself or a neighbour
+pub record NearDiscoverers (w h from to : ℕ) (recv : List ℕ) : Type 0 where
   pub near : (c : ℕ) → from ≤ c → c < to → (getD recv c 0 ≡ c) ⊎ Adjacent w h c (getD recv c 0)
 
--- the finders of the n cells from cell c on, at the front of two lists
+-- cells′ and slopes′ begin with the offsets of the discoverers of the n cells from cell c on and the slopes down to
+-- them; the rest is as in cells and slopes
 pub record Begun (ds : Distances) (w : ℕ) (spill : List Float) (recv : List ℕ) (c n : ℕ) (cells : List ℕ) (slopes : List Float) (cells′ : List ℕ) (slopes′ : List Float) : Type 0 where
-  pub offsets : cells′ ≡ tabulate n (λ i. finderAs ds w spill (c + i) (getD recv (c + i) 0) .cell) ++ drop n cells
-  pub downs : slopes′ ≡ tabulate n (λ i. finderAs ds w spill (c + i) (getD recv (c + i) 0) .slope) ++ drop n slopes
+  pub offsets : cells′ ≡ tabulate n (λ i. discovererAs ds w spill (c + i) (getD recv (c + i) 0) .cell) ++ drop n cells
+  pub downs : slopes′ ≡ tabulate n (λ i. discovererAs ds w spill (c + i) (getD recv (c + i) 0) .slope) ++ drop n slopes
 
--- the offset of each of the n cells from cell c on leads to a number that is not below 0, and has at most 25 bits
+-- for each of the n cells from cell c on, cell number + offset is at least w + 1, so that the offset leads to no number
+-- below 0, and at most 2 ^ 25
 pub record Leads (w c n : ℕ) (cells : List ℕ) : Type 0 where
   pub enough : (i : ℕ) → i < n → w + 1 ≤ c + i + getD cells i 0
   pub below : (i : ℕ) → i < n → c + i + getD cells i 0 ≤ 2 ^ 25
 
--- each of the n cells from cell c on has the cell at its offset in the place of its finder, if that is another cell;
--- the other cells are as they were
+-- each of the n cells from cell c on whose discoverer is another cell has the cell at its offset in recv′; all other
+-- entries are as in recv
 pub record Stored (w c n : ℕ) (cells recv recv′ : List ℕ) : Type 0 where
   pub done :
       (i : ℕ) → i < n
@@ -57,7 +60,8 @@ pub record Stored (w c n : ℕ) (cells recv recv′ : List ℕ) : Type 0 where
   pub later : (k : ℕ) → c + n ≤ k → getD recv′ k 0 ≡ getD recv k 0
   pub long : length recv′ ≡ length recv
 
--- the cells from `from` to below `to` have their receivers in the place of their finders, the others are as they were
+-- recv′ holds the receivers of the cells from `from` to below `to` in the place of their discoverers; the other entries
+-- are as in recv
 pub record RunReceived (ds : Distances) (w h : ℕ) (spill : List Float) (from to : ℕ) (recv recv′ : List ℕ) : Type 0 where
   pub done :
       (base : ℕ → Bool) (c : ℕ) → from ≤ c → c < to

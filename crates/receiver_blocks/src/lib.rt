@@ -1,28 +1,28 @@
-// Receivers in the place of finders, for a block of inner cells: the finders of all with the slopes down to them, then
-// the steepest neighbours of all, each by its offset, with no test and no branch, then the stores.
+// Replaces the discoverers of a block of inner cells by their receivers, in three loops: the offset of each discoverer
+// and the slope down to it; the offset of each steepest neighbour, with no test and no branch; the stores.
 use grid::DIRX;
 use grid::DIRY;
 use grid::Sides;
-use inner_cells::beside;
-use network::Best;
-use network::compare;
-use spacing::Distances;
-use steps::step_place;
+use grid_inner::beside;
+use grid_spacing::Distances;
+use receiver::Best;
+use receiver::compare;
+use receiver_steps::step_place;
 ghost use Prim.Native.Nat.{_+_, _-_, _*_, _^_, _≤_, _<_};
 ghost use mathlib.Core.Path.{_≡_};
 ghost use mathlib.Core.Bool.{cond};
 ghost use mathlib.Core.List.{_++_};
 ghost use lib.Dec.{eqb};
 ghost use lib.ListN.{length, drop};
-ghost use Rattle.lists.specs.Loops.{tabulate};
-ghost use Rattle.inner_cells.specs.Inner.{Inner, InnerRun};
-ghost use Rattle.steps.specs.Step.{placeDistances, Near};
-ghost use Rattle.spacing.specs.Distances.{nineOf};
-ghost use Rattle.receiver_blocks.specs.Runs.{offsetFrom, finderAs, steepestFrom, steepestAt, NearFinders};
+ghost use Rattle.loops.specs.Loops.{tabulate};
+ghost use Rattle.grid_inner.specs.Inner.{Inner, InnerRun};
+ghost use Rattle.receiver_steps.specs.Step.{placeDistances, Near};
+ghost use Rattle.grid_spacing.specs.Distances.{nineOf};
+ghost use Rattle.receiver_blocks.specs.Runs.{offsetFrom, discovererAs, steepestFrom, steepestAt, NearDiscoverers};
 ghost use Rattle.receiver_blocks.specs.Runs.{Begun, Leads, Stored, RunReceived};
 
-// The offset of cell m from an inner cell c on a grid of that width. It stands for m beside its slope, in as many bits,
-// so that as many are chosen at a time.
+// The offset of cell m for an inner cell c on a grid of that width: m minus the north-west neighbour of c. It has as
+// many bits as a slope, so that as many offsets as slopes are selected at a time.
 fn offset(width: usize, c: usize, m: usize) -> u32
     requires { ⌜ width ≤ 4096 ⌝ }
     requires { ⌜ c ≤ m + (width + 1) ⌝ }
@@ -33,8 +33,8 @@ fn offset(width: usize, c: usize, m: usize) -> u32
     (m + (width + 1) - c) as u32
 }
 
-// The slope from cell c down to its finder f.
-fn finder_slope(
+// The slope from cell c down to its discoverer f.
+fn discoverer_slope(
     width: usize,
     ds: Distances,
     by_place: &[f32; 5],
@@ -47,14 +47,14 @@ fn finder_slope(
     requires { ⌜ now «by_place» ≡ placeDistances ds ⌝ }
     requires { ⌜ c < length (now spill) ⌝ }
     requires { ⌜ f < length (now spill) ⌝ }
-    ensures { λ r. ⌜ r ≡ finderAs ds width (now (spill .entry)) c f .slope ⌝ }
+    ensures { λ r. ⌜ r ≡ discovererAs ds width (now (spill .entry)) c f .slope ⌝ }
 {
     let place = step_place(c, f, width);
     (spill[c] - spill[f]) / by_place[place]
 }
 
-// The finders of n inner cells from cell c on, by their offsets, and the slopes down to them.
-fn finder_block(
+// Stores the offsets of the discoverers of n inner cells from cell c on, and the slopes down to them.
+fn discoverer_block(
     size: Sides,
     ds: Distances,
     by_place: &[f32; 5],
@@ -66,30 +66,33 @@ fn finder_block(
     slopes: &mut [f32; 64],
 )
     requires { ⌜ InnerRun (size .w) (size .h) c n ⌝ }
-    requires { ⌜ NearFinders (size .w) (size .h) c (c + n) (now recv) ⌝ }
+    requires { ⌜ NearDiscoverers (size .w) (size .h) c (c + n) (now recv) ⌝ }
     requires { ⌜ now «by_place» ≡ placeDistances ds ⌝ }
     requires { ⌜ length (now spill) ≡ size .w * size .h ⌝ }
     requires { ⌜ length (now recv) ≡ size .w * size .h ⌝ }
     requires { ⌜ n ≤ 64 ⌝ }
     requires { ⌜ length (now cells) ≡ 64 ⌝ }
     requires { ⌜ length (now slopes) ≡ 64 ⌝ }
-    ensures { λ _. ⌜ Begun ds (size .w) (now (spill .entry)) (now (recv .entry)) c n (now (cells .entry)) (now (slopes .entry)) (now (cells .exit)) (now (slopes .exit)) ⌝ }
+    ensures { λ _. ⌜ Begun ds (size .w) (now (spill .entry)) (now (recv .entry)) c n (now (cells .entry))
+        (now (slopes .entry)) (now (cells .exit)) (now (slopes .exit)) ⌝ }
 {
     let w = size.w;
     let mut i: usize = 0;
     while i < n {
         let f = recv[c + i] as usize;
-        slopes[i] = finder_slope(w, ds, by_place, spill, c + i, f);
+        slopes[i] = discoverer_slope(w, ds, by_place, spill, c + i, f);
         cells[i] = offset(w, c + i, f);
         i += 1;
     }
 }
 
-// The steepest neighbour of an inner cell against the receiver so far, by their offsets.
+// Compares the neighbours of an inner cell with the receiver so far, by their offsets. Returns the offset of the
+// steepest.
 fn steepest_inside(size: Sides, by_direction: &[f32; 9], spill: &[f32], c: usize, best: Best) -> u32
     requires { ⌜ Inner (size .w) (size .h) c ⌝ }
     requires { ⌜ length (now spill) ≡ size .w * size .h ⌝ }
-    ensures { λ r. ⌜ r ≡ steepestFrom (now («by_direction» .entry)) (size .w) (size .h) (now (spill .entry)) c best .cell ⌝ }
+    ensures { λ r. ⌜ r
+        ≡ steepestFrom (now («by_direction» .entry)) (size .w) (size .h) (now (spill .entry)) c best .cell ⌝ }
 {
     let w = size.w;
     let mut b = best;
@@ -102,7 +105,8 @@ fn steepest_inside(size: Sides, by_direction: &[f32; 9], spill: &[f32], c: usize
     b.cell
 }
 
-// The steepest of n inner cells from cell c on. Nothing lent is written between them, so that several are worked out at a time.
+// Replaces the offsets in `cells` by those of the steepest neighbours of n inner cells from cell c on. Spill heights
+// and receivers are not written in the loop, so that several cells are worked out at a time.
 fn steepest_block(
     size: Sides,
     by_direction: &[f32; 9],
@@ -116,7 +120,8 @@ fn steepest_block(
     requires { ⌜ length (now spill) ≡ size .w * size .h ⌝ }
     requires { ⌜ n ≤ 64 ⌝ }
     requires { ⌜ length (now cells) ≡ 64 ⌝ }
-    ensures { λ _. ⌜ now (cells .exit) ≡ tabulate n (steepestAt (now («by_direction» .entry)) (size .w) (size .h) (now (spill .entry)) c (now (cells .entry)) (now (slopes .entry))) ++ drop n (now (cells .entry)) ⌝ }
+    ensures { λ _. ⌜ now (cells .exit) ≡ tabulate n (steepestAt (now («by_direction» .entry)) (size .w) (size .h)
+        (now (spill .entry)) c (now (cells .entry)) (now (slopes .entry))) ++ drop n (now (cells .entry)) ⌝ }
 {
     let mut i: usize = 0;
     while i < n {
@@ -129,7 +134,7 @@ fn steepest_block(
     }
 }
 
-// The receiver of an inner cell: the cell itself if it is its own finder, else the one at the offset.
+// The receiver of an inner cell: the cell itself if it is its own discoverer, else the one at the offset.
 fn receiver_inside(size: Sides, c: usize, f: u32, offset: u32) -> u32
     requires { ⌜ size .w + 1 ≤ c + offset ⌝ }
     requires { ⌜ c + offset ≤ 2 ^ 25 ⌝ }
@@ -141,7 +146,7 @@ fn receiver_inside(size: Sides, c: usize, f: u32, offset: u32) -> u32
     (c + offset as usize - (size.w + 1)) as u32
 }
 
-// The receivers of n inner cells from cell c on in the place of their finders, by the offsets in `cells`.
+// The receivers of n inner cells from cell c on in the place of their discoverers, by the offsets in `cells`.
 fn store_block(size: Sides, recv: &mut [u32], c: usize, n: usize, cells: &[u32; 64])
     requires { ⌜ InnerRun (size .w) (size .h) c n ⌝ }
     requires { ⌜ length (now recv) ≡ size .w * size .h ⌝ }
@@ -156,7 +161,7 @@ fn store_block(size: Sides, recv: &mut [u32], c: usize, n: usize, cells: &[u32; 
     }
 }
 
-// The receivers of n inner cells from cell c on.
+// Stores the receivers of n inner cells from cell c on, at most 64, in the place of their discoverers.
 pub fn receive_block(
     size: Sides,
     ds: Distances,
@@ -168,17 +173,18 @@ pub fn receive_block(
     n: usize,
 )
     requires { ⌜ InnerRun (size .w) (size .h) c n ⌝ }
-    requires { ⌜ NearFinders (size .w) (size .h) c (c + n) (now recv) ⌝ }
+    requires { ⌜ NearDiscoverers (size .w) (size .h) c (c + n) (now recv) ⌝ }
     requires { ⌜ now «by_place» ≡ placeDistances ds ⌝ }
     requires { ⌜ length (now spill) ≡ size .w * size .h ⌝ }
     requires { ⌜ length (now recv) ≡ size .w * size .h ⌝ }
     requires { ⌜ n ≤ 64 ⌝ }
     requires { ⌜ now «by_direction» ≡ nineOf ds ⌝ }
-    ensures { λ _. ⌜ RunReceived ds (size .w) (size .h) (now (spill .entry)) c (c + n) (now (recv .entry)) (now (recv .exit)) ⌝ }
+    ensures { λ _. ⌜ RunReceived ds (size .w) (size .h) (now (spill .entry)) c (c + n) (now (recv .entry))
+        (now (recv .exit)) ⌝ }
 {
     let mut cells: [u32; 64] = [0; 64];
     let mut slopes: [f32; 64] = [0.0; 64];
-    finder_block(
+    discoverer_block(
         size,
         ds,
         by_place,

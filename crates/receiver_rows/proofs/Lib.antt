@@ -1,3 +1,3 @@
 -- Laws of rows of receivers.
-pub mod FinderLaws
+pub mod DiscovererLaws
 pub mod RowLaws

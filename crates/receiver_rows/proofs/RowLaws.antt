@@ -5,9 +5,9 @@ use mathlib.Core.List.{List}
 use native.Mathlib.Nat.{mul-comm}
 use native.Mathlib.Omega.{arith}
 use lib.Ieee.{Float}
-use Rattle.lists.proofs.LoopLaws.{at-end}
-use Rattle.inner_cells.specs.Inner.{InnerRun}
-use Rattle.spacing.specs.declared.Distances.{Distances}
+use Rattle.loops.proofs.LoopLaws.{at-end}
+use Rattle.grid_inner.specs.Inner.{InnerRun}
+use Rattle.grid_spacing.specs.declared.Distances.{Distances}
 use Rattle.receiver_blocks.specs.Runs.{RunReceived}
 use Rattle.receiver_blocks.proofs.OffsetLaws.{inner-inside, inner-few}
 use Rattle.receiver_blocks.proofs.RunLaws.{run-join}

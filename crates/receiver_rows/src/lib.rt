@@ -1,25 +1,26 @@
-// Receivers in the place of finders, row by row, after flow.rs. The inner cells of a row go in blocks; the cells on the sides of the map go as any cell.
+// Replaces discoverers by receivers, row by row, after flow.rs: the inner cells of a row in blocks, the cells on the
+// sides of the map one at a time.
 use grid::Sides;
-use inner_cells::inner_cells;
-use network::receiver;
+use grid_inner::inner_cells;
+use grid_spacing::Distances;
+use grid_spacing::direction_distances;
+use receiver::receiver;
 use receiver_blocks::receive_block;
-use spacing::Distances;
-use spacing::direction_distances;
-use steps::place_distances;
+use receiver_steps::place_distances;
 ghost use Prim.Native.Nat.{ℕ, _+_, _*_, _≤_, _<_};
 ghost use mathlib.Core.Path.{_≡_};
 ghost use mathlib.Core.Bool.{Bool};
 ghost use lib.ListN.{length};
 ghost use Rattle.grid.specs.Sides.{InRange};
-ghost use Rattle.inner_cells.specs.Inner.{InnerRun};
-ghost use Rattle.spacing.specs.Distances.{nineOf};
+ghost use Rattle.grid_inner.specs.Inner.{InnerRun};
+ghost use Rattle.grid_spacing.specs.Distances.{nineOf};
 ghost use Rattle.drainage.specs.Ground.{floats, groundBy};
 ghost use Rattle.drainage.specs.Receivers.{receivers};
-ghost use Rattle.steps.specs.Step.{placeDistances};
-ghost use Rattle.network.specs.Passes.{Finders};
-ghost use Rattle.receiver_blocks.specs.Runs.{NearFinders, RunReceived};
+ghost use Rattle.receiver_steps.specs.Step.{placeDistances};
+ghost use Rattle.receiver.specs.Passes.{Discoverers};
+ghost use Rattle.receiver_blocks.specs.Runs.{NearDiscoverers, RunReceived};
 
-// The receivers of n inner cells from cell c on, block by block.
+// Stores the receivers of n inner cells from cell c on in the place of their discoverers, in blocks of at most 64.
 fn receive_inner_cells(
     size: Sides,
     ds: Distances,
@@ -31,12 +32,13 @@ fn receive_inner_cells(
     n: usize,
 )
     requires { ⌜ InnerRun (size .w) (size .h) c n ⌝ }
-    requires { ⌜ NearFinders (size .w) (size .h) c (c + n) (now recv) ⌝ }
+    requires { ⌜ NearDiscoverers (size .w) (size .h) c (c + n) (now recv) ⌝ }
     requires { ⌜ now «by_place» ≡ placeDistances ds ⌝ }
     requires { ⌜ length (now spill) ≡ size .w * size .h ⌝ }
     requires { ⌜ length (now recv) ≡ size .w * size .h ⌝ }
     requires { ⌜ now «by_direction» ≡ nineOf ds ⌝ }
-    ensures { λ _. ⌜ RunReceived ds (size .w) (size .h) (now (spill .entry)) c (c + n) (now (recv .entry)) (now (recv .exit)) ⌝ }
+    ensures { λ _. ⌜ RunReceived ds (size .w) (size .h) (now (spill .entry)) c (c + n) (now (recv .entry))
+        (now (recv .exit)) ⌝ }
 {
     let mut i: usize = 0;
     while 64 <= n - i {
@@ -46,7 +48,7 @@ fn receive_inner_cells(
     receive_block(size, ds, by_place, by_direction, spill, recv, c + i, n - i);
 }
 
-// The receivers of n cells of row y from column x on.
+// Stores the receivers of n cells of row y from column x on in the place of their discoverers, one at a time.
 fn receive_cells(
     size: Sides,
     ds: Distances,
@@ -60,11 +62,12 @@ fn receive_cells(
     requires { ⌜ InRange (size .w) (size .h) ⌝ }
     requires { ⌜ y < size .h ⌝ }
     requires { ⌜ x + n ≤ size .w ⌝ }
-    requires { ⌜ NearFinders (size .w) (size .h) (x + y * size .w) (x + n + y * size .w) (now recv) ⌝ }
+    requires { ⌜ NearDiscoverers (size .w) (size .h) (x + y * size .w) (x + n + y * size .w) (now recv) ⌝ }
     requires { ⌜ length (now spill) ≡ size .w * size .h ⌝ }
     requires { ⌜ length (now recv) ≡ size .w * size .h ⌝ }
     requires { ⌜ now «by_direction» ≡ nineOf ds ⌝ }
-    ensures { λ _. ⌜ RunReceived ds (size .w) (size .h) (now (spill .entry)) (x + y * size .w) (x + n + y * size .w) (now (recv .entry)) (now (recv .exit)) ⌝ }
+    ensures { λ _. ⌜ RunReceived ds (size .w) (size .h) (now (spill .entry)) (x + y * size .w) (x + n + y * size .w)
+        (now (recv .entry)) (now (recv .exit)) ⌝ }
 {
     let w = size.w;
     let mut i: usize = 0;
@@ -87,12 +90,13 @@ fn receive_row(
 )
     requires { ⌜ InRange (size .w) (size .h) ⌝ }
     requires { ⌜ y < size .h ⌝ }
-    requires { ⌜ NearFinders (size .w) (size .h) (y * size .w) (size .w + y * size .w) (now recv) ⌝ }
+    requires { ⌜ NearDiscoverers (size .w) (size .h) (y * size .w) (size .w + y * size .w) (now recv) ⌝ }
     requires { ⌜ now «by_place» ≡ placeDistances ds ⌝ }
     requires { ⌜ length (now spill) ≡ size .w * size .h ⌝ }
     requires { ⌜ length (now recv) ≡ size .w * size .h ⌝ }
     requires { ⌜ now «by_direction» ≡ nineOf ds ⌝ }
-    ensures { λ _. ⌜ RunReceived ds (size .w) (size .h) (now (spill .entry)) (y * size .w) (size .w + y * size .w) (now (recv .entry)) (now (recv .exit)) ⌝ }
+    ensures { λ _. ⌜ RunReceived ds (size .w) (size .h) (now (spill .entry)) (y * size .w) (size .w + y * size .w)
+        (now (recv .entry)) (now (recv .exit)) ⌝ }
 {
     let w = size.w;
     let n = inner_cells(size, y);
@@ -101,13 +105,15 @@ fn receive_row(
     receive_cells(size, ds, by_direction, spill, recv, y, 1 + n, w - (1 + n));
 }
 
-// Receivers in the place of finders, row by row: the steepest of the eight neighbours by spill height.
+// Replaces the discoverer of every cell by its receiver, row by row: the steepest of the eight neighbours by spill
+// height, if it is steeper than the discoverer.
 pub fn steepest_receivers(g: Sides, ds: Distances, spill: &[f32], recv: &mut [u32])
     requires { ⌜ InRange (g .w) (g .h) ⌝ }
     requires { ⌜ length (now spill) ≡ g .w * g .h ⌝ }
     requires { ⌜ length (now recv) ≡ g .w * g .h ⌝ }
-    requires { ⌜ Finders (g .w) (g .h) (now recv) ⌝ }
-    ensures { λ _. ⌜ ((base : ℕ → Bool) → now (recv .exit) ≡ receivers floats (groundBy (g .w) (g .h) ds base) (now (spill .entry)) (now (recv .entry))) ⌝ }
+    requires { ⌜ Discoverers (g .w) (g .h) (now recv) ⌝ }
+    ensures { λ _. ⌜ ((base : ℕ → Bool) → now (recv .exit) ≡ receivers floats (groundBy (g .w) (g .h) ds base)
+        (now (spill .entry)) (now (recv .entry))) ⌝ }
 {
     let by_place = place_distances(ds);
     let by_direction = direction_distances(ds);

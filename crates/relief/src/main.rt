@@ -1,18 +1,19 @@
 // relief: a stream of document 01 on standard input, its output on standard output.
-use output::Written;
+use answers::Written;
 use stream_run::relief;
 ghost use mathlib.Core.Path.{_≡_};
 ghost use lib.ListN.{length};
 
-// One byte more than the longest accepted stream has: of a longer input these decide (LongInput in crates/stream_run/specs).
-fn input_room() -> [u8; 24613]
+// A buffer of one byte more than the longest accepted stream has: of a longer input these bytes decide the output
+// (LongInput in crates/stream_run/specs).
+fn input_buffer() -> [u8; 24613]
     ensures { λ r. ⌜ 24613 ≡ length r ⌝ }
 {
     [0; 24613]
 }
 
-// The longest output: 22 bytes, and 6 for each of 4,096 rows.
-fn output_room() -> [u8; 24598]
+// A buffer for the longest output: 22 bytes, and 6 for each of 4,096 rows.
+fn output_buffer() -> [u8; 24598]
     ensures { λ r. ⌜ 24598 ≡ length r ⌝ }
 {
     [0; 24598]
@@ -32,12 +33,12 @@ fn drain() {
 }
 
 fn main() {
-    let mut input = input_room();
+    let mut input = input_buffer();
     let n = io::read_full(0, &mut input);
     if n == 24613 {
         drain();
     }
-    let mut out = output_room();
+    let mut out = output_buffer();
     let written = relief(&input[..n], &mut out);
     if let Written::Bytes(k) = written {
         io::write_all(1, &out[..k]);

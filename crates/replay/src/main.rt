@@ -1,5 +1,7 @@
-// Replays the oracle's list: reads tasks, makes the calls, writes the answers, which the file stdout fixes. oracle/README.md has the words of
-// each task and answer. Scratch is a whole room, longer than any grid of the list; whole runs are streams for `relief`.
+// Replays the oracle's list: reads tasks, makes the calls and writes the answers, which must be those in the file
+// stdout. oracle/README.md has the words of each task and answer. Scratch is a whole buffer, longer than any grid of
+// the list; whole runs are streams for `relief`.
+use answers::Written;
 use floats::from_bits;
 use floats::to_bits;
 use harness::harness_incise;
@@ -14,27 +16,27 @@ use harness_calls::harness_normalize;
 use harness_calls::harness_report;
 use layout_calls::milofavurn_square_root;
 use layout_calls::milofavurn_working_sides;
-use output::Written;
-use words::bytes_held;
-use words::cell_room;
-use words::cells_held;
-use words::float_room;
-use words::floats_held;
-use words::state_room;
-use words::wide;
+use stream_words::as_index;
+use stream_words::bytes_held;
+use stream_words::cell_buffer;
+use stream_words::cells_held;
+use stream_words::float_buffer;
+use stream_words::floats_held;
+use stream_words::state_buffer;
 
 // The next word of the input, 0 once it has ended.
 fn word() -> u32 {
     let mut b = [0u8; 4];
     io::read_full(0, &mut b);
-    words::word_at(&b, 0)
+    stream_words::word_at(&b, 0)
 }
 
 fn float() -> f32 {
     from_bits(word())
 }
 
-// What a call takes beside slices and a record; before that what scratch holds, by its type, and how many values of each written slice are told.
+// What a call takes besides slices and a record. The first fields are what scratch holds, one for each type of scratch
+// slice, and how many values of each written slice go into the answer.
 struct Task {
     cell: u32,
     state: u8,
@@ -60,10 +62,10 @@ fn read_task() -> Task {
         state: (held % 256) as u8,
         height: from_bits(held),
         shown: word(),
-        w: wide(word()),
-        h: wide(word()),
-        dw: wide(word()),
-        dh: wide(word()),
+        w: as_index(word()),
+        h: as_index(word()),
+        dw: as_index(word()),
+        dh: as_index(word()),
         stop: word(),
         side: word(),
         f0: float(),
@@ -74,7 +76,7 @@ fn read_task() -> Task {
     }
 }
 
-// The next n bytes of the input, at the front of a room.
+// The next n bytes of the input, at the front of a buffer.
 fn read_bytes(n: usize) -> [u8; 65536] {
     let mut space = io::large_buffer();
     let k = bytes_held(n, &space);
@@ -82,20 +84,20 @@ fn read_bytes(n: usize) -> [u8; 65536] {
     space
 }
 
-// Reads a slice into the front of a room: its length and its values.
-fn read_floats<'a>(room: &'a mut [f32]) -> &'a mut [f32] {
-    let n = floats_held(word(), room);
-    let v = &mut room[..n];
+// Reads a slice into the front of a buffer: its length and its values.
+fn read_floats<'a>(buffer: &'a mut [f32]) -> &'a mut [f32] {
+    let n = floats_held(word(), buffer);
+    let v = &mut buffer[..n];
     let bytes = read_bytes(4 * v.len());
-    words::floats_from(&bytes, v);
+    stream_words::floats_from(&bytes, v);
     v
 }
 
-fn read_cells<'a>(room: &'a mut [u32]) -> &'a mut [u32] {
-    let n = cells_held(word(), room);
-    let v = &mut room[..n];
+fn read_cells<'a>(buffer: &'a mut [u32]) -> &'a mut [u32] {
+    let n = cells_held(word(), buffer);
+    let v = &mut buffer[..n];
     let bytes = read_bytes(4 * v.len());
-    words::cells_from(&bytes, v);
+    stream_words::cells_from(&bytes, v);
     v
 }
 
@@ -103,14 +105,14 @@ fn read_cells<'a>(room: &'a mut [u32]) -> &'a mut [u32] {
 fn put_floats(v: &[f32], n: u32) {
     let n = floats_held(n, v);
     let mut space = io::large_buffer();
-    let k = words::floats_into(&v[..n], &mut space);
+    let k = stream_words::floats_into(&v[..n], &mut space);
     io::write_all(1, &space[..k]);
 }
 
 fn put_cells(v: &[u32], n: u32) {
     let n = cells_held(n, v);
     let mut space = io::large_buffer();
-    let k = words::cells_into(&v[..n], &mut space);
+    let k = stream_words::cells_into(&v[..n], &mut space);
     io::write_all(1, &space[..k]);
 }
 
@@ -157,21 +159,21 @@ fn slide_pass(t: Task, map: &[f32], out: &mut [f32]) -> u64 {
 }
 
 fn incise(t: Task, map: &[f32], out: &mut [f32]) -> u64 {
-    let mut area = float_room(t.height);
-    let mut recv_room = cell_room(0);
-    let recv = read_cells(&mut recv_room);
-    let mut order_room = cell_room(0);
-    let order = read_cells(&mut order_room);
+    let mut area = float_buffer(t.height);
+    let mut recv_buffer = cell_buffer(0);
+    let recv = read_cells(&mut recv_buffer);
+    let mut order_buffer = cell_buffer(0);
+    let order = read_cells(&mut order_buffer);
     harness_incise(t.w, t.h, map, t.f0, t.f1, t.f2, recv, order, out, &mut area)
 }
 
 fn route_cells(t: Task, map: &[f32], spill: &mut [f32], area: &mut [f32]) -> u64 {
-    let mut order_room = cell_room(0);
-    let order = read_cells(&mut order_room);
-    let mut recv_room = cell_room(0);
-    let recv = read_cells(&mut recv_room);
-    let mut queue = cell_room(t.cell);
-    let mut status = state_room(t.state);
+    let mut order_buffer = cell_buffer(0);
+    let order = read_cells(&mut order_buffer);
+    let mut recv_buffer = cell_buffer(0);
+    let recv = read_cells(&mut recv_buffer);
+    let mut queue = cell_buffer(t.cell);
+    let mut status = state_buffer(t.state);
     let answer = harness_route(
         t.w,
         t.h,
@@ -190,14 +192,14 @@ fn route_cells(t: Task, map: &[f32], spill: &mut [f32], area: &mut [f32]) -> u64
 }
 
 fn route(t: Task, map: &[f32], spill: &mut [f32]) -> u64 {
-    let mut area_room = float_room(0.0);
-    let area = read_floats(&mut area_room);
+    let mut area_buffer = float_buffer(0.0);
+    let area = read_floats(&mut area_buffer);
     let answer = route_cells(t, map, spill, area);
     put_floats(area, t.shown);
     answer
 }
 
-// The call of a task, on the map that it reads and the one that it writes.
+// Makes the call of a task, on the map that it reads and the one that it writes. Returns the call's word.
 fn perform(call: u32, t: Task, read: &[f32], written: &mut [f32]) -> u64 {
     match call {
         1 => harness_least(read),
@@ -216,15 +218,15 @@ fn perform(call: u32, t: Task, read: &[f32], written: &mut [f32]) -> u64 {
 }
 
 fn replay_call(call: u32, t: Task) {
-    let mut read_room = float_room(0.0);
-    let read = read_floats(&mut read_room);
-    let mut written_room = float_room(0.0);
-    let written = read_floats(&mut written_room);
+    let mut read_buffer = float_buffer(0.0);
+    let read = read_floats(&mut read_buffer);
+    let mut written_buffer = float_buffer(0.0);
+    let written = read_floats(&mut written_buffer);
     put_answer(perform(call, t, read, written));
     put_floats(written, t.shown);
 }
 
-// The output has room, so the writer does not refuse.
+// Runs a stream and writes its output. The buffer has space for the longest output, so `relief` does not refuse.
 fn put_relief(bytes: &[u8]) {
     let mut out = io::large_buffer();
     let written = stream_run::relief(bytes, &mut out);
@@ -234,15 +236,15 @@ fn put_relief(bytes: &[u8]) {
     }
 }
 
-// A stream of at most 65,536 bytes.
+// Replays a stream of at most 65,536 bytes.
 fn replay_relief() {
-    let n = wide(word());
+    let n = as_index(word());
     let bytes = read_bytes(n);
     let n = bytes_held(n, &bytes);
     put_relief(&bytes[..n]);
 }
 
-// Replays one task. Answers false at the end of the list.
+// Replays one task. Returns false at the end of the list.
 fn replay_task() -> bool {
     let call = word();
     match call {
@@ -253,7 +255,8 @@ fn replay_task() -> bool {
     true
 }
 
-// A loop has to end, and nothing says that the input does: the turns count down from a number that no list uses up.
+// Every loop has to end, and the input need not: this one ends at the latest after u64::MAX tasks, more than any list
+// has.
 fn main() {
     let mut turns = u64::MAX;
     while turns > 0 && replay_task() {

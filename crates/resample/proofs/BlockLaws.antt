@@ -10,7 +10,7 @@ use lib.Ieee.{Float, binary32, div, inFloat}
 use Rattle.resample.specs.WorkSize.{Within}
 use Rattle.resample.specs.Places.{Part}
 use Rattle.floats.proofs.WholeLaws.{float-in}
-use Rattle.float_order.specs.Whole.{whole}
+use Rattle.floats.specs.Stand.{whole}
 use Rattle.resample.specs.Blocks.{firstOf, countOf, blockSum, averageOf, SourceBlocks}
 
 module _ (s r : ℕ) (low : 1 ≤ r) where

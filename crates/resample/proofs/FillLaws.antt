@@ -6,8 +6,8 @@ use lib.Ieee.{Float, binary32, fits}
 use lib.Ieee.Fits.{div-fits}
 use Rattle.float_order.specs.Fit.{Fit}
 use Rattle.float_order.proofs.FitLaws.{fit-nil, fit-cons, fit-append}
-use Rattle.lists.specs.Loops.{tabulate}
-use Rattle.lists.proofs.TableLaws.{length-tabulate}
+use Rattle.loops.specs.Loops.{tabulate}
+use Rattle.loops.proofs.TableLaws.{length-tabulate}
 use Rattle.resample.specs.Blocks.{averageOf, downsampled, Values}
 
 -- the average that reduced cell c gets

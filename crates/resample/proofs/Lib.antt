@@ -4,4 +4,3 @@ pub mod BlockLaws
 pub mod WorkLaws
 pub mod SumLaws
 pub mod FillLaws
-pub mod RowFillLaws

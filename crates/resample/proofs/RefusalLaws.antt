@@ -8,7 +8,7 @@ use lib.ListN.{length}
 use lib.Dec.{eqb, ltb}
 use lib.Ieee.{Float}
 use borrow.Author.Tests.{eqb-true, eqb-false, ltb-false, not-false}
-use Rattle.lists.proofs.TestLaws.{neither, through}
+use Rattle.loops.proofs.TestLaws.{neither, through}
 use Rattle.answers.specs.Outcome.{Outcome, gives, refused, refusedAt, answerOf}
 use Rattle.answers.specs.declared.Answer.{Answer}
 use Rattle.answers.specs.declared.Refusal.{Refusal}
@@ -52,7 +52,7 @@ module _ (map : List Float) (w h dlen dw dh : ℕ) where
       (refused-whole tests alike (answerOf a) e none, refused-kept tests alike (answerOf a) e none)
 
 -- an accepted map: no test holds, the reduced grid lies within the full one, and both slices are their grid's
-pub record Accepted (map : List Float) (w h dlen dw dh : ℕ) : Type 0 where
+pub record AcceptedMaps (map : List Float) (w h dlen dw dh : ℕ) : Type 0 where
   pub sides : badSides w h ≡ false
   pub reduced : (badReduced dw w || badReduced dh h) ≡ false
   pub lengths : (not (eqb (length map) (w * h)) || not (eqb dlen (dw * dh))) ≡ false
@@ -62,7 +62,7 @@ pub record Accepted (map : List Float) (w h dlen dw dh : ℕ) : Type 0 where
   pub small : dlen ≡ dw * dh
 
 pub map-good : (map : List Float) (w h dlen dw dh : ℕ) (a : Answer) → answerOf a ≡ mapRefusal map w h dlen dw dh refused refusedAt (gives tt) → a ≡ Answer.Done
-    → Accepted map w h dlen dw dh
+    → AcceptedMaps map w h dlen dw dh
 map-good map w h dlen dw dh r e f =
     let a = not-refused (badSides w h) (refused 1) _ tt refl (sym e ∙ ap answerOf f) in
     let b = not-refused (badReduced dw w || badReduced dh h) (refused 2) _ tt refl (a .1) in
@@ -80,6 +80,6 @@ map-good map w h dlen dw dh r e f =
     }
 
 -- past an accepted map: what the rest says is what the whole says
-pub past-map : {map : List Float} {w h dlen dw dh : ℕ} → Accepted map w h dlen dw dh → {A : Type 0} (number : ℕ → A) (at : ℕ → ℕ → A) {x then : A} → x ≡ then
+pub past-map : {map : List Float} {w h dlen dw dh : ℕ} → AcceptedMaps map w h dlen dw dh → {A : Type 0} (number : ℕ → A) (at : ℕ → ℕ → A) {x then : A} → x ≡ then
     → x ≡ mapRefusal map w h dlen dw dh number at then
 past-map s number at e = rw (s .sides, s .reduced, s .lengths, s .finite) e

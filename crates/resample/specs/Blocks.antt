@@ -1,6 +1,6 @@
--- `downsample`: the average of each block of cells. Column x of a side lies in block x × reduced / side, cut to a whole number, so a block is the
--- run of columns from `firstOf` of the block up to that of the next (proofs/BlockLaws.antt has that law); its sum starts at +0 and adds the
--- block's cells in number order.
+-- `downsample`: the average of each block of cells. Column x of a side lies in block x × reduced / side, cut to a whole
+-- number, so block b has the columns from `firstOf` of b to below `firstOf` of b + 1 (proofs/BlockLaws.antt has that
+-- law); its sum starts at +0 and adds the block's cells in number order.
 use Prim.Native.Nat.{ℕ, zero, suc, _+_, _-_, _*_, _/_, _%_, _≤_, _<_}
 use mathlib.Core.Path.{_≡_}
 use mathlib.Core.Bool.{Bool, not, _||_, cond}
@@ -10,9 +10,9 @@ use lib.Dec.{eqb, ltb}
 use lib.Ieee.{Float, nan, binary32, ofBits, add, div}
 use Rattle.answers.specs.Outcome.{Outcome, gives, refused, refusedAt, answerOf}
 use Rattle.answers.specs.declared.Answer.{Answer}
-use Rattle.float_order.specs.Whole.{whole}
+use Rattle.floats.specs.Stand.{whole}
 use Rattle.float_order.specs.Fit.{Fit}
-use Rattle.lists.specs.Loops.{tabulate}
+use Rattle.loops.specs.Loops.{tabulate}
 use Rattle.grid.specs.Sides.{badSides}
 use Rattle.grid.specs.Heights.{firstNotFinite, allFinite}
 
@@ -24,8 +24,9 @@ blockOf side reduced x = x * reduced / side
 abbrev pub firstOf : ℕ → ℕ → ℕ → ℕ
 firstOf side reduced b = (b * side + (reduced - 1)) / reduced
 
--- The blocks are the source's, for any reduced side from 1 to the full one: the columns from the first of block b up to the first of the next are those
--- that the source sends to b; every block has a column, and together they are the whole side. Proved in proofs/BlockLaws.antt.
+-- The blocks are the source's, for any reduced side from 1 to the full one: the columns from the first of block b to
+-- below the first of block b + 1 are those that the source adds to b; every block has a column, and together the blocks
+-- are the whole side. Proved in proofs/BlockLaws.antt.
 pub record SourceBlocks (side reduced : ℕ) : Type 0 where
   pub sent : (x b : ℕ) → blockOf side reduced x ≡ b → (firstOf side reduced b ≤ x) × (x < firstOf side reduced (b + 1))
   pub taken : (x b : ℕ) → firstOf side reduced b ≤ x → x < firstOf side reduced (b + 1) → blockOf side reduced x ≡ b
@@ -41,7 +42,7 @@ unfoldable pub rowSum : List Float → ℕ → ℕ → Float → Float
 rowSum src at zero acc = acc
 rowSum src at (suc n) acc = add binary32 (rowSum src at n acc) (getD src (at + n) nan)
 
--- the rows y, y + 1, … of a block, each n columns from column x
+-- the sum of a block, starting at +0: n columns from column x on, in each of the rows y, y + 1, …
 unfoldable pub blockSum : List Float → ℕ → ℕ → ℕ → ℕ → ℕ → Float
 unfolding rowSum
 blockSum src w x n y zero = ofBits binary32 0
@@ -58,7 +59,7 @@ unfoldable pub downsampled : List Float → ℕ → ℕ → ℕ → ℕ → List
 unfolding averageOf tabulate
 downsampled src w h dw dh = tabulate (dw * dh) (λ c. averageOf src w h dw dh (c % dw) (c / dw))
 
--- n values that binary32 holds
+-- l holds n values, each of which binary32 holds
 pub record Values (n : ℕ) (l : List Float) : Type 0 where
   pub count : length l ≡ n
   pub fit : Fit l
@@ -67,15 +68,15 @@ pub record Values (n : ℕ) (l : List Float) : Type 0 where
 abbrev pub badReduced : ℕ → ℕ → Bool
 badReduced reduced side = eqb reduced 0 || ltb side reduced
 
--- 1: a side; 2: a reduced side; 3: a length, of the full map or of the reduced one; 5: a height of the full map; else `then`. `number` says what a
--- refusal gives, and `at` what one with its cell gives
+-- 1: a side; 2: a reduced side; 3: a length, of the full map or of the reduced one; 5: a height of the full map; else
+-- `then`. `number` gives the result of a refusal by its number, `at` that of a refusal with a cell
 abbrev pub mapRefusal : {A : Type 0} → List Float → ℕ → ℕ → ℕ → ℕ → ℕ → (ℕ → A) → (ℕ → ℕ → A) → A → A
 mapRefusal map w h dlen dw dh number at then =
     cond (badSides w h) (number 1)
     (cond (badReduced dw w || badReduced dh h) (number 2)
     (cond (not (eqb (length map) (w * h)) || not (eqb dlen (dw * dh))) (number 3) (cond (allFinite map) then (at 5 (firstNotFinite map)))))
 
--- then 22: an average not finite
+-- the answer of `downsample`: the refusals of `mapRefusal`, then 22: an average not finite
 abbrev pub downsampleAnswer : List Float → ℕ → ℕ → ℕ → ℕ → ℕ → Outcome (Unit {0})
 downsampleAnswer src w h len dw dh =
     mapRefusal src w h len dw dh refused refusedAt (cond (allFinite (downsampled src w h dw dh)) (gives tt) (refused 22))
@@ -85,7 +86,7 @@ abbrev pub downsampleResult : List Float → ℕ → ℕ → List Float → ℕ 
 downsampleResult src w h dst dw dh =
     mapRefusal src w h (length dst) dw dh (λ n. dst) (λ n c. dst) (downsampled src w h dw dh)
 
--- what `downsample` promises of its answer r and of what the result slice then holds
+-- r is the answer of `downsample`, and `after` is what the result slice holds at the end
 pub record Downsampled (src : List Float) (w h : ℕ) (dst : List Float) (dw dh : ℕ) (r : Answer) (after : List Float) : Type 0 where
   pub answer : answerOf r ≡ downsampleAnswer src w h (length dst) dw dh
   pub result : after ≡ downsampleResult src w h dst dw dh

@@ -6,7 +6,7 @@ use lib.Dec.{leb}
 use lib.Ieee.{Float, binary32, mul, div, toUnsigned}
 use Rattle.answers.specs.Outcome.{Outcome, gives, refused, refusalOf}
 use Rattle.floats.specs.Stand.{roundOf}
-use Rattle.float_order.specs.Whole.{whole}
+use Rattle.floats.specs.Stand.{whole}
 use Rattle.grid.specs.Sides.{badSides}
 use Rattle.grid.specs.declared.Sides.{Sides}
 use Rattle.resample.specs.declared.Work.{Work}
@@ -25,11 +25,11 @@ abbrev pub workOf : Work → Outcome Sides
 workOf (Work.Of g) = gives g
 workOf (Work.Refused r) = refusalOf r
 
--- 1: a side outside 1 to 4,096
+-- the answer of `work_size`: the working sides, or 1: a side outside 1 to 4,096
 abbrev pub workAnswer : ℕ → ℕ → ℕ → Outcome Sides
 workAnswer w h res = cond (badSides w h) (refused 1) (gives (workSize w h res))
 
--- a reduced grid within a full one whose sides are at most 4,096
+-- dw and dh are the sides of a reduced grid, each from 1 to the full side w or h, which is at most 4,096
 pub record Within (w h dw dh : ℕ) : Type 0 where
   pub wide : w ≤ 4096
   pub high : h ≤ 4096

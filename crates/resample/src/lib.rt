@@ -1,5 +1,5 @@
-// The source's resample.rs: the sides of the reduced grid, and the refusals of a full map beside a reduced one. The block average onto it is in the crate `downsample`, the way back
-// in `bilinear` and `upsample`.
+// The source's resample.rs: the sides of the reduced grid, and the refusals of a full map beside a reduced one. The
+// block average onto it is in the crate `downsample`, the way back in `bilinear` and `upsample`.
 use answers::Answer;
 use answers::Refusal;
 use floats::ratio;
@@ -49,7 +49,7 @@ pub fn work_sides(size: Sides, max_res: u32) -> Sides
     }
 }
 
-// Document 01's working sides of a map.
+// Returns the working sides of a map (document 01), or refusal 1.
 pub fn work_size(size: Sides, max_res: u32) -> Work
     ensures { λ r. ⌜ workOf r ≡ workAnswer (size .w) (size .h) «max_res» ⌝ }
 {
@@ -69,7 +69,7 @@ fn bad_reduced_side(reduced: usize, side: usize) -> bool
     side < reduced
 }
 
-// Refusal 2.
+// Refusal 2: whether either reduced side is 0 or greater than the full one.
 fn bad_reduced(dsize: Sides, size: Sides) -> bool
     ensures { λ r. ⌜ r ≡ (badReduced (dsize .w) (size .w) || badReduced (dsize .h) (size .h)) ⌝ }
 {
@@ -79,7 +79,7 @@ fn bad_reduced(dsize: Sides, size: Sides) -> bool
     bad_reduced_side(dsize.h, size.h)
 }
 
-// Refusal 3: whether a slice of this length is not the grid's.
+// Refusal 3: whether len is not the number of the grid's cells.
 pub fn bad_length(len: usize, size: Sides) -> bool
     requires { ⌜ size .w ≤ 4096 ⌝ }
     requires { ⌜ size .h ≤ 4096 ⌝ }
@@ -88,9 +88,11 @@ pub fn bad_length(len: usize, size: Sides) -> bool
     len != size.w * size.h
 }
 
-// 1, 2, 3 and 5, of a full map and of a reduced one of dlen values, whose heights are not asked for.
+// Refusals 1, 2, 3 and 5 for a full map and a reduced one of dlen values; only the heights of the full map are checked.
+// Returns the first refusal that applies, or `Done`.
 pub fn map_refusal(map: &[f32], size: Sides, dsize: Sides, dlen: usize) -> Answer
-    ensures { λ r. ⌜ answerOf r ≡ mapRefusal (now (map .entry)) (size .w) (size .h) dlen (dsize .w) (dsize .h) refused refusedAt (gives tt) ⌝ }
+    ensures { λ r. ⌜ answerOf r
+        ≡ mapRefusal (now (map .entry)) (size .w) (size .h) dlen (dsize .w) (dsize .h) refused refusedAt (gives tt) ⌝ }
 {
     if bad_sides(size) {
         return Answer::Refused(Refusal::Side);

@@ -16,7 +16,7 @@ use Rattle.floats.proofs.ValueLaws.{gather}
 use Rattle.square_root.specs.Root.{rootOf, nearestRoot}
 use Rattle.square_root.specs.Rooted.{NearestRoot}
 use Rattle.square_root.specs.Inner.{scaledTo, bitsOf}
-use Rattle.square_root.proofs.WholeLaws.{Near, nearest-near, near-low, near-high}
+use Rattle.square_root.proofs.WholeLaws.{NearSquare, nearest-near, near-low, near-high}
 use Rattle.square_root.proofs.BitsLaws.{pow-same, rescale, size-above, bits-at}
 
 -- ---- q * 2 ^ (k + 1) in units of 2 ^ -150, rounded: nothing is lost, and the bits are a sum
@@ -116,7 +116,7 @@ unfolding unit
 at-scale x n k v l h s =
     let q = nearestRoot n in
     let P = 4 ^ suc k in
-    let near : Near n q = nearest-near n (above-zero n l) h in
+    let near : NearSquare n q = nearest-near n (above-zero n l) h in
     let lo : 2 ^ 23 ≤ q = near-low n q near l in
     let hi : q ≤ 2 ^ 24 = near-high n q near h in
     let w = written q k lo hi s in

@@ -6,7 +6,7 @@ use native.Mathlib.Nat.{mul-le-mul, mul-le-mul-right, le-antisymm, le-of-suc-le-
 use native.Mathlib.Omega.{arith}
 use lib.Dec.{T, leb, ltb, leb→le, nleb→lt}
 use borrow.Author.Tests.{ltb-true, ltb-false}
-use Rattle.lists.proofs.TestLaws.{by-test}
+use Rattle.loops.proofs.TestLaws.{by-test}
 use Rattle.square_root.specs.Root.{digits, wholeRoot, nearestRoot}
 use Rattle.square_root.specs.Inner.{Over}
 
@@ -49,41 +49,41 @@ whole-bracket n h = digits-bracket 24 0 n (omega arith) h
 
 -- ---- the nearest whole number: the root of n lies less than a half from q
 
-abbrev pub Near : ℕ → ℕ → Type 0
-Near n q = (n ≤ q * q + q) × (q * q < n + q)
+abbrev pub NearSquare : ℕ → ℕ → Type 0
+NearSquare n q = (n ≤ q * q + q) × (q * q < n + q)
 
 short : (n q : ℕ) → 0 < n → q * q ≤ n → q * q < n + q
 short n zero p h = omega arith
 short n (suc q) p h = omega arith
 
-near-le : (n p q : ℕ) → Near n p → Near n q → p ≤ q
+near-le : (n p q : ℕ) → NearSquare n p → NearSquare n q → p ≤ q
 near-le n zero q a b = zero-le
 near-le n (suc t) q a b = not-above (λ (g : q < suc t). no (mul-le-mul (le-of-suc-le-suc g) g))
   where
     no : q * suc q ≤ t * suc t → ⊥
     no g = omega arith
 
-near-unique : (n p q : ℕ) → Near n p → Near n q → p ≡ q
+near-unique : (n p q : ℕ) → NearSquare n p → NearSquare n q → p ≡ q
 near-unique n p q a b = le-antisymm (near-le n p q a b) (near-le n q p b a)
 
-pub nearest-near : (n : ℕ) → 0 < n → n < 2 ^ 48 → Near n (nearestRoot n)
+pub nearest-near : (n : ℕ) → 0 < n → n < 2 ^ 48 → NearSquare n (nearestRoot n)
 unfolding nearestRoot
 nearest-near n p h =
     let w = whole-bracket n h in
-    by-test (Near n) (ltb (4 * n) ((2 * wholeRoot n + 1) * (2 * wholeRoot n + 1))) _ _ (λ t. (omega (arith, ltb-true), short n (wholeRoot n) p (w .0))) (λ t. omega (arith, ltb-false, w))
+    by-test (NearSquare n) (ltb (4 * n) ((2 * wholeRoot n + 1) * (2 * wholeRoot n + 1))) _ _ (λ t. (omega (arith, ltb-true), short n (wholeRoot n) p (w .0))) (λ t. omega (arith, ltb-false, w))
 
 -- what is near is the nearest
-pub nearest-is : (n q : ℕ) → 0 < n → n < 2 ^ 48 → Near n q → q ≡ nearestRoot n
+pub nearest-is : (n q : ℕ) → 0 < n → n < 2 ^ 48 → NearSquare n q → q ≡ nearestRoot n
 nearest-is n q p h a = near-unique n q (nearestRoot n) a (nearest-near n p h)
 
 -- the root of a number of 47 or 48 digits has 24, or is 2 ^ 24
-pub near-low : (n q : ℕ) → Near n q → 2 ^ 46 ≤ n → 2 ^ 23 ≤ q
+pub near-low : (n q : ℕ) → NearSquare n q → 2 ^ 46 ≤ n → 2 ^ 23 ≤ q
 near-low n q a h = not-above (λ (g : q < 2 ^ 23). no (mul-le-mul g g))
   where
     no : suc q * suc q ≤ 2 ^ 23 * 2 ^ 23 → ⊥
     no g = omega arith
 
-pub near-high : (n q : ℕ) → Near n q → n < 2 ^ 48 → q ≤ 2 ^ 24
+pub near-high : (n q : ℕ) → NearSquare n q → n < 2 ^ 48 → q ≤ 2 ^ 24
 near-high n q a h = not-above (λ (g : 2 ^ 24 < q). no g (mul-le-mul-right q g))
   where
     no : 2 ^ 24 < q → suc (2 ^ 24) * q ≤ q * q → ⊥
@@ -110,7 +110,7 @@ module _ (n s : ℕ) (l : 2 ^ 46 ≤ n) (h : n < 2 ^ 48) (o : Over n 1 s) where
       above zero b = omega arith
       above (suc z) b = omega arith
 
-      go : (t : ℕ) → n + suc t ≤ suc t * suc t → t * t ≤ wholeRoot n * wholeRoot n → Near n t
+      go : (t : ℕ) → n + suc t ≤ suc t * suc t → t * t ≤ wholeRoot n * wholeRoot n → NearSquare n t
       go t b c = (omega arith, short n t positive (omega (arith, w .0)))
 
   pub one-above : s * s + s < n → s + 1 ≡ nearestRoot n

@@ -20,8 +20,9 @@ wholeRoot n = digits 24 0 n
 unfoldable pub nearestRoot : ℕ → ℕ
 nearestRoot n = let s = wholeRoot n in cond (ltb (4 * n) ((2 * s + 1) * (2 * s + 1))) s (suc s)
 
--- squareRoot on every float: a zero keeps its sign, and what lies below 0 has no root. Of a positive number, X is that number in units of 4 ^ -150;
--- X / 4 ^ j, which is exact, has 47 or 48 digits, so its nearest whole root has the 24 digits of a binary32, and nothing is left to round.
+-- squareRoot of every float: a zero keeps its sign, and below 0 the result is NaN. For a positive number, X is that
+-- number in units of 4 ^ -150; X / 4 ^ j, which is exact, has 47 or 48 binary digits, so its nearest whole root has the
+-- 24 binary digits of a binary32, and `round` changes nothing.
 unfoldable pub rootOf : Float → Float
 rootOf nan = nan
 rootOf (inf true) = nan

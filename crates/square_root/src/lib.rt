@@ -1,5 +1,6 @@
-// The square root of document 01, worked out from a float's bits: its 24 digits are scaled to a whole number n of 47 or 48, the whole root of n comes
-// from a line near it and two of Newton's steps, and the result's bits are one sum.
+// The square root of document 01, computed from the bits of a float: its 24 binary digits are scaled to a whole number
+// n of 47 or 48 binary digits, the root of n comes from a linear first guess and two Newton steps, and the bits of the
+// result are one sum.
 ghost use mathlib.Core.Path.{_≡_};
 ghost use Prim.Native.Nat.{_+_, _*_, _/_, _^_, _≤_, _<_};
 ghost use lib.Ieee.{binary32, ofBits};
@@ -7,7 +8,7 @@ ghost use Rattle.square_root.specs.Root.{nearestRoot, rootOf};
 ghost use Rattle.square_root.specs.Rooted.{Rooted};
 ghost use Rattle.square_root.specs.Inner.{Around, Over, bitsOf};
 
-// One of Newton's steps from g to the root of n.
+// One Newton step towards the root of n: returns the next guess after g.
 fn newton(n: u64, g: u64) -> u64
     requires { ⌜ (n < 2 ^ 48) × (0 < g) × (g < 2 ^ 32) ⌝ }
     ensures { λ r. ⌜ r ≡ (g + n / g) / 2 ⌝ }
@@ -15,7 +16,8 @@ fn newton(n: u64, g: u64) -> u64
     (g + n / g) / 2
 }
 
-// A line that stays near the root of n, one for numbers of 47 digits and one for 48.
+// A first guess at the root of n, at most 200,000 away from the whole root: one linear function of n for numbers of 47
+// binary digits, one for 48.
 fn first_guess(n: u64) -> u64
     requires { ⌜ (2 ^ 46 ≤ n) × (n < 2 ^ 48) ⌝ }
     ensures { λ r. ⌜ Around n 200000 r ⌝ }

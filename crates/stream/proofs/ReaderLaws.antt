@@ -7,7 +7,7 @@ use native.Mathlib.Omega.{arith}
 use borrow.Author.Tests.{ltb-false, eqb-true, eqb-false, ne-eqb, eq-eqb, not-false}
 use lib.Dec.{eqb, ltb}
 use lib.ListN.{length}
-use Rattle.lists.proofs.TestLaws.{neither}
+use Rattle.loops.proofs.TestLaws.{neither}
 use Rattle.answers.specs.Outcome.{Outcome, gives, refused, refusedAt}
 use Rattle.grid.specs.Sides.{badSides, InRange}
 use Rattle.grid.specs.Heights.{firstNotFinite, allFinite}
@@ -82,9 +82,9 @@ module _ (limited : Bool) (s : List ℕ) where
   read-grid e t = sym (rw (sym e ∙ t))
 
   module _ {g : Bool} (eg : g ≡ badGrid s) (fg : g ≡ false) where
-    pub read-room : 6 ≤ length s
+    pub read-buffer : 6 ≤ length s
     unfolding badGrid
-    read-room = ltb-false (length s) 6 (neither _ _ (sym eg ∙ fg) .0)
+    read-buffer = ltb-false (length s) 6 (neither _ _ (sym eg ∙ fg) .0)
 
     module _ {size : Sides} (e : size ≡ sidesAt s) where
       pub read-sides : {b : Bool} → b ≡ badSides (size .w) (size .h) → b ≡ true → _≡_ {A = Outcome Parsed} (refused 1) (readStream limited s)

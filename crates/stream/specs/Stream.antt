@@ -1,7 +1,7 @@
 -- The reader of document 01, 'The stream': from bytes to the run that they ask for, or to a refusal.
 use Prim.Native.Nat.{ℕ, _+_, _-_, _*_, _≤_}
 use mathlib.Core.Path.{_≡_}
-use mathlib.Core.Bool.{Bool, true, false, not, _&&_, _||_, cond}
+use mathlib.Core.Bool.{Bool, false, not, _&&_, _||_, cond}
 use mathlib.Core.List.{List}
 use lib.ListN.{length}
 use lib.Dec.{eqb, ltb}
@@ -10,9 +10,9 @@ use Rattle.answers.specs.Outcome.{Outcome, gives, refused, refusedAt, refusalOf
 use Rattle.grid.specs.Sides.{badSides, InRange}
 use Rattle.grid.specs.Heights.{firstNotFinite, allFinite}
 use Rattle.grid.specs.declared.Sides.{Sides}
-use Rattle.runs.specs.Refusals.{badFluvial, badThermal}
-use Rattle.runs.specs.declared.FluvialSettings.{FluvialSettings}
-use Rattle.runs.specs.declared.ThermalSettings.{ThermalSettings}
+use Rattle.run_settings.specs.Refusals.{badFluvial, badThermal}
+use Rattle.run_settings.specs.declared.FluvialSettings.{FluvialSettings}
+use Rattle.run_settings.specs.declared.ThermalSettings.{ThermalSettings}
 use Rattle.stream_bytes.specs.Bytes.{number2, number4, float4, gridMark, fluvialMark, thermalMark, same, markAt, marked}
 use Rattle.stream_rows.specs.Rows.{rowAt, rowsMarked, heightsAt}
 use Rattle.stream.specs.declared.Settings.{Settings}
@@ -60,7 +60,7 @@ thermalAt s =
       «work_res» = number4 s 24;
     }
 
--- the one or the other, by the mark
+-- the fluvial or the thermal settings, by the mark of the settings record
 abbrev pub settingsAt : List ℕ → Settings
 settingsAt s = cond (marked s 6 fluvialMark) (Fluvial (fluvialAt s)) (Thermal (thermalAt s))
 
@@ -109,12 +109,12 @@ pub record Recorded (s : List ℕ) : Type 0 where
   pub some : 32 ≤ rowsAt s
   pub room : rowsAt s ≤ length s
 
--- a stream of which nothing is refused by 8, on a grid in range
+-- nothing of the stream s behind its grid record is refused by 8, on a w × h grid in range
 pub record Whole (s : List ℕ) (w h : ℕ) : Type 0 where
   pub sides : InRange w h
   pub rest : badRest s w h ≡ false
 
--- the answer of the code in these terms
+-- the outcome that a `Read` of the stream s stands for
 abbrev pub readOf : List ℕ → Read → Outcome Parsed
 readOf s (Read.Accepted head) = gives (parsedOf s head)
 readOf s (Read.Refused r) = refusalOf r

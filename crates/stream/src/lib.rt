@@ -2,10 +2,10 @@
 use answers::Refusal;
 use grid::Sides;
 use grid::bad_sides;
-use plans::bad_fluvial;
-use plans::bad_thermal;
-use runs::FluvialSettings;
-use runs::ThermalSettings;
+use run_settings::FluvialSettings;
+use run_settings::ThermalSettings;
+use run_settings::bad_fluvial;
+use run_settings::bad_thermal;
 use stream_bytes::has_mark;
 use stream_bytes::read_f32;
 use stream_bytes::read_u16;
@@ -21,14 +21,16 @@ ghost use lib.ListN.{length};
 ghost use Rattle.grid.specs.Sides.{InRange};
 ghost use Rattle.stream_bytes.specs.Bytes.{markAt};
 ghost use Rattle.stream_rows.specs.Rows.{Framed};
-ghost use Rattle.stream.specs.Stream.{sidesAt, settingsLength, settingsAt, Recorded, headerAt, parsedOf, badGrid, badRest, badSettings, Whole, fluvialAt, thermalAt, valuesOf, readStream, readOf};
+ghost use Rattle.stream.specs.Stream.{sidesAt, settingsLength, settingsAt, Recorded, headerAt, parsedOf, badGrid};
+ghost use Rattle.stream.specs.Stream.{badRest, badSettings, Whole, fluvialAt, thermalAt, valuesOf, readStream};
+ghost use Rattle.stream.specs.Stream.{readOf};
 
 // The marks of the records other than rows.
 pub const GRID: [u8; 2] = *b"GR";
 
-pub const FLUVIAL: [u8; 2] = *b"FL";
+const FLUVIAL: [u8; 2] = *b"FL";
 
-pub const THERMAL: [u8; 2] = *b"TH";
+const THERMAL: [u8; 2] = *b"TH";
 
 pub const END: [u8; 2] = *b"EN";
 
@@ -143,7 +145,7 @@ fn read_settings(bytes: &[u8]) -> Settings
     Settings::Thermal(read_thermal(bytes))
 }
 
-// What the grid and settings records of a stream that is whole say.
+// Returns what the grid and settings records say, of a stream that is not refused by 8.
 fn read_header(bytes: &[u8], size: Sides) -> Header
     requires { ⌜ size ≡ sidesAt (now bytes) ⌝ }
     requires { ⌜ Whole (now bytes) (size .w) (size .h) ⌝ }
@@ -168,18 +170,21 @@ fn bad_settings(settings: Settings) -> bool
     }
 }
 
-// Refusal 9: more cells than the program takes.
+// The most cells that the program takes.
+const CELLS_MAX: usize = 4096;
+
+// Refusal 9: whether the grid has more than the 4,096 cells that the program takes; false where `limited` is.
 fn too_many(limited: bool, size: Sides) -> bool
     requires { ⌜ InRange (size .w) (size .h) ⌝ }
     ensures { λ r. ⌜ r ≡ (limited && ltb 4096 (size .w * size .h)) ⌝ }
 {
     if limited {
-        return size.w * size.h > 4096;
+        return size.w * size.h > CELLS_MAX;
     }
     false
 }
 
-// Refusals 4 and 5 of a stream that is whole.
+// Checks a stream that is not refused by 8 for refusals 4 and 5. Returns its header, or the refusal.
 fn checked(bytes: &[u8], head: Header) -> Read
     requires { ⌜ Framed (now bytes) (head .rows) (head .size .w) (head .size .h) ⌝ }
     ensures { λ r. ⌜ readOf (now (bytes .entry)) r ≡ valuesOf (parsedOf (now (bytes .entry)) head) ⌝ }
@@ -196,7 +201,8 @@ fn checked(bytes: &[u8], head: Header) -> Read
     Read::Accepted(head)
 }
 
-// Reads a stream, for `relief` and for the stream check, which leaves 9 out: there `limited` is false.
+// Reads a stream, for `relief` and for the stream check, which leaves 9 out: there `limited` is false. Returns the
+// header, or the first refusal in the order of document 01.
 pub fn read_stream(limited: bool, bytes: &[u8]) -> Read
     ensures { λ r. ⌜ readOf (now (bytes .entry)) r ≡ readStream limited (now (bytes .entry)) ⌝ }
 {

@@ -14,7 +14,7 @@ unfoldable pub number4 : List ℕ → ℕ → ℕ
 unfolding number2
 number4 s at = number2 s at + number2 s (at + 2) * 65536
 
--- the float whose bits are those four bytes
+-- the float whose bits are the four bytes at a place
 abbrev pub float4 : List ℕ → ℕ → Float
 float4 s at = ofBits binary32 (number4 s at)
 

@@ -6,7 +6,7 @@ ghost use lib.ListN.{length};
 ghost use lib.Seq.{sets};
 ghost use Rattle.stream_bytes.specs.Bytes.{number2, number4, float4, marked, bytes2, bytes4};
 
-fn wide(x: u8) -> u16
+fn as_u16(x: u8) -> u16
     ensures { λ r. ⌜ (r ≡ x) × (r < 256) ⌝ }
 {
     x as u16
@@ -17,7 +17,7 @@ pub fn read_u16(bytes: &[u8], at: usize) -> u16
     requires { ⌜ at + 2 ≤ length (now bytes) ⌝ }
     ensures { λ r. ⌜ r ≡ number2 (now (bytes .entry)) at ⌝ }
 {
-    wide(bytes[at]) + wide(bytes[at + 1]) * 256
+    as_u16(bytes[at]) + as_u16(bytes[at + 1]) * 256
 }
 
 // The number of four bytes, low byte first.
@@ -28,7 +28,7 @@ pub fn read_u32(bytes: &[u8], at: usize) -> u32
     read_u16(bytes, at) as u32 + read_u16(bytes, at + 2) as u32 * 65536
 }
 
-// The float whose bits are four bytes.
+// Returns the float whose bits are the four bytes at a place.
 pub fn read_f32(bytes: &[u8], at: usize) -> f32
     requires { ⌜ at + 4 ≤ length (now bytes) ⌝ }
     ensures { λ r. ⌜ r ≡ float4 (now (bytes .entry)) at ⌝ }

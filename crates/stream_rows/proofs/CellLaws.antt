@@ -10,10 +10,10 @@ use lib.ListN.{length, getD}
 use lib.Ieee.{Float, nan}
 use lib.Ieee.Scale.{finite}
 use borrow.Rule.Slice.PartMut.{putMid}
-use Rattle.lists.specs.Loops.{tabulate}
-use Rattle.lists.proofs.TableLaws.{length-tabulate, getD-tabulate}
-use Rattle.lists.proofs.FillLaws.{Filling}
-use Rattle.resample.proofs.RowFillLaws.{stored-row-at}
+use Rattle.loops.specs.Loops.{tabulate}
+use Rattle.loops.proofs.TableLaws.{length-tabulate, getD-tabulate}
+use Rattle.loops.proofs.FillLaws.{Filling}
+use Rattle.loops.proofs.RowFillLaws.{stored-row-at}
 use Rattle.grid.specs.Sides.{cellOf}
 use Rattle.grid.specs.Heights.{allFinite}
 use Rattle.grid.proofs.SidesLaws.{column-cell, row-cell, cell-lt, cells-bound, row-few}

@@ -9,7 +9,7 @@ use native.Mathlib.Omega.{arith}
 use native.Mathlib.Decide.{decLt}
 use borrow.Author.Tests.{not-true, not-false}
 use lib.ListN.{length}
-use Rattle.lists.proofs.LoopLaws.{at-end}
+use Rattle.loops.proofs.LoopLaws.{at-end}
 use Rattle.grid.specs.Sides.{InRange}
 use Rattle.stream_bytes.specs.Bytes.{rowMark, marked}
 use Rattle.stream_rows.specs.Rows.{rowLength, rowAt, rowsMarked, Framed}

@@ -5,7 +5,7 @@ use mathlib.Core.Bool.{Bool, true, _&&_}
 use mathlib.Core.List.{List}
 use lib.ListN.{length}
 use lib.Ieee.{Float}
-use Rattle.lists.specs.Loops.{tabulate}
+use Rattle.loops.specs.Loops.{tabulate}
 use Rattle.grid.specs.Sides.{columnOf, rowOf, InRange}
 use Rattle.stream_bytes.specs.Bytes.{number4, float4, rowMark, marked}
 
@@ -40,7 +40,7 @@ unfoldable pub heightsAt : List ℕ → ℕ → ℕ → ℕ → List Float
 unfolding number4 tabulate
 heightsAt s rows w h = tabulate (w * h) (cellAt s rows w)
 
--- rows that fill the stream to its end, of a grid in range
+-- the rows of a w × h grid in range begin at byte `rows` and fill the stream s to its end
 pub record Framed (s : List ℕ) (rows w h : ℕ) : Type 0 where
   pub begins : rows ≤ 36
   pub sides : InRange w h

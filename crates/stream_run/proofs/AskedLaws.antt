@@ -9,9 +9,9 @@ use lib.Ieee.{Float}
 use Rattle.answers.specs.Outcome.{Outcome, gives}
 use Rattle.grid.specs.Heights.{allFinite}
 use Rattle.grid.proofs.SidesLaws.{in-range}
-use Rattle.runs.specs.Run.{Ran}
-use Rattle.plans.specs.Accepted.{refusalOn, Accepted}
-use Rattle.erosion.specs.Ending.{Ending, ranTo, endingOf}
+use Rattle.run_machine.specs.Run.{Ran}
+use Rattle.run_settings.specs.Accepted.{refusalOn, AcceptedRun}
+use Rattle.run_parts.specs.Ending.{Ending, ranTo, endingOf}
 use Rattle.fluvial_run.specs.FluvialRun.{shortestOf}
 use Rattle.fluvial_grid.specs.declared.Scratch.{Scratch}
 use Rattle.stream_rows.specs.Rows.{heightsAt}
@@ -24,11 +24,11 @@ use Rattle.stream_run.specs.StreamRun.{runOf, askedRun, AcceptedStream}
 abbrev room : Scratch
 room = record { small = 4096; eroded = 4096; copy = 4096; area = 4096; order = 4096; recv = 4096; queue = 4096; status = 4096 }
 
-accepted-gives : {w h : ℕ} {bad : Bool} {map : List Float} {scratch : ℕ} → Accepted w h bad map scratch → refusalOn w h bad map scratch ≡ gives tt
+accepted-gives : {w h : ℕ} {bad : Bool} {map : List Float} {scratch : ℕ} → AcceptedRun w h bad map scratch → refusalOn w h bad map scratch ≡ gives tt
 accepted-gives {w} {h} {bad} {map} {scratch} a =
     rw (in-range (a .sides), eq-eqb (length map) (w * h) (a .cells), le-ltb scratch (w * h) (a .room), a .settings, a .finites)
 
-module _ {w h : ℕ} {bad : Bool} {map : List Float} (a : Accepted w h bad map 4096) (ran : Ran) where
+module _ {w h : ℕ} {bad : Bool} {map : List Float} (a : AcceptedRun w h bad map 4096) (ran : Ran) where
   ran-by : {e : Ending} (scratch : ℕ) → 4096 ≡ scratch → e ≡ endingOf (refusalOn w h bad map scratch) map ran → e ≡ ranTo ran
   ran-by scratch s f =
       f ∙ ap (λ (n : ℕ). endingOf (refusalOn w h bad map n) map ran) (sym s)
@@ -43,15 +43,15 @@ module _ {w h : ℕ} {bad : Bool} {map : List Float} (a : Accepted w h bad map 4
 
 -- the two kinds of run
 module _ (head : Header) (map : List Float) {st : Settings} (e : head .settings ≡ st) where
-  pub asked-accepted : Accepted (head .size .w) (head .size .h) (badSettings (head .settings)) map 4096 → Accepted (head .size .w) (head .size .h) (badSettings st) map 4096
-  asked-accepted = subst (λ (st : Settings). Accepted (head .size .w) (head .size .h) (badSettings st) map 4096) e
+  pub asked-accepted : AcceptedRun (head .size .w) (head .size .h) (badSettings (head .settings)) map 4096 → AcceptedRun (head .size .w) (head .size .h) (badSettings st) map 4096
+  asked-accepted = subst (λ (st : Settings). AcceptedRun (head .size .w) (head .size .h) (badSettings st) map 4096) e
 
   pub asked-ran : {x : Ending} → x ≡ ranTo (runOf st (head .size .w) (head .size .h) (head .stop) map) → x ≡ ranTo (askedRun head map)
   asked-ran f = f ∙ ap (λ (st : Settings). ranTo (runOf st (head .size .w) (head .size .h) (head .stop) map)) (sym e)
 
 -- the map of an accepted stream
 module _ (s : List ℕ) (head : Header) (a : AcceptedStream s head) where
-  pub loaded-accepted : {map : List Float} → map ≡ heightsAt s (head .rows) (head .size .w) (head .size .h) → Accepted (head .size .w) (head .size .h) (badSettings (head .settings)) map 4096
+  pub loaded-accepted : {map : List Float} → map ≡ heightsAt s (head .rows) (head .size .w) (head .size .h) → AcceptedRun (head .size .w) (head .size .h) (badSettings (head .settings)) map 4096
   loaded-accepted {map} e = record {
     sides = a .framed .sides;
     cells = ap length e ∙ heights-length s (head .rows) (head .size .w) (head .size .h);

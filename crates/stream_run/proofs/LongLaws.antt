@@ -9,7 +9,7 @@ use borrow.Author.Tests.{ltb-false, le-ltb, ne-eqb}
 use lib.Dec.{eqb, ltb}
 use lib.ListN.{length, take}
 use lib.Seq.{length-take-le, getD-take, take-take}
-use Rattle.lists.proofs.TestLaws.{behind}
+use Rattle.loops.proofs.TestLaws.{behind}
 use Rattle.answers.specs.Outcome.{Outcome, refused}
 use Rattle.grid.specs.Sides.{badSides, InRange}
 use Rattle.grid.proofs.SidesLaws.{good-sides}

@@ -5,7 +5,7 @@ use mathlib.Core.Bool.{Bool, true, cond}
 use mathlib.Core.List.{List}
 use borrow.Author.Tests.{ltb-false}
 use lib.Dec.{ltb}
-use Rattle.lists.proofs.TestLaws.{either}
+use Rattle.loops.proofs.TestLaws.{either}
 use Rattle.answers.specs.Outcome.{Outcome, gives, refused, refusedAt, refusalOf, numberOf}
 use Rattle.answers.specs.declared.Refusal.{Refusal}
 use Rattle.answers.proofs.OutcomeLaws.{refusal-by, not-refused, not-refused-unless}
@@ -16,7 +16,7 @@ use Rattle.stream_bytes.specs.Bytes.{number2}
 use Rattle.stream.specs.Stream.{Parsed, headerAt, parsedOf, badGrid, badRest, badSettings, readStream}
 use Rattle.stream.specs.declared.Header.{Header}
 use Rattle.stream.proofs.ReaderLaws.{read-framed, header-size}
-use Rattle.output.specs.Output.{forInput}
+use Rattle.stream_output.specs.Output.{forInput}
 use Rattle.stream_run.specs.StreamRun.{AcceptedStream}
 
 -- what an accepted stream gives is what stands in it

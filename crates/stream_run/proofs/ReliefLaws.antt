@@ -14,14 +14,14 @@ use Rattle.answers.specs.declared.Refusal.{Refusal}
 use Rattle.answers.proofs.OutcomeLaws.{refusal-by, not-refused}
 use Rattle.grid.specs.Sides.{badSides}
 use Rattle.grid.proofs.SidesLaws.{in-range}
-use Rattle.erosion.specs.Ending.{Ending, outcomeOf, ranTo, endedWith, refusedTo}
-use Rattle.erosion.specs.declared.RunAnswer.{RunAnswer}
+use Rattle.run_parts.specs.Ending.{Ending, outcomeOf, ranTo, endedWith, refusedTo}
+use Rattle.answers.specs.declared.RunAnswer.{RunAnswer}
 use Rattle.stream_rows.specs.Rows.{heightsAt}
 use Rattle.stream.specs.Stream.{Parsed, parsedOf, readStream}
 use Rattle.stream.specs.declared.Header.{Header}
-use Rattle.output.specs.Output.{gridRecord, rowRecords, endRecord, forInput, outputOf, outputBy, numberOf, rowsLength, writtenOf, leftOf, writtenBy, Wrote}
-use Rattle.output.specs.declared.Written.{Written}
-use Rattle.output.proofs.OutputLaws.{rows-length}
+use Rattle.stream_output.specs.Output.{gridRecord, rowRecords, endRecord, forInput, outputOf, outputBy, runNumber, rowsLength, writtenOf, leftOf, writtenBy, Wrote}
+use Rattle.answers.specs.declared.Written.{Written}
+use Rattle.stream_output.proofs.OutputLaws.{rows-length}
 use Rattle.stream_run.specs.StreamRun.{askedRun, outputFrom, reliefOf, Relief}
 use Rattle.stream_run.proofs.ReadLaws.{accepted-stream, refused-number}
 
@@ -65,9 +65,9 @@ unfolding reliefOf
 relief-is s e = ap outputFrom e
 
 -- a writer of the definition's bytes
-module _ (s : List ℕ) (w h : ℕ) (map : List Float) (r : RunAnswer) (fit : (room : ℕ) → writtenOf w h (numberOf r) (length map) room ≡ fits room (outputBy w h r map))
+module _ (s : List ℕ) (w h : ℕ) (map : List Float) (r : RunAnswer) (fit : (room : ℕ) → writtenOf w h (runNumber r) (length map) room ≡ fits room (outputBy w h r map))
     (same : outputBy w h r map ≡ reliefOf s) where
-  answer-fits : (room : ℕ) → writtenOf w h (numberOf r) (length map) room ≡ fits room (reliefOf s)
+  answer-fits : (room : ℕ) → writtenOf w h (runNumber r) (length map) room ≡ fits room (reliefOf s)
   answer-fits room = fit room ∙ ap (fits room) same
 
   relief-by : {old : List ℕ} {answer : Written} {new : List ℕ} → Wrote w h map r old answer new → Relief s old answer new
@@ -82,7 +82,7 @@ module _ (s : List ℕ) (head : Header) (e : gives (parsedOf s head) ≡ readStr
   -- its run, written
   module _ (r : RunAnswer) (map : List Float) (f : endedWith r map ≡ ranTo (askedRun head (heightsAt s (head .rows) (head .size .w) (head .size .h))))
       (full : length map ≡ head .size .w * head .size .h) where
-    ran-number : numberOf r ≡ askedRun head (heightsAt s (head .rows) (head .size .w) (head .size .h)) .number
+    ran-number : runNumber r ≡ askedRun head (heightsAt s (head .rows) (head .size .w) (head .size .h)) .number
     ran-number =
         ap (λ (x : Ending). numberIn (x .outcome)) f ∙ number-in (askedRun head (heightsAt s (head .rows) (head .size .w) (head .size .h)) .number)
 
@@ -94,7 +94,7 @@ module _ (s : List ℕ) (head : Header) (e : gives (parsedOf s head) ≡ readStr
     ran-relief : {old : List ℕ} {answer : Written} {new : List ℕ} → Wrote (head .size .w) (head .size .h) map r old answer new → Relief s old answer new
     ran-relief =
         relief-by s (head .size .w) (head .size .h) map r
-        (written-fits (head .size .w) (head .size .h) (in-range (accepted-stream s head e .framed .sides)) map full (numberOf r) (r .incisions) (r .passes) (r .questions))
+        (written-fits (head .size .w) (head .size .h) (in-range (accepted-stream s head e .framed .sides)) map full (runNumber r) (r .incisions) (r .passes) (r .questions))
         ran-output
 
   -- the part of a longer map that is lent to it

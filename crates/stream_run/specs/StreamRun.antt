@@ -7,15 +7,15 @@ use lib.ListN.{length, take}
 use lib.Dec.{ltb}
 use lib.Ieee.{Float}
 use Rattle.answers.specs.Outcome.{Outcome, gives, refused, refusedAt}
-use Rattle.runs.specs.Run.{Ran, ours, runBy, thermalRun}
+use Rattle.run_machine.specs.Run.{Ran, ours, runBy, thermalRun}
 use Rattle.grid.specs.Heights.{allFinite}
 use Rattle.stream_rows.specs.Rows.{heightsAt, Framed}
 use Rattle.stream.specs.Stream.{Parsed, badSettings, readStream}
 use Rattle.stream.specs.declared.Settings.{Settings}
 use Rattle.stream.specs.declared.Settings.the-variants.{Fluvial, Thermal}
 use Rattle.stream.specs.declared.Header.{Header}
-use Rattle.output.specs.Output.{outputOf, endRecord, leftOf, writtenBy}
-use Rattle.output.specs.declared.Written.{Written}
+use Rattle.stream_output.specs.Output.{outputOf, endRecord, leftOf, writtenBy}
+use Rattle.answers.specs.declared.Written.{Written}
 
 -- the whole run of document 01 by the settings of a stream
 abbrev pub runOf : Settings → ℕ → ℕ → ℕ → List Float → Ran
@@ -32,7 +32,7 @@ pub record AcceptedStream (s : List ℕ) (head : Header) : Type 0 where
   pub settings : badSettings (head .settings) ≡ false
   pub finites : allFinite (heightsAt s (head .rows) (head .size .w) (head .size .h)) ≡ true
 
--- Input bytes to output bytes: the grid record, the rows and the end; on 1 to 9 the end alone.
+-- The output by what reading the input gave: the grid record, the rows and the end; on 1 to 9 the end alone.
 abbrev pub outputFrom : Outcome Parsed → List ℕ
 outputFrom (gives p) =
     let ran = askedRun (p .header) (p .heights) in
@@ -44,7 +44,8 @@ unfoldable pub reliefOf : List ℕ → List ℕ
 unfolding readStream
 reliefOf s = outputFrom (readStream true s)
 
--- 3: a slice shorter than the output, which stays as it was; else the output, and bytes beyond it as they were
+-- what `relief` answers and leaves: 3 for a slice shorter than the output, which stays as it was; else the length of
+-- the output, with the output in the slice and bytes beyond it as they were
 abbrev pub reliefWritten : List ℕ → ℕ → Outcome ℕ
 reliefWritten s room = cond (ltb room (length (reliefOf s))) (refused 3) (gives (length (reliefOf s)))
 
@@ -52,6 +53,7 @@ pub record Relief (s old : List ℕ) (answer : Written) (new : List ℕ) : Type 
   pub answers : writtenBy answer ≡ reliefWritten s (length old)
   pub leaves : new ≡ leftOf (reliefWritten s (length old)) old (reliefOf s)
 
--- No accepted stream has more than 24,612 bytes, so of a longer input the first 24,613 decide: it gets its refusal, not a cut.
+-- No accepted stream has more than 24,612 bytes, so the first 24,613 bytes of a longer input decide its output: it gets
+-- the refusal of the whole input.
 abbrev pub LongInput : Type 0
 LongInput = (s : List ℕ) → 24612 < length s → reliefOf (take 24613 s) ≡ reliefOf s

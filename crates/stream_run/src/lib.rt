@@ -1,17 +1,17 @@
 // Runs a stream of document 01: input bytes to the output bytes of `relief`.
 use answers::Refusal;
-use erosion::RunAnswer;
-use erosion::refused;
+use answers::RunAnswer;
+use answers::Written;
 use fluvial_run::gen_fluvial_erosion;
 use grid::Sides;
-use output::Written;
-use output::write_output;
-use runs::FluvialSettings;
-use runs::ThermalSettings;
+use run_parts::refused;
+use run_settings::FluvialSettings;
+use run_settings::ThermalSettings;
 use stream::Header;
 use stream::Read;
 use stream::Settings;
 use stream::read_stream;
+use stream_output::write_output;
 use stream_rows::load;
 use thermal_run::gen_thermal_erosion;
 ghost use mathlib.Core.Path.{_≡_};
@@ -19,14 +19,14 @@ ghost use mathlib.Core.Bool.{true};
 ghost use mathlib.Core.List.{[]};
 ghost use Prim.Native.Nat.{_*_};
 ghost use lib.ListN.{length};
-ghost use Rattle.runs.specs.Run.{ours, runBy, thermalRun};
-ghost use Rattle.runs.specs.Refusals.{badFluvial, badThermal};
-ghost use Rattle.plans.specs.Accepted.{Accepted};
+ghost use Rattle.run_machine.specs.Run.{ours, runBy, thermalRun};
+ghost use Rattle.run_settings.specs.Refusals.{badFluvial, badThermal};
+ghost use Rattle.run_settings.specs.Accepted.{AcceptedRun};
 ghost use Rattle.answers.specs.Outcome.{gives};
-ghost use Rattle.erosion.specs.Ending.{endedWith, ranTo, refusedTo};
+ghost use Rattle.run_parts.specs.Ending.{endedWith, ranTo, refusedTo};
 ghost use Rattle.stream_rows.specs.Rows.{heightsAt};
 ghost use Rattle.stream.specs.Stream.{parsedOf, badSettings, readStream};
-ghost use Rattle.output.specs.Output.{Wrote};
+ghost use Rattle.stream_output.specs.Output.{Wrote};
 ghost use Rattle.stream_run.specs.StreamRun.{askedRun, AcceptedStream, Relief};
 
 // Slices for the 4,096 cells that the program takes: the map, and scratch.
@@ -50,8 +50,9 @@ fn statuses() -> [u8; 4096]
 
 // A fluvial run that is not refused, of at most 4,096 cells.
 fn run_fluvial(size: Sides, map: &mut [f32], conf: FluvialSettings, stop: u32) -> RunAnswer
-    requires { ⌜ Accepted (size .w) (size .h) (badFluvial conf) (now map) 4096 ⌝ }
-    ensures { λ r. ⌜ endedWith r (now (map .exit)) ≡ ranTo (runBy (size .w) (size .h) conf stop ours (now (map .entry))) ⌝ }
+    requires { ⌜ AcceptedRun (size .w) (size .h) (badFluvial conf) (now map) 4096 ⌝ }
+    ensures { λ r. ⌜ endedWith r (now (map .exit))
+        ≡ ranTo (runBy (size .w) (size .h) conf stop ours (now (map .entry))) ⌝ }
 {
     let mut small = heights();
     let mut eroded = heights();
@@ -79,8 +80,9 @@ fn run_fluvial(size: Sides, map: &mut [f32], conf: FluvialSettings, stop: u32) -
 
 // A thermal run that is not refused, of at most 4,096 cells.
 fn run_thermal(size: Sides, map: &mut [f32], conf: ThermalSettings, stop: u32) -> RunAnswer
-    requires { ⌜ Accepted (size .w) (size .h) (badThermal conf) (now map) 4096 ⌝ }
-    ensures { λ r. ⌜ endedWith r (now (map .exit)) ≡ ranTo (thermalRun (size .w) (size .h) conf stop (now (map .entry))) ⌝ }
+    requires { ⌜ AcceptedRun (size .w) (size .h) (badThermal conf) (now map) 4096 ⌝ }
+    ensures { λ r. ⌜ endedWith r (now (map .exit))
+        ≡ ranTo (thermalRun (size .w) (size .h) conf stop (now (map .entry))) ⌝ }
 {
     let mut small = heights();
     let mut eroded = heights();
@@ -90,7 +92,7 @@ fn run_thermal(size: Sides, map: &mut [f32], conf: ThermalSettings, stop: u32) -
 
 // The run that a stream asks for, on a map that is not refused.
 fn run_asked(head: Header, map: &mut [f32]) -> RunAnswer
-    requires { ⌜ Accepted (head .size .w) (head .size .h) (badSettings (head .settings)) (now map) 4096 ⌝ }
+    requires { ⌜ AcceptedRun (head .size .w) (head .size .h) (badSettings (head .settings)) (now map) 4096 ⌝ }
     ensures { λ r. ⌜ endedWith r (now (map .exit)) ≡ ranTo (askedRun head (now (map .entry))) ⌝ }
 {
     let size = head.size;
@@ -102,12 +104,13 @@ fn run_asked(head: Header, map: &mut [f32]) -> RunAnswer
     }
 }
 
-// Runs an accepted stream on a map of exactly its cells. It asks nothing of the map's heights: those of the stream are
-// written over them.
+// Runs an accepted stream on a map of exactly its cells. What the map holds before does not matter: the heights of the
+// stream are written over it.
 fn run_stream(bytes: &[u8], head: Header, map: &mut [f32]) -> RunAnswer
     requires { ⌜ AcceptedStream (now bytes) head ⌝ }
     requires { ⌜ length (now map) ≡ head .size .w * head .size .h ⌝ }
-    ensures { λ r. ⌜ endedWith r (now (map .exit)) ≡ ranTo (askedRun head (heightsAt (now (bytes .entry)) (head .rows) (head .size .w) (head .size .h))) ⌝ }
+    ensures { λ r. ⌜ endedWith r (now (map .exit))
+        ≡ ranTo (askedRun head (heightsAt (now (bytes .entry)) (head .rows) (head .size .w) (head .size .h))) ⌝ }
 {
     let size = head.size;
     let rows = head.rows;

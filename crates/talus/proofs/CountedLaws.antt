@@ -7,7 +7,7 @@ use lib.ListN.{getD, set}
 use lib.Seq.{set-getD}
 use lib.Ieee.{Float, nan, binary32, ofBits, add, mul, div, lt}
 use Rattle.floats.specs.Stand.{maxOf}
-use Rattle.lists.proofs.TestLaws.{through₂}
+use Rattle.loops.proofs.TestLaws.{through₂}
 use Rattle.talus.specs.Talus.{excessTo, shedTo, gainTo}
 use Rattle.talus.specs.declared.Shed.{Shed}
 

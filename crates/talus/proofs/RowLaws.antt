@@ -5,8 +5,8 @@ use mathlib.Core.List.{List}
 use native.Mathlib.Omega.{arith}
 use lib.ListN.{length}
 use lib.Ieee.{Float}
-use Rattle.lists.specs.Loops.{turns}
-use Rattle.lists.proofs.LoopLaws.{Turning, turning-none, turning-more, turning-done}
+use Rattle.loops.specs.Loops.{turns}
+use Rattle.loops.proofs.LoopLaws.{Turning, turning-none, turning-more, turning-done}
 use Rattle.grid.proofs.SidesLaws.{cell-lt}
 use Rattle.talus.specs.Places.{CellAt, InRow}
 

@@ -1,18 +1,18 @@
 -- One direction of a cell, by the cell m that lies there.
 use Prim.Native.Nat.{ℕ, suc, _+_, _-_, _*_, _≤_, _<_}
-use mathlib.Core.Path.{_≡_, refl, ap, sym, _∙_, subst}
+use mathlib.Core.Path.{_≡_, ap, sym, _∙_, subst}
 use mathlib.Core.Bool.{Bool, true, false, cond, true≢false}
 use mathlib.Core.List.{List}
 use native.Mathlib.Omega.{arith}
 use lib.Dec.{ltb}
 use lib.IntN.{ℤ}
 use lib.Ieee.{Float}
-use Rattle.lists.specs.Loops.{turns}
-use Rattle.lists.proofs.LoopLaws.{Turning, turning-none, turning-more, turning-done}
+use Rattle.loops.specs.Loops.{turns}
+use Rattle.loops.proofs.LoopLaws.{Turning, turning-none, turning-more, turning-done}
 use Rattle.grid.specs.Directions.{steppedOf, steppedAt, neighbourAt}
 use Rattle.grid.proofs.SidesLaws.{cell-lt, column-cell, row-cell}
-use Rattle.inner_cells.specs.Inner.{Inner}
-use Rattle.inner_cells.proofs.InnerLaws.{inner-below}
+use Rattle.grid_inner.specs.Inner.{Inner}
+use Rattle.grid_inner.proofs.InnerLaws.{inner-below}
 use Rattle.talus.specs.Talus.{shedTo, shedStep, gainTo, gainStep}
 use Rattle.talus.specs.Places.{CellAt}
 use Rattle.talus.specs.declared.Shed.{Shed}
@@ -39,20 +39,12 @@ inner-in-map a d n m lo hi cells at e = inner-below _ _ _ d lo (omega arith) (a 
 -- cell m lies in direction d, or no cell does
 module _ (w h n : ℕ) (ts hs : List Float) (c d m : ℕ) (cells : n ≡ w * h) (at : m ≡ neighbourAt w h c d) where
   pub shed-step : (s r : Shed) → r ≡ cond (ltb m n) (shedTo ts hs c m d s) s → r ≡ shedStep w h ts hs c d s
-  unfolding shedStep shedTo
-  shed-step s r e = e ∙ go (ltb m n) refl
-    where
-      go : (b : Bool) → ltb m n ≡ b → cond b (shedTo ts hs c m d s) s ≡ shedStep w h ts hs c d s
-      go true l = rw (← at, ← cells, l)
-      go false l = rw (← at, ← cells, l)
+  unfolding shedStep
+  shed-step s r e = e ∙ rw (cells, at)
 
   pub gain-step : (moved total : Float) (out r : List Float) → r ≡ cond (ltb m n) (gainTo ts hs c m moved total d out) out → r ≡ gainStep w h ts hs c moved total d out
-  unfolding gainStep gainTo
-  gain-step moved total out r e = e ∙ go (ltb m n) refl
-    where
-      go : (b : Bool) → ltb m n ≡ b → cond b (gainTo ts hs c m moved total d out) out ≡ gainStep w h ts hs c moved total d out
-      go true l = rw (← at, ← cells, l)
-      go false l = rw (← at, ← cells, l)
+  unfolding gainStep
+  gain-step moved total out r e = e ∙ rw (cells, at)
 
 -- the state of a loop over the eight directions that has done those below d
 pub record Around {S : Type 0} (f : ℕ → S → S) (start : S) (d : ℕ) (s : S) : Type 0 where

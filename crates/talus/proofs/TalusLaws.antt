@@ -3,23 +3,25 @@ use Prim.Native.Nat.{ℕ, suc, _+_, _*_}
 use mathlib.Core.Path.{_≡_, refl, _∙_}
 use mathlib.Core.List.{List}
 use lib.ListN.{length, getD, set, length-set}
+use lib.Dec.{ltb}
 use lib.Ieee.{Float, nan, binary32, ofBits, add, sub, lt, le}
 use lib.Ieee.Fits.{add-fits, sub-fits}
-use Rattle.lists.proofs.TestLaws.{either}
-use Rattle.lists.proofs.TurnLaws.{turns-keep}
+use Rattle.loops.proofs.TestLaws.{either}
+use Rattle.loops.proofs.TurnLaws.{turns-keep}
+use Rattle.grid.specs.Directions.{neighbourAt}
 use Rattle.float_order.specs.Fit.{Fit}
 use Rattle.float_order.proofs.FitLaws.{fit-set}
-use Rattle.talus.specs.Talus.{counted, shedOf, gainStep, gainsOf, slideCell, slideRow}
+use Rattle.talus.specs.Talus.{excessTo, shedOf, gainTo, gainStep, gainsOf, slideCell, slideRow}
 
 -- what a loss and a gain keep, a row keeps
 module _ (P : List Float → Type 0) (gained : (l : List Float) (i : ℕ) (a b : Float) → P l → P (set l i (add binary32 a b)))
     (lost : (l : List Float) (i : ℕ) (a b : Float) → P l → P (set l i (sub binary32 a b)))
     (w h : ℕ) (ts hs : List Float) where
   gains-keep : (c : ℕ) (moved total : Float) (out : List Float) → P out → P (gainsOf w h ts hs c moved total out)
-  unfolding gainsOf gainStep
+  unfolding gainsOf gainStep gainTo
   gains-keep c moved total out p =
       turns-keep (λ i. gainStep w h ts hs c moved total (suc i)) P out 8 p
-      (λ i t l q. either P (counted w h ts hs c (suc i)) _ _ (gained t _ _ _ q) q)
+      (λ i t l q. either P (ltb (neighbourAt w h c (suc i)) (w * h)) _ _ (either P (lt (ofBits binary32 0) (excessTo ts hs c (neighbourAt w h c (suc i)) (suc i))) _ _ (gained t _ _ _ q) q) q)
 
   cell-keeps : (strength water : Float) (c : ℕ) (out : List Float) → P out → P (slideCell w h ts hs strength water c out)
   unfolding slideCell

@@ -1,12 +1,13 @@
-// Talus on cells and rows: what a cell steeper than its thresholds sheds, and where that goes. Heights are read from `hmap`; gains and losses
-// go to `out`. The thresholds of the directions are an argument, prepared once before the rows.
+// Talus on cells and rows: what a cell steeper than its thresholds sheds, and where that goes. Heights are read from
+// `hmap`; gains and losses go to `out`. The thresholds of the directions are an argument, prepared once before the
+// rows.
 use floats::max;
 use grid::DIRX;
 use grid::DIRY;
 use grid::Sides;
 use grid::neighbour;
-use inner_cells::beside;
-use spacing::Distances;
+use grid_inner::beside;
+use grid_spacing::Distances;
 ghost use mathlib.Core.Path.{_≡_};
 ghost use mathlib.Core.Bool.{true, cond};
 ghost use Prim.Native.Nat.{_+_, _*_, _<_};
@@ -14,9 +15,9 @@ ghost use lib.ListN.{length};
 ghost use lib.Dec.{ltb};
 ghost use lib.Ieee.{binary32, ofBits, lt};
 ghost use Rattle.grid.specs.Directions.{Step, steppedAt};
-ghost use Rattle.inner_cells.specs.Inner.{Inner};
-ghost use Rattle.talus.specs.Talus.{thresholdsOf, excessOver, shedTo, shedOf, gainTo, gainsOf};
-ghost use Rattle.talus.specs.Talus.{slideCell, slideCells};
+ghost use Rattle.grid_inner.specs.Inner.{Inner};
+ghost use Rattle.talus.specs.Talus.{thresholdsOf, excessOver, shedTo, shedOf, gainTo, gainsOf, slideCell};
+ghost use Rattle.talus.specs.Talus.{slideCells};
 ghost use Rattle.talus.specs.Places.{CellAt, InRow};
 
 // The total of the excesses counted so far, and the greatest of them.
@@ -34,7 +35,8 @@ pub fn thresholds(t: f32, ds: Distances) -> [f32; 9]
     [t, d, t, d, t, t, d, t, d]
 }
 
-// The first value where the excess e is counted, that is above 0, else the second. Both are worked out before, so that no branch has to be foreseen.
+// Returns `counted` where the excess e is counted, that is above 0, else `not`. Both are computed before: a select, not
+// a branch.
 fn where_counted(e: f32, counted: f32, not: f32) -> f32
     ensures { λ r. ⌜ r ≡ cond (lt (ofBits binary32 0) e) counted not ⌝ }
 {
@@ -50,7 +52,7 @@ pub fn excess(hmap: &[f32], c: usize, m: usize, threshold: f32) -> f32
     (hmap[c] - hmap[m]) - threshold
 }
 
-// The excess of cell c toward cell m in direction d is counted if it is above 0.
+// Returns `s` with the excess of cell c toward cell m in direction d, which is counted if it is above 0.
 fn shed_at(ts: &[f32; 9], hmap: &[f32], c: usize, m: usize, d: usize, s: Shed) -> Shed
     requires { ⌜ c < length (now hmap) ⌝ }
     requires { ⌜ m < length (now hmap) ⌝ }
@@ -64,7 +66,7 @@ fn shed_at(ts: &[f32; 9], hmap: &[f32], c: usize, m: usize, d: usize, s: Shed) -
     }
 }
 
-// Cell m's gain, if the excess of cell c toward it is counted.
+// Adds cell m's gain to its height in `out`, if the excess of cell c toward it in direction d is counted.
 fn gain_at(
     ts: &[f32; 9],
     hmap: &[f32],
@@ -79,14 +81,16 @@ fn gain_at(
     requires { ⌜ c < length (now hmap) ⌝ }
     requires { ⌜ m < length (now hmap) ⌝ }
     requires { ⌜ d < 9 ⌝ }
-    ensures { λ _. ⌜ now (out .exit) ≡ gainTo (now (ts .entry)) (now (hmap .entry)) c m moved total d (now (out .entry)) ⌝ }
+    ensures { λ _. ⌜ now (out .exit)
+        ≡ gainTo (now (ts .entry)) (now (hmap .entry)) c m moved total d (now (out .entry)) ⌝ }
 {
     let e = excess(hmap, c, m, ts[d]);
     let old = out[m];
     out[m] = where_counted(e, old + moved * e / total, old);
 }
 
-// The neighbour dx columns and dy rows from cell c: that of an inner cell needs no test.
+// Returns the neighbour dx columns and dy rows from cell c, or w × h where that is outside the map, which is not tested
+// for an inner cell.
 fn cell_toward(size: Sides, x: usize, y: usize, c: usize, dx: i32, dy: i32, inner: bool) -> usize
     requires { ⌜ CellAt (size .w) (size .h) (size .w * size .h) x y c ⌝ }
     requires { ⌜ (inner ≡ true → Inner (size .w) (size .h) c) ⌝ }
@@ -99,7 +103,7 @@ fn cell_toward(size: Sides, x: usize, y: usize, c: usize, dx: i32, dy: i32, inne
     neighbour(size, x, y, dx, dy)
 }
 
-// Whether cell m is one of a map: a neighbour of an inner cell is, and needs no test.
+// Whether cell m is one of the `cells` cells of a map. A neighbour of an inner cell is one, and is not tested.
 fn in_map(m: usize, cells: usize, inner: bool) -> bool
     requires { ⌜ (inner ≡ true → m < cells) ⌝ }
     ensures { λ r. ⌜ r ≡ ltb m cells ⌝ }
@@ -110,7 +114,7 @@ fn in_map(m: usize, cells: usize, inner: bool) -> bool
     m < cells
 }
 
-// The excess toward m, in direction d, if m is a cell of the map: it is counted if it is above 0.
+// Returns `s` with the excess of cell c toward m in direction d, if m is a cell of the map and the excess is above 0.
 fn shed_toward(
     ts: &[f32; 9],
     hmap: &[f32],
@@ -123,7 +127,8 @@ fn shed_toward(
     requires { ⌜ c < length (now hmap) ⌝ }
     requires { ⌜ (inner ≡ true → m < length (now hmap)) ⌝ }
     requires { ⌜ d < 9 ⌝ }
-    ensures { λ r. ⌜ r ≡ cond (ltb m (length (now (hmap .entry)))) (shedTo (now (ts .entry)) (now (hmap .entry)) c m d s) s ⌝ }
+    ensures { λ r. ⌜ r
+        ≡ cond (ltb m (length (now (hmap .entry)))) (shedTo (now (ts .entry)) (now (hmap .entry)) c m d s) s ⌝ }
 {
     if in_map(m, hmap.len(), inner) {
         return shed_at(ts, hmap, c, m, d, s);
@@ -131,7 +136,8 @@ fn shed_toward(
     s
 }
 
-// The gain of m, in direction d, if m is a cell of the map.
+// Adds the gain of m, in direction d from cell c, to its height in `out`, if m is a cell of the map and the excess is
+// counted.
 fn gain_toward(
     ts: &[f32; 9],
     hmap: &[f32],
@@ -147,14 +153,15 @@ fn gain_toward(
     requires { ⌜ c < length (now hmap) ⌝ }
     requires { ⌜ (inner ≡ true → m < length (now hmap)) ⌝ }
     requires { ⌜ d < 9 ⌝ }
-    ensures { λ _. ⌜ now (out .exit) ≡ cond (ltb m (length (now (hmap .entry)))) (gainTo (now (ts .entry)) (now (hmap .entry)) c m moved total d (now (out .entry))) (now (out .entry)) ⌝ }
+    ensures { λ _. ⌜ now (out .exit) ≡ cond (ltb m (length (now (hmap .entry))))
+        (gainTo (now (ts .entry)) (now (hmap .entry)) c m moved total d (now (out .entry))) (now (out .entry)) ⌝ }
 {
     if in_map(m, hmap.len(), inner) {
         gain_at(ts, hmap, out, c, m, d, moved, total);
     }
 }
 
-// The total of the excesses of a cell over its eight directions, and the greatest of them. `inner` is a constant at
+// Returns the total and the greatest of a cell's counted excesses in its eight directions. `inner` is a constant at
 // each call, so that no test of it stays in the loop.
 pub fn shed_around(
     size: Sides,
@@ -182,7 +189,7 @@ pub fn shed_around(
     s
 }
 
-// What the counted neighbours of a cell gain.
+// Adds the gains of a cell's counted neighbours to their heights in `out`.
 pub fn gain_around(
     size: Sides,
     ts: &[f32; 9],
@@ -198,7 +205,8 @@ pub fn gain_around(
     requires { ⌜ CellAt (size .w) (size .h) (length (now hmap)) x y c ⌝ }
     requires { ⌜ length (now out) ≡ length (now hmap) ⌝ }
     requires { ⌜ (inner ≡ true → Inner (size .w) (size .h) c) ⌝ }
-    ensures { λ _. ⌜ now (out .exit) ≡ gainsOf (size .w) (size .h) (now (ts .entry)) (now (hmap .entry)) c moved total (now (out .entry)) ⌝ }
+    ensures { λ _. ⌜ now (out .exit)
+        ≡ gainsOf (size .w) (size .h) (now (ts .entry)) (now (hmap .entry)) c moved total (now (out .entry)) ⌝ }
 {
     let mut d: usize = 1;
     while d < 9 {
@@ -208,7 +216,8 @@ pub fn gain_around(
     }
 }
 
-// One cell, inner or not: below the water level, or with no excess, it sheds nothing.
+// Slides one cell, inner or not: it loses strength × its greatest excess, and its counted neighbours gain. Below the
+// water level, or with no excess, it sheds nothing.
 fn slide_cell(
     size: Sides,
     ts: &[f32; 9],
@@ -222,7 +231,8 @@ fn slide_cell(
 )
     requires { ⌜ CellAt (size .w) (size .h) (length (now hmap)) x y c ⌝ }
     requires { ⌜ length (now out) ≡ length (now hmap) ⌝ }
-    ensures { λ _. ⌜ now (out .exit) ≡ slideCell (size .w) (size .h) (now (ts .entry)) (now (hmap .entry)) strength water c (now (out .entry)) ⌝ }
+    ensures { λ _. ⌜ now (out .exit)
+        ≡ slideCell (size .w) (size .h) (now (ts .entry)) (now (hmap .entry)) strength water c (now (out .entry)) ⌝ }
 {
     if hmap[c] < water {
         return;
@@ -236,7 +246,7 @@ fn slide_cell(
     gain_around(size, ts, hmap, out, x, y, c, moved, s.total, false);
 }
 
-// The n cells of row y from column x on, from the west.
+// Slides the n cells of row y from column x on, from the west.
 pub fn slide_cells(
     size: Sides,
     ts: &[f32; 9],
@@ -250,7 +260,8 @@ pub fn slide_cells(
 )
     requires { ⌜ InRow (size .w) (size .h) (length (now hmap)) y x n ⌝ }
     requires { ⌜ length (now out) ≡ length (now hmap) ⌝ }
-    ensures { λ _. ⌜ now (out .exit) ≡ slideCells (size .w) (size .h) (now (ts .entry)) (now (hmap .entry)) strength water y x n (now (out .entry)) ⌝ }
+    ensures { λ _. ⌜ now (out .exit) ≡ slideCells (size .w) (size .h) (now (ts .entry)) (now (hmap .entry)) strength
+        water y x n (now (out .entry)) ⌝ }
 {
     let w = size.w;
     let mut i: usize = 0;

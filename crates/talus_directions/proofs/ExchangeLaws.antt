@@ -3,7 +3,7 @@ use Prim.Native.Nat.{ℕ, zero, suc, _<_}
 use mathlib.Core.Path.{_≡_, refl, sym, ap, _∙_}
 use native.Mathlib.Omega.{arith}
 use lib.Dec.{lit≤}
-use Rattle.lists.specs.Loops.{turns}
+use Rattle.loops.specs.Loops.{turns}
 
 module _ {S : Type 0} where
   -- a step before or after a loop

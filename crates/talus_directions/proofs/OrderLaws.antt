@@ -10,13 +10,13 @@ use lib.Dec.{lit≤}
 use lib.ListN.{getD, set}
 use lib.Seq.{getD-set-other, set-comm}
 use lib.Ieee.{Float, nan}
-use Rattle.lists.specs.Loops.{turns}
-use Rattle.lists.proofs.TurnLaws.{turns-same}
+use Rattle.loops.specs.Loops.{turns}
+use Rattle.loops.proofs.TurnLaws.{turns-same}
 use Rattle.grid.specs.Directions.{neighbourAt}
 use Rattle.grid.proofs.SidesLaws.{column-cell}
 use Rattle.grid.proofs.NeighbourLaws.{stepX, stepY, each-direction}
-use Rattle.inner_cells.specs.Inner.{Inner}
-use Rattle.inner_cells.proofs.InnerLaws.{ahead, inner-from}
+use Rattle.grid_inner.specs.Inner.{Inner}
+use Rattle.grid_inner.proofs.InnerLaws.{ahead, inner-from}
 use Rattle.talus.specs.Talus.{excessTo}
 use Rattle.talus_directions.specs.Parts.{InnerRow, lostFrom, gainedBy, changed, losses, gainsToward, slideBy, slideAll}
 use Rattle.talus_directions.proofs.PassLaws.{inner-column}

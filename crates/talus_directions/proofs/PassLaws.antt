@@ -6,7 +6,7 @@ use native.Mathlib.Omega.{arith}
 use lib.ListN.{getD, set}
 use lib.Ieee.{Float, nan}
 use Rattle.grid.specs.Directions.{neighbourAt}
-use Rattle.inner_cells.specs.Inner.{Inner}
+use Rattle.grid_inner.specs.Inner.{Inner}
 use Rattle.talus.specs.Talus.{excessTo}
 use Rattle.talus_directions.specs.Parts.{InnerRow, gainedBy, changed, gainOf}
 

@@ -1,2 +1,2 @@
--- What cells that shed change.
+-- What inner cells of a row lose, and what their neighbours gain.
 pub mod Parts

@@ -1,12 +1,12 @@
--- What inner cells of a row change in the map, by the total by which each sheds and its loss.
+-- The losses of inner cells of a row and the gains of their neighbours, by each cell's total of excesses and its loss.
 use Prim.Native.Nat.{ℕ, suc, _+_, _*_}
 use mathlib.Core.Bool.{cond}
 use mathlib.Core.List.{List}
 use lib.ListN.{getD, set}
 use lib.Ieee.{Float, nan, binary32, ofBits, add, sub, mul, div, lt, le}
-use Rattle.lists.specs.Loops.{turns}
+use Rattle.loops.specs.Loops.{turns}
 use Rattle.grid.specs.Directions.{neighbourAt}
-use Rattle.inner_cells.specs.Inner.{InnerRun}
+use Rattle.grid_inner.specs.Inner.{InnerRun}
 use Rattle.talus.specs.Talus.{excessTo}
 use Rattle.talus.specs.Places.{InRow}
 
@@ -15,7 +15,8 @@ pub record InnerRow (w h cells y x n : ℕ) : Type 0 where
   pub inner : InnerRun w h (x + y * w) n
   pub row : InRow w h cells y x n
 
--- a height after the loss of its cell, and after its gain by the excess e, if the cell sheds
+-- a height after the loss of its cell, if the cell sheds; then a height after its gain by the excess e of a cell, if
+-- that cell sheds and e is counted
 abbrev pub lostFrom : Float → Float → Float → Float
 lostFrom total moved old = cond (le total (ofBits binary32 0)) old (sub binary32 old moved)
 
@@ -23,7 +24,7 @@ abbrev pub gainedBy : Float → Float → Float → Float → Float
 gainedBy e total moved old =
     cond (le total (ofBits binary32 0)) old (cond (lt (ofBits binary32 0) e) (add binary32 old (div binary32 (mul binary32 moved e) total)) old)
 
--- the height m changed by f
+-- the heights, with f applied to that of cell m
 abbrev pub changed : (Float → Float) → ℕ → List Float → List Float
 changed f m out = set out m (f (getD out m nan))
 
@@ -36,7 +37,7 @@ module _ (w y x : ℕ) (totals moved : List Float) where
   unfolding turns
   losses n out = turns n lossOf out
 
--- the gains of their neighbours in direction d
+-- the gains of the neighbours in direction d of the first n cells from column x on, in row y
 module _ (w h : ℕ) (ts hs : List Float) (y x : ℕ) (totals moved : List Float) where
   abbrev pub gainOf : ℕ → ℕ → List Float → List Float
   gainOf d i =
@@ -48,11 +49,11 @@ module _ (w h : ℕ) (ts hs : List Float) (y x : ℕ) (totals moved : List Float
   unfolding turns
   gainsToward d n out = turns n (gainOf d) out
 
-  -- cell i by its total and its loss: the loss, then the gains in the order of the directions
+  -- cell i slid by its total and its loss: the loss, then the gains in the order of the directions
   abbrev pub slideBy : ℕ → List Float → List Float
   slideBy i out = turns 8 (λ k. gainOf (suc k) i) (lossOf w y x totals moved i out)
 
-  -- the first n cells
+  -- the first n cells slid, one after the other
   unfoldable pub slideAll : ℕ → List Float → List Float
   unfolding turns
   slideAll n out = turns n slideBy out

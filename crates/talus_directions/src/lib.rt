@@ -1,9 +1,9 @@
-// Where blocks of inner cells of a talus pass shed to: one direction after the other is done for all cells of a block, with no test and no branch.
-// A height still gets its losses and gains in the order of the cells.
+// Losses and gains of blocks of inner cells in a talus pass: one direction after the other is done for all cells of a
+// block, with no test and no branch. A height still gets its losses and gains in the order of the cells.
 use grid::DIRX;
 use grid::DIRY;
 use grid::Sides;
-use inner_cells::beside;
+use grid_inner::beside;
 use talus::excess;
 ghost use mathlib.Core.Path.{_≡_};
 ghost use Prim.Native.Nat.{_<_, _≤_};
@@ -11,7 +11,7 @@ ghost use lib.ListN.{length};
 ghost use Rattle.talus.specs.Places.{InRow};
 ghost use Rattle.talus_directions.specs.Parts.{InnerRow, lostFrom, gainedBy, losses, gainsToward, slideAll};
 
-// A height after the loss of its cell, if the cell sheds.
+// Returns the height `old` less `moved` if its cell sheds, else `old`.
 fn lost(total: f32, moved: f32, old: f32) -> f32
     ensures { λ r. ⌜ r ≡ lostFrom total moved old ⌝ }
 {
@@ -19,8 +19,8 @@ fn lost(total: f32, moved: f32, old: f32) -> f32
     if total <= 0.0 { old } else { new }
 }
 
-// A height after its gain, if the cell sheds and the excess e is counted. Worked out before the tests, so that no branch has to be foreseen; a gain
-// of 0 in place of the second test would turn -0 into 0.
+// Returns the height `old` with its gain if the cell sheds and the excess e is counted, else `old`. The sum is computed
+// before the tests: selects, not branches. Adding 0 in place of the second test would turn -0 into 0.
 fn gained(e: f32, total: f32, moved: f32, old: f32) -> f32
     ensures { λ r. ⌜ r ≡ gainedBy e total moved old ⌝ }
 {
@@ -31,7 +31,7 @@ fn gained(e: f32, total: f32, moved: f32, old: f32) -> f32
     if e > 0.0 { new } else { old }
 }
 
-// The losses of n inner cells of row y from column x on.
+// Takes the losses of n inner cells of row y, from column x on, off their heights in `out`.
 fn lose_block(
     size: Sides,
     out: &mut [f32],
@@ -43,7 +43,8 @@ fn lose_block(
 )
     requires { ⌜ InRow (size .w) (size .h) (length (now out)) y x n ⌝ }
     requires { ⌜ n ≤ 64 ⌝ }
-    ensures { λ _. ⌜ now (out .exit) ≡ losses (size .w) y x (now (totals .entry)) (now (moved .entry)) n (now (out .entry)) ⌝ }
+    ensures { λ _. ⌜ now (out .exit)
+        ≡ losses (size .w) y x (now (totals .entry)) (now (moved .entry)) n (now (out .entry)) ⌝ }
 {
     let w = size.w;
     let mut i: usize = 0;
@@ -54,7 +55,8 @@ fn lose_block(
     }
 }
 
-// The gains of the neighbours in direction d of n inner cells of row y from column x on.
+// Adds the gains of the neighbours in direction d of n inner cells of row y, from column x on, to their heights in
+// `out`.
 fn gain_block(
     size: Sides,
     ts: &[f32; 9],
@@ -72,7 +74,8 @@ fn gain_block(
     requires { ⌜ n ≤ 64 ⌝ }
     requires { ⌜ 1 ≤ d ⌝ }
     requires { ⌜ d < 9 ⌝ }
-    ensures { λ _. ⌜ now (out .exit) ≡ gainsToward (size .w) (size .h) (now (ts .entry)) (now (hmap .entry)) y x (now (totals .entry)) (now (moved .entry)) d n (now (out .entry)) ⌝ }
+    ensures { λ _. ⌜ now (out .exit) ≡ gainsToward (size .w) (size .h) (now (ts .entry)) (now (hmap .entry)) y x
+        (now (totals .entry)) (now (moved .entry)) d n (now (out .entry)) ⌝ }
 {
     let w = size.w;
     let t = ts[d];
@@ -88,8 +91,9 @@ fn gain_block(
     }
 }
 
-// n inner cells of row y from column x on, direction by direction: a height of the row above gets the gain from the cell south-west of it first, then
-// from the south and the south-east, in the order of the cells; so in the own row, with the loss between, and in the row below.
+// Slides n inner cells of row y from column x on, direction by direction. A height of the row above gets the gain from
+// the cell south-west of it first, then from the south and the south-east, in the order of the cells. The same holds in
+// the cells' own row, with the loss between, and in the row below.
 pub fn slide_directions(
     size: Sides,
     ts: &[f32; 9],
@@ -104,7 +108,8 @@ pub fn slide_directions(
     requires { ⌜ InnerRow (size .w) (size .h) (length (now hmap)) y x n ⌝ }
     requires { ⌜ length (now out) ≡ length (now hmap) ⌝ }
     requires { ⌜ n ≤ 64 ⌝ }
-    ensures { λ _. ⌜ now (out .exit) ≡ slideAll (size .w) (size .h) (now (ts .entry)) (now (hmap .entry)) y x (now (totals .entry)) (now (moved .entry)) n (now (out .entry)) ⌝ }
+    ensures { λ _. ⌜ now (out .exit) ≡ slideAll (size .w) (size .h) (now (ts .entry)) (now (hmap .entry)) y x
+        (now (totals .entry)) (now (moved .entry)) n (now (out .entry)) ⌝ }
 {
     gain_block(size, ts, hmap, out, y, x, n, 3, totals, moved);
     gain_block(size, ts, hmap, out, y, x, n, 2, totals, moved);

@@ -3,8 +3,8 @@ use Prim.Native.Nat.{ℕ, _+_, _-_, _*_, _≤_}
 use mathlib.Core.Path.{_≡_, subst}
 use native.Mathlib.Omega.{arith}
 use Rattle.talus.specs.Places.{InRow}
-use Rattle.inner_cells.specs.Inner.{InnerRun, innerOf}
-use Rattle.inner_cells.proofs.InnerLaws.{inner-most, row-inner, run-part}
+use Rattle.grid_inner.specs.Inner.{InnerRun, innerOf}
+use Rattle.grid_inner.proofs.InnerLaws.{inner-most, row-inner, run-part}
 use Rattle.talus_directions.specs.Parts.{InnerRow}
 
 module _ (w h y n : ℕ) (e : n ≡ innerOf w h y) where

@@ -4,9 +4,9 @@ use mathlib.Core.Path.{_≡_, refl, sym, ap, ap₂, _∙_}
 use mathlib.Core.List.{List}
 use native.Mathlib.Omega.{arith}
 use lib.Ieee.{Float}
-use Rattle.lists.specs.Loops.{turns}
-use Rattle.lists.proofs.TurnLaws.{turns-same}
-use Rattle.lists.proofs.LoopLaws.{at-end}
+use Rattle.loops.specs.Loops.{turns}
+use Rattle.loops.proofs.TurnLaws.{turns-same}
+use Rattle.loops.proofs.LoopLaws.{at-end}
 use Rattle.talus.specs.Talus.{slideCell, slideCells, slideRow}
 
 -- the whole row is the run of its w cells

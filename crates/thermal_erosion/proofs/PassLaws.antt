@@ -6,10 +6,10 @@ use mathlib.Core.List.{List}
 use native.Mathlib.Omega.{arith}
 use lib.ListN.{length}
 use lib.Ieee.{Float}
-use Rattle.lists.specs.Loops.{turns}
-use Rattle.lists.proofs.TestLaws.{either}
-use Rattle.lists.proofs.TurnLaws.{turns-none, turns-more, turns-stay, turns-keep}
-use Rattle.lists.proofs.LoopLaws.{at-end}
+use Rattle.loops.specs.Loops.{turns}
+use Rattle.loops.proofs.TestLaws.{either}
+use Rattle.loops.proofs.TurnLaws.{turns-none, turns-more, turns-stay, turns-keep}
+use Rattle.loops.proofs.LoopLaws.{at-end}
 use Rattle.float_order.specs.Fit.{Fit}
 use Rattle.generators.specs.Marks.{reportOf}
 use Rattle.generators.specs.declared.Progress.{Progress}

@@ -9,7 +9,7 @@ use lib.Dec.{eqb}
 use lib.ListN.{length}
 use lib.Ieee.{Float, binary32, ofBits, neg}
 use lib.Ieee.Scale.{finite}
-use Rattle.lists.proofs.TestLaws.{fourth}
+use Rattle.loops.proofs.TestLaws.{fourth}
 use Rattle.answers.specs.Outcome.{refusedAt, outsideOf}
 use Rattle.answers.specs.declared.Answer.{Answer}
 use Rattle.answers.specs.declared.Refusal.{Refusal}
@@ -18,7 +18,7 @@ use Rattle.grid.specs.Heights.{firstNotFinite, allFinite}
 use Rattle.grid.proofs.SidesLaws.{good-sides}
 use Rattle.generators.specs.declared.Progress.{Progress}
 use Rattle.grid.proofs.HeightsLaws.{all-finite, not-all-finite}
-use Rattle.thermal_erosion.specs.SlidePass.{Pass, passOf, Ready, badMarks, badPass, Passed, SlideMade}
+use Rattle.thermal_erosion.specs.SlidePass.{Pass, passOf, RowsReady, badMarks, badPass, Passed, SlideMade}
 use Rattle.thermal_erosion.specs.declared.ThermalParams.{ThermalParams}
 use Rattle.thermal_erosion.specs.declared.Slid.{Slid}
 
@@ -38,7 +38,7 @@ pub slide-ready : (w h map copy : ℕ) (p : ThermalParams) (from to : Float) (m 
     → map ≡ w * h
     → copy ≡ w * h
     → badPass p from to m ≡ false
-    → Ready w h map copy (m .asked)
+    → RowsReady w h map copy (m .asked)
 slide-ready w h map copy p from to m sides a b set =
     let r = good-sides w h sides in
     record { some = r .columns; wide = r .wide; high = r .high; heights = a; copied = b ∙ sym a; questions = omega (arith, asked-most p from to m set) }

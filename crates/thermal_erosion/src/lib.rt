@@ -1,4 +1,5 @@
-// The source's thermal_erosion.rs, one talus pass: a cell steeper than the threshold sheds a share of its excess to its lower neighbours.
+// The source's thermal_erosion.rs, one talus pass: a cell steeper than the threshold sheds a share of its excess to its
+// lower neighbours.
 use answers::Answer;
 use answers::Refusal;
 use answers::outside;
@@ -10,13 +11,14 @@ use grid::all_finite;
 use grid::bad_sides;
 use grid::copy_heights;
 use grid::first_not_finite;
-use spacing::square_distances;
+use grid_spacing::square_distances;
 use talus::thresholds;
 use talus_rows::slide_row;
 ghost use mathlib.Core.Path.{_≡_};
 ghost use Prim.Native.Nat.{_≤_};
 ghost use lib.ListN.{length};
-ghost use Rattle.thermal_erosion.specs.SlidePass.{fractionOf, Pass, passOf, rowsOf, Ready, badMarks, badPass, Passed, SlideMade};
+ghost use Rattle.thermal_erosion.specs.SlidePass.{fractionOf, Pass, passOf, rowsOf, RowsReady, badMarks, badPass};
+ghost use Rattle.thermal_erosion.specs.SlidePass.{Passed, SlideMade};
 
 // The settings of a pass on its grid.
 pub struct ThermalParams {
@@ -25,13 +27,13 @@ pub struct ThermalParams {
     pub water_level: f32,
 }
 
-// A pass hands the record of the stop marks back with its answer.
+// What a pass returns: its answer and the record of the stop marks.
 pub struct Slid {
     pub answer: Answer,
     pub progress: Progress,
 }
 
-// The fraction after row y.
+// Returns the fraction p of the question after row y.
 fn fraction(from: f32, to: f32, h: usize, y: usize) -> f32
     requires { ⌜ y ≤ 4096 ⌝ }
     requires { ⌜ h ≤ 4096 ⌝ }
@@ -40,7 +42,8 @@ fn fraction(from: f32, to: f32, h: usize, y: usize) -> f32
     from + (to - from) * y as f32 / h as f32
 }
 
-// One pass with its stop marks, from hmap to out: a question after each row, and an end where one stops. The thresholds are an argument.
+// One pass with its stop marks, from hmap to out, by the thresholds `ts`: a question after each row, and an end where
+// one stops it. Returns the record of the stop marks.
 pub fn slide_pass_into(
     size: Sides,
     ts: &[f32; 9],
@@ -53,8 +56,9 @@ pub fn slide_pass_into(
     m: Progress,
     stop: u32,
 ) -> Progress
-    requires { ⌜ Ready (size .w) (size .h) (length (now hmap)) (length (now out)) (m .asked) ⌝ }
-    ensures { λ r. ⌜ _≡_ {A = Pass} (record { out = now (out .exit); marks = r }) (rowsOf (size .w) (size .h) (now (ts .entry)) strength water (now (hmap .entry)) from to stop (size .h) m) ⌝ }
+    requires { ⌜ RowsReady (size .w) (size .h) (length (now hmap)) (length (now out)) (m .asked) ⌝ }
+    ensures { λ r. ⌜ _≡_ {A = Pass} (record { out = now (out .exit); marks = r })
+        (rowsOf (size .w) (size .h) (now (ts .entry)) strength water (now (hmap .entry)) from to stop (size .h) m) ⌝ }
 {
     copy_heights(hmap, out);
     let h = size.h;
@@ -71,7 +75,7 @@ pub fn slide_pass_into(
     marks
 }
 
-// Refusal 4 of what a pass reports: an end of p, the last p or the number of questions outside its range.
+// Refusal 4 of the stop marks: whether an end of p, the last p or the number of questions is outside its range.
 fn bad_marks(from: f32, to: f32, m: Progress) -> bool
     ensures { λ r. ⌜ r ≡ badMarks from to m ⌝ }
 {
@@ -81,7 +85,7 @@ fn bad_marks(from: f32, to: f32, m: Progress) -> bool
     bad_report(m, to)
 }
 
-// Refusal 4: a setting outside its range.
+// Refusal 4: whether a setting, or a value of the stop marks, is outside its range.
 fn bad_pass(params: ThermalParams, from: f32, to: f32, m: Progress) -> bool
     ensures { λ r. ⌜ r ≡ badPass params from to m ⌝ }
 {
@@ -118,8 +122,9 @@ fn slide_accepted(
     m: Progress,
     stop: u32,
 ) -> Slid
-    requires { ⌜ Ready (size .w) (size .h) (length (now hmap)) (length (now out)) (m .asked) ⌝ }
-    ensures { λ r. ⌜ Passed (passOf (size .w) (size .h) params (now (hmap .entry)) from to stop m) r (now (out .exit)) ⌝ }
+    requires { ⌜ RowsReady (size .w) (size .h) (length (now hmap)) (length (now out)) (m .asked) ⌝ }
+    ensures { λ r. ⌜ Passed (passOf (size .w) (size .h) params (now (hmap .entry)) from to stop m) r
+        (now (out .exit)) ⌝ }
 {
     let ts = thresholds(params.threshold, square_distances());
     let reached = slide_pass_into(
@@ -157,7 +162,8 @@ pub fn slide_pass(
     progress: Progress,
     stop: u32,
 ) -> Slid
-    ensures { λ r. ⌜ SlideMade (size .w) (size .h) (now (hmap .entry)) (now (out .entry)) params «progress_from» «progress_to» progress stop r (now (out .exit)) ⌝ }
+    ensures { λ r. ⌜ SlideMade (size .w) (size .h) (now (hmap .entry)) (now (out .entry)) params «progress_from»
+        «progress_to» progress stop r (now (out .exit)) ⌝ }
 {
     let from = progress_from;
     let to = progress_to;

@@ -14,21 +14,22 @@ use Rattle.grid.specs.declared.Sides.{Sides}
 use Rattle.resample.specs.WorkSize.{Within, workSize}
 use Rattle.thermal_erosion.specs.declared.ThermalParams.{ThermalParams}
 use Rattle.upsample.specs.Samples.{asSource}
-use Rattle.runs.specs.Plan.{thermalPasses, thermalParams}
-use Rattle.runs.specs.Run.{slideCourse, thermalCourse, runOn, thermalRun}
-use Rattle.runs.specs.Refusals.{badThermal}
-use Rattle.runs.specs.declared.ThermalSettings.{ThermalSettings}
-use Rattle.runs.proofs.PlanLaws.{Counted, thermal-passes}
-use Rattle.plans.specs.Accepted.{refusalOn, Accepted}
-use Rattle.plans.proofs.RefusalLaws.{accepted-by}
-use Rattle.plans.proofs.InputLaws.{within-range, within-cells, own-cells, decided-by, accepted-within, thermal-iterations}
-use Rattle.erosion.specs.Reached.{wholeRun}
-use Rattle.erosion.specs.Ending.{refusedTo, Answered}
-use Rattle.erosion.specs.declared.Reached.{Reached}
-use Rattle.erosion.specs.declared.RunAnswer.{RunAnswer}
-use Rattle.erosion.proofs.ReachedLaws.{worked}
-use Rattle.erosion.proofs.EndingLaws.{done-accepts, done-keeps, ending-refused, ending-ran}
-use Rattle.erosion.proofs.WholeLaws.{whole-run}
+use Rattle.run_machine.specs.Plan.{thermalPasses, thermalParams}
+use Rattle.run_machine.specs.Run.{slideCourse, thermalCourse, runOn, thermalRun}
+use Rattle.run_settings.specs.Refusals.{badThermal}
+use Rattle.run_settings.specs.declared.ThermalSettings.{ThermalSettings}
+use Rattle.run_machine.proofs.PlanLaws.{Counted, thermal-passes}
+use Rattle.run_settings.specs.Accepted.{refusalOn, AcceptedRun}
+use Rattle.run_settings.proofs.RefusalLaws.{accepted-by}
+use Rattle.run_plans.proofs.InputLaws.{within-range, within-cells, own-cells, accepted-within}
+use Rattle.run_settings.proofs.RefusalLaws.{decided-by, thermal-iterations}
+use Rattle.run_parts.specs.Reached.{wholeRun}
+use Rattle.run_parts.specs.Ending.{refusedTo, Answered}
+use Rattle.run_parts.specs.declared.Reached.{Reached}
+use Rattle.answers.specs.declared.RunAnswer.{RunAnswer}
+use Rattle.run_parts.proofs.ReachedLaws.{worked}
+use Rattle.run_parts.proofs.EndingLaws.{done-accepts, done-keeps, ending-refused, ending-ran}
+use Rattle.run_parts.proofs.WholeLaws.{whole-run}
 use Rattle.thermal_run.specs.ThermalRun.{inputRefusal, ThermalRun, Slides, Reduces, Erodes}
 
 module _ {w h dw dh : ℕ} {passes map small eroded copy : ℕ} where
@@ -72,7 +73,7 @@ module _ (w h : ℕ) (conf : ThermalSettings) (stop : ℕ) (map small eroded cop
   }
 
   module _ {early : Answer} (f : answerOf early ≡ outcome) (e : early ≡ Answer.Done) where
-    pub run-accepted : Accepted w h (badThermal conf) map (min (length small) (min (length eroded) (length copy)))
+    pub run-accepted : AcceptedRun w h (badThermal conf) map (min (length small) (min (length eroded) (length copy)))
     run-accepted = accepted-by w h (badThermal conf) map _ (done-accepts f e)
 
     module _ {work : Sides} (g : work ≡ workSize w h (conf .«work_res»)) where

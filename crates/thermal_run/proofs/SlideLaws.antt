@@ -5,19 +5,19 @@ use mathlib.Core.List.{List}
 use native.Mathlib.Omega.{arith}
 use lib.ListN.{length}
 use lib.Ieee.{Float, binary32, div}
-use Rattle.float_order.specs.Whole.{whole}
+use Rattle.floats.specs.Stand.{whole}
 use Rattle.thermal_erosion.specs.SlidePass.{rowsOf}
 use Rattle.thermal_erosion.specs.declared.ThermalParams.{ThermalParams}
-use Rattle.spacing.specs.Distances.{squareDistances}
+use Rattle.grid_spacing.specs.Distances.{squareDistances}
 use Rattle.talus.specs.Talus.{thresholdsOf}
-use Rattle.runs.specs.Machine.{Course}
-use Rattle.runs.specs.Run.{slideCourse}
-use Rattle.runs.specs.Nested.{iterated, nested, Bounded}
-use Rattle.runs.proofs.BoundLaws.{slide-bounded}
-use Rattle.erosion.specs.Reached.{Worked, seen, begun, afterPass, PassReady}
-use Rattle.erosion.specs.declared.Reached.{Reached}
-use Rattle.erosion.proofs.ReachedLaws.{worked, rowsBy}
-use Rattle.erosion.proofs.LoopLaws.{going-none, going-done, going-ended, Sliding, sliding-first, sliding-pass, sliding-done, sliding-ready}
+use Rattle.run_machine.specs.Machine.{Course}
+use Rattle.run_machine.specs.Run.{slideCourse}
+use Rattle.run_machine.specs.Nested.{iterated, nested, Bounded}
+use Rattle.run_machine.proofs.BoundLaws.{slide-bounded}
+use Rattle.run_parts.specs.Reached.{Worked, seen, begun, afterPass, PassReady}
+use Rattle.run_parts.specs.declared.Reached.{Reached}
+use Rattle.run_parts.proofs.ReachedLaws.{worked, rowsBy}
+use Rattle.run_parts.proofs.LoopLaws.{going-none, going-done, going-ended, Sliding, sliding-first, sliding-pass, sliding-done, sliding-ready}
 use Rattle.thermal_run.specs.ThermalRun.{Slides}
 
 -- before pass `it`, or once the run has ended

@@ -1,2 +1,2 @@
--- Document 01, 'Whole runs': what gen_thermal_erosion promises, and what its parts ask.
+-- Document 01, 'Whole runs': what gen_thermal_erosion promises, and what its parts require.
 pub mod ThermalRun

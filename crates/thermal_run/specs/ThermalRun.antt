@@ -1,32 +1,32 @@
--- What gen_thermal_erosion promises of its answer, the map and the scratch slices, and what its parts ask.
+-- What gen_thermal_erosion promises of its answer, the map and the scratch slices, and what its parts require.
 use Prim.Native.Nat.{ℕ, _*_, _≤_, min}
 use mathlib.Core.Path.{_≡_}
 use mathlib.Core.Bool.{false}
 use mathlib.Core.List.{List}
 use lib.ListN.{length}
 use lib.Ieee.{Float}
-use Rattle.answers.specs.Outcome.{Outcome}
+use Rattle.answers.specs.Outcome.{Outcome, given}
 use Rattle.grid.specs.Sides.{InRange}
 use Rattle.resample.specs.WorkSize.{Within}
-use Rattle.runs.specs.Run.{thermalRun}
-use Rattle.runs.specs.Refusals.{badThermal}
-use Rattle.runs.specs.declared.ThermalSettings.{ThermalSettings}
-use Rattle.plans.specs.Accepted.{refusalOn}
-use Rattle.erosion.specs.Ending.{endingOf, endedWith, accepted}
-use Rattle.erosion.specs.declared.RunAnswer.{RunAnswer}
+use Rattle.run_machine.specs.Run.{thermalRun}
+use Rattle.run_settings.specs.Refusals.{badThermal}
+use Rattle.run_settings.specs.declared.ThermalSettings.{ThermalSettings}
+use Rattle.run_settings.specs.Accepted.{refusalOn}
+use Rattle.run_parts.specs.Ending.{endingOf, endedWith}
+use Rattle.answers.specs.declared.RunAnswer.{RunAnswer}
 
--- what is refused of the input, where the shortest scratch slice counts
+-- the refusals of the input; of the scratch slices the shortest is tested
 abbrev pub inputRefusal : ℕ → ℕ → ThermalSettings → List Float → ℕ → ℕ → ℕ → Outcome (Unit {0})
 inputRefusal w h conf map small eroded copy = refusalOn w h (badThermal conf) map (min small (min eroded copy))
 
 -- The answer, the counts and the map are those of the run of document 01, or of the refusal; a refused input leaves scratch as it was.
 pub record ThermalRun (w h : ℕ) (conf : ThermalSettings) (stop : ℕ) (map small eroded copy : List Float) (r : RunAnswer) (map′ small′ eroded′ copy′ : List Float) : Type 0 where
   pub ended : endedWith r map′ ≡ endingOf (inputRefusal w h conf map (length small) (length eroded) (length copy)) map (thermalRun w h conf stop map)
-  pub small-kept : accepted (inputRefusal w h conf map (length small) (length eroded) (length copy)) ≡ false → small′ ≡ small
-  pub eroded-kept : accepted (inputRefusal w h conf map (length small) (length eroded) (length copy)) ≡ false → eroded′ ≡ eroded
-  pub copy-kept : accepted (inputRefusal w h conf map (length small) (length eroded) (length copy)) ≡ false → copy′ ≡ copy
+  pub small-kept : given (inputRefusal w h conf map (length small) (length eroded) (length copy)) ≡ false → small′ ≡ small
+  pub eroded-kept : given (inputRefusal w h conf map (length small) (length eroded) (length copy)) ≡ false → eroded′ ≡ eroded
+  pub copy-kept : given (inputRefusal w h conf map (length small) (length eroded) (length copy)) ≡ false → copy′ ≡ copy
 
--- what the passes ask of their grid, their number and the lengths of the map and its copy
+-- what the passes require of their grid, their number and the lengths of the map and its copy
 pub record Slides (w h passes map copy : ℕ) : Type 0 where
   pub sides : InRange w h
   pub some : 1 ≤ passes
@@ -34,7 +34,7 @@ pub record Slides (w h passes map copy : ℕ) : Type 0 where
   pub heights : map ≡ w * h
   pub copied : copy ≡ w * h
 
--- what a run on the reduced dw × dh grid asks
+-- what a run on the reduced dw × dh grid requires of its sides, the number of passes and the lengths of its slices
 pub record Reduces (w h dw dh passes map small eroded copy : ℕ) : Type 0 where
   pub sides : Within w h dw dh
   pub some : 1 ≤ passes
@@ -44,7 +44,8 @@ pub record Reduces (w h dw dh passes map small eroded copy : ℕ) : Type 0 where
   pub changed : eroded ≡ dw * dh
   pub copied : copy ≡ dw * dh
 
--- what a run on either grid asks
+-- what a run requires of its sides, the number of passes and the lengths of its slices, on the map or on a reduced dw ×
+-- dh grid
 pub record Erodes (w h dw dh passes map small eroded copy : ℕ) : Type 0 where
   pub sides : Within w h dw dh
   pub some : 1 ≤ passes

@@ -1,35 +1,36 @@
 // The source's gen_thermal_erosion: a whole thermal run, on the map or on a reduced grid whose change is added back.
 use answers::Answer;
-use erosion::Reached;
-use erosion::RunAnswer;
-use erosion::add_back;
-use erosion::answered;
-use erosion::begun;
-use erosion::ended;
-use erosion::on_map;
-use erosion::reduce;
-use erosion::refused;
-use erosion::run_pass;
+use answers::RUN_OFF;
+use answers::RunAnswer;
 use floats::ratio;
 use generators::fresh;
 use grid::Sides;
 use grid::least;
-use plans::bad_thermal;
-use plans::refusal;
-use plans::thermal_passes;
-use plans::thermal_plan;
+use grid_spacing::square_distances;
 use resample::work_sides;
-use runs::ThermalSettings;
-use spacing::square_distances;
+use run_parts::Reached;
+use run_parts::add_back;
+use run_parts::answered;
+use run_parts::begun;
+use run_parts::ended;
+use run_parts::on_map;
+use run_parts::reduce;
+use run_parts::refused;
+use run_parts::run_pass;
+use run_plans::thermal_passes;
+use run_plans::thermal_plan;
+use run_settings::ThermalSettings;
+use run_settings::bad_thermal;
+use run_settings::refusal;
 use talus::thresholds;
 use thermal_erosion::ThermalParams;
 ghost use mathlib.Core.Path.{_≡_};
 ghost use mathlib.Core.Bool.{false, _&&_};
 ghost use lib.Dec.{eqb};
 ghost use lib.ListN.{length};
-ghost use Rattle.runs.specs.Run.{slideCourse};
-ghost use Rattle.runs.specs.Nested.{nested};
-ghost use Rattle.erosion.specs.Reached.{Worked, seen, wholeRun};
+ghost use Rattle.run_machine.specs.Run.{slideCourse};
+ghost use Rattle.run_machine.specs.Nested.{nested};
+ghost use Rattle.run_parts.specs.Reached.{Worked, seen, wholeRun};
 ghost use Rattle.thermal_run.specs.ThermalRun.{Slides, Reduces, Erodes, ThermalRun};
 
 // Runs every pass on the working grid, until 21 or 22 ends the run.
@@ -42,7 +43,8 @@ fn slide_passes(
     copy: &mut [f32],
 ) -> Reached
     requires { ⌜ Slides (work .w) (work .h) passes (length (now hmap)) (length (now copy)) ⌝ }
-    ensures { λ r. ⌜ _≡_ {A = Worked} (record { heights = now (hmap .exit); reached = r }) (seen (nested (slideCourse (work .w) (work .h) params passes stop) (now (hmap .entry)))) ⌝ }
+    ensures { λ r. ⌜ _≡_ {A = Worked} (record { heights = now (hmap .exit); reached = r })
+        (seen (nested (slideCourse (work .w) (work .h) params passes stop) (now (hmap .entry)))) ⌝ }
 {
     let ts = thresholds(params.threshold, square_distances());
     let mut r = begun();
@@ -72,11 +74,13 @@ fn erode_reduced(
     copy: &mut [f32],
 ) -> Reached
     requires { ⌜ (eqb (work .w) (size .w) && eqb (work .h) (size .h)) ≡ false ⌝ }
-    requires { ⌜ Reduces (size .w) (size .h) (work .w) (work .h) passes (length (now hmap)) (length (now small)) (length (now eroded)) (length (now copy)) ⌝ }
-    ensures { λ r. ⌜ _≡_ {A = Worked} (record { heights = now (hmap .exit); reached = r }) (wholeRun (size .w) (size .h) (slideCourse (work .w) (work .h) params passes stop) (now (hmap .entry))) ⌝ }
+    requires { ⌜ Reduces (size .w) (size .h) (work .w) (work .h) passes (length (now hmap)) (length (now small))
+        (length (now eroded)) (length (now copy)) ⌝ }
+    ensures { λ r. ⌜ _≡_ {A = Worked} (record { heights = now (hmap .exit); reached = r })
+        (wholeRun (size .w) (size .h) (slideCourse (work .w) (work .h) params passes stop) (now (hmap .entry))) ⌝ }
 {
     if !reduce(size, hmap, work, small, eroded) {
-        return ended(22, fresh(), begun());
+        return ended(RUN_OFF, fresh(), begun());
     }
     let done = slide_passes(work, eroded, params, passes, stop, copy);
     if done.number != 0 {
@@ -97,8 +101,10 @@ fn erode(
     eroded: &mut [f32],
     copy: &mut [f32],
 ) -> Reached
-    requires { ⌜ Erodes (size .w) (size .h) (work .w) (work .h) passes (length (now hmap)) (length (now small)) (length (now eroded)) (length (now copy)) ⌝ }
-    ensures { λ r. ⌜ _≡_ {A = Worked} (record { heights = now (hmap .exit); reached = r }) (wholeRun (size .w) (size .h) (slideCourse (work .w) (work .h) params passes stop) (now (hmap .entry))) ⌝ }
+    requires { ⌜ Erodes (size .w) (size .h) (work .w) (work .h) passes (length (now hmap)) (length (now small))
+        (length (now eroded)) (length (now copy)) ⌝ }
+    ensures { λ r. ⌜ _≡_ {A = Worked} (record { heights = now (hmap .exit); reached = r })
+        (wholeRun (size .w) (size .h) (slideCourse (work .w) (work .h) params passes stop) (now (hmap .entry))) ⌝ }
 {
     let m = work.w * work.h;
     if on_map(work, size) {
@@ -127,7 +133,9 @@ pub fn gen_thermal_erosion(
     eroded: &mut [f32],
     copy: &mut [f32],
 ) -> RunAnswer
-    ensures { λ r. ⌜ ThermalRun (size .w) (size .h) conf stop (now (hmap .entry)) (now (small .entry)) (now (eroded .entry)) (now (copy .entry)) r (now (hmap .exit)) (now (small .exit)) (now (eroded .exit)) (now (copy .exit)) ⌝ }
+    ensures { λ r. ⌜ ThermalRun (size .w) (size .h) conf stop (now (hmap .entry)) (now (small .entry))
+        (now (eroded .entry)) (now (copy .entry)) r (now (hmap .exit)) (now (small .exit)) (now (eroded .exit))
+        (now (copy .exit)) ⌝ }
 {
     let scratch = least(small.len(), least(eroded.len(), copy.len()));
     let early = refusal(size, hmap, bad_thermal(conf), scratch);

@@ -12,7 +12,7 @@ use Rattle.answers.specs.declared.Refusal.{Refusal}
 use Rattle.grid.specs.Heights.{firstNotFinite, allFinite}
 use Rattle.resample.specs.WorkSize.{Within}
 use Rattle.resample.specs.Blocks.{mapRefusal}
-use Rattle.resample.proofs.RefusalLaws.{Accepted, map-refused, past-map}
+use Rattle.resample.proofs.RefusalLaws.{AcceptedMaps, map-refused, past-map}
 use Rattle.bilinear.specs.Places.{Grid}
 use Rattle.bilinear.specs.Samples.{asSource}
 use Rattle.upsample.specs.Samples.{addedOf, AddedFinite, Added}
@@ -30,7 +30,7 @@ module _ {map delta : List Float} {w h dw dh : ℕ} where
       → Added map w h delta dw dh a map
   add-refused a r e f = let p = map-refused map w h (length delta) dw dh a r e f in record { answer = p .0 _; heights = p .1 map _ }
 
-  module _ (s : Accepted map w h (length delta) dw dh) where
+  module _ (s : AcceptedMaps map w h (length delta) dw dh) where
     pub add-small : (c : ℕ) → c ≡ firstNotFinite delta → allFinite delta ≡ false → Added map w h delta dw dh (Answer.Refused (Refusal.Height c)) map
     add-small c f g = record { answer = past-map s refused refusedAt (rw (g, f)); heights = past-map s (λ n. map) (λ n c. map) (rw g) }
 

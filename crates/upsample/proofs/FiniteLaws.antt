@@ -6,10 +6,10 @@ use native.Mathlib.Nat.{add-comm}
 use native.Mathlib.Omega.{arith}
 use lib.Ieee.{Float, nan}
 use lib.Ieee.Scale.{finite}
-use Rattle.lists.specs.Loops.{tabulate}
-use Rattle.lists.proofs.TestLaws.{clash}
-use Rattle.lists.proofs.TableLaws.{length-tabulate, getD-tabulate}
-use Rattle.lists.proofs.FirstLaws.{first-end, rows-more, rows-end}
+use Rattle.loops.specs.Loops.{tabulate}
+use Rattle.loops.proofs.TestLaws.{clash}
+use Rattle.loops.proofs.TableLaws.{length-tabulate, getD-tabulate}
+use Rattle.loops.proofs.FirstLaws.{first-end, rows-more, rows-end}
 use Rattle.grid.specs.Heights.{allFinite}
 use Rattle.grid.proofs.SidesLaws.{row-end}
 use Rattle.grid.proofs.HeightsLaws.{below-all, all-at}

@@ -11,14 +11,14 @@ use lib.Ieee.{Float, nan, binary32, add}
 use lib.Ieee.Fits.{add-fits}
 use borrow.Rule.Slice.PartMut.{putMid}
 use Rattle.grid.specs.Heights.{allFinite}
-use Rattle.lists.specs.Loops.{tabulate}
-use Rattle.lists.proofs.TableLaws.{tabulate-same}
-use Rattle.lists.proofs.FillLaws.{Filling, filling-next}
+use Rattle.loops.specs.Loops.{tabulate}
+use Rattle.loops.proofs.TableLaws.{tabulate-same}
+use Rattle.loops.proofs.FillLaws.{Filling, filling-next}
 use Rattle.resample.proofs.FillLaws.{table-values}
-use Rattle.resample.proofs.RowFillLaws.{filling-drop, stored-row}
+use Rattle.loops.proofs.RowFillLaws.{filling-drop, stored-row}
 use Rattle.resample.specs.Blocks.{Values}
 use Rattle.bilinear.specs.Samples.{asSource, between, bilinearAt, bilinearOf}
-use Rattle.sample_rows.specs.Rows.{centreOf, columnOf, wayOf, Mixes}
+use Rattle.upsample_rows.specs.Rows.{centreOf, columnOf, wayOf, Mixes}
 use Rattle.upsample.specs.Samples.{summedRow, addedAt, addedOf}
 
 -- the sum at column x of a row

@@ -6,12 +6,12 @@ use mathlib.Core.List.{List}
 use lib.ListN.{length, take, drop}
 use lib.Ieee.{Float}
 use borrow.Rule.Slice.PartMut.{putMid, put-same}
-use Rattle.lists.specs.Loops.{tabulate}
-use Rattle.lists.proofs.TestLaws.{clash}
-use Rattle.lists.proofs.FillLaws.{Filling, filling-length, filling-start, filling-rows}
+use Rattle.loops.specs.Loops.{tabulate}
+use Rattle.loops.proofs.TestLaws.{clash}
+use Rattle.loops.proofs.FillLaws.{Filling, filling-length, filling-start, filling-rows}
 use Rattle.grid.specs.Heights.{allFinite}
 use Rattle.bilinear.specs.Samples.{asSource}
-use Rattle.sample_rows.specs.Rows.{columnOf, wayOf, Mixes}
+use Rattle.upsample_rows.specs.Rows.{columnOf, wayOf, Mixes}
 use Rattle.upsample.specs.Samples.{summedRow, Summed, addedAt, addedOf, AddedFinite}
 use Rattle.upsample.proofs.FiniteLaws.{Finites, finites-start, row-more, row-not, rows-all}
 use Rattle.upsample.proofs.RowLaws.{row-tested, rows-more}

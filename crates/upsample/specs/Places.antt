@@ -1,2 +1,2 @@
--- What the inner functions ask of their arguments.
+-- Preconditions of the inner functions.
 pub use Rattle.bilinear.specs.Places.{Grid}

@@ -1,4 +1,5 @@
-// The source's resample.rs, the way back from the reduced grid: the reduced grid, sampled bilinearly, added to the full one.
+// The source's resample.rs, the way back from the reduced grid: the reduced grid, sampled bilinearly, added to the full
+// one.
 use answers::Answer;
 use answers::Refusal;
 use bilinear::mixed;
@@ -6,10 +7,10 @@ use floats::is_finite;
 use grid::Sides;
 use grid::first_not_finite;
 use resample::map_refusal;
-use sample_rows::columns;
-use sample_rows::mix_rows;
-use sample_rows::prepare;
-use sample_rows::way;
+use upsample_rows::columns;
+use upsample_rows::mix_rows;
+use upsample_rows::prepare;
+use upsample_rows::way;
 ghost use mathlib.Core.Path.{_≡_};
 ghost use Prim.Native.Nat.{_≤_};
 ghost use lib.ListN.{length};
@@ -18,7 +19,8 @@ ghost use Rattle.bilinear.specs.Places.{Grid};
 ghost use Rattle.bilinear.specs.Samples.{asSource};
 ghost use Rattle.upsample.specs.Samples.{summedRow, Summed, addedOf, AddedFinite, Added};
 
-// Whether every height of a row stays finite with the samples added, dy of the way from north to south. No height is looked at apart, so that several are tested at a time.
+// Whether every height of a row stays finite with the samples added, dy of the way from north to south. The loop has no
+// branch, so that several heights are tested at a time.
 fn row_finite(row: &[f32], north: &[f32; 4096], south: &[f32; 4096], dy: f32) -> bool
     requires { ⌜ length (now row) ≤ 4096 ⌝ }
     ensures { λ r. ⌜ r ≡ allFinite (summedRow (now (row .entry)) (now (north .entry)) (now (south .entry)) dy) ⌝ }
@@ -47,10 +49,11 @@ fn add_row(row: &mut [f32], north: &[f32; 4096], south: &[f32; 4096], dy: f32)
     }
 }
 
-// One of the two for a row: adds the samples where `store` says so, and else tests the sums.
+// If `store`, adds the samples to a row and returns true; else returns whether every sum is finite.
 fn sum_row(row: &mut [f32], north: &[f32; 4096], south: &[f32; 4096], dy: f32, store: bool) -> bool
     requires { ⌜ length (now row) ≤ 4096 ⌝ }
-    ensures { λ r. ⌜ Summed store (summedRow (now (row .entry)) (now (north .entry)) (now (south .entry)) dy) (now (row .entry)) r (now (row .exit)) ⌝ }
+    ensures { λ r. ⌜ Summed store (summedRow (now (row .entry)) (now (north .entry)) (now (south .entry)) dy)
+        (now (row .entry)) r (now (row .exit)) ⌝ }
 {
     if store {
         add_row(row, north, south, dy);
@@ -59,11 +62,13 @@ fn sum_row(row: &mut [f32], north: &[f32; 4096], south: &[f32; 4096], dy: f32, s
     row_finite(row, north, south, dy)
 }
 
-// The same for every row of the map.
+// If `store`, adds the samples to every row of the map and returns true; else returns whether every sum is finite.
 fn sum_rows(map: &mut [f32], size: Sides, delta: &[f32], dsize: Sides, store: bool) -> bool
     requires { ⌜ Grid (size .w) (size .h) (length (now map)) ⌝ }
     requires { ⌜ Grid (dsize .w) (dsize .h) (length (now delta)) ⌝ }
-    ensures { λ r. ⌜ Summed store (addedOf asSource (now (map .entry)) (size .w) (size .h) (now (delta .entry)) (dsize .w) (dsize .h)) (now (map .entry)) r (now (map .exit)) ⌝ }
+    ensures { λ r. ⌜ Summed store
+        (addedOf asSource (now (map .entry)) (size .w) (size .h) (now (delta .entry)) (dsize .w) (dsize .h))
+        (now (map .entry)) r (now (map .exit)) ⌝ }
 {
     let w = size.w;
     let h = size.h;
@@ -98,11 +103,14 @@ fn sum_rows(map: &mut [f32], size: Sides, delta: &[f32], dsize: Sides, store: bo
     true
 }
 
-// Adds the samples to the map where every sum is finite, and says whether they are: every sum is tested before the first is stored.
+// Adds the samples to the map if every sum is finite, and returns whether it is. Every sum is tested before the first
+// is stored.
 pub fn add_finite(map: &mut [f32], size: Sides, delta: &[f32], dsize: Sides) -> bool
     requires { ⌜ Grid (size .w) (size .h) (length (now map)) ⌝ }
     requires { ⌜ Grid (dsize .w) (dsize .h) (length (now delta)) ⌝ }
-    ensures { λ r. ⌜ AddedFinite (addedOf asSource (now (map .entry)) (size .w) (size .h) (now (delta .entry)) (dsize .w) (dsize .h)) (now (map .entry)) r (now (map .exit)) ⌝ }
+    ensures { λ r. ⌜ AddedFinite
+        (addedOf asSource (now (map .entry)) (size .w) (size .h) (now (delta .entry)) (dsize .w) (dsize .h))
+        (now (map .entry)) r (now (map .exit)) ⌝ }
 {
     if !sum_rows(map, size, delta, dsize, false) {
         return false;
@@ -112,7 +120,8 @@ pub fn add_finite(map: &mut [f32], size: Sides, delta: &[f32], dsize: Sides) -> 
 
 // Adds delta, a reduced grid, to the map, bilinearly upsampled on cell centres. On a refusal the map is as it came.
 pub fn add_upsampled(map: &mut [f32], size: Sides, delta: &[f32], dsize: Sides) -> Answer
-    ensures { λ r. ⌜ Added (now (map .entry)) (size .w) (size .h) (now (delta .entry)) (dsize .w) (dsize .h) r (now (map .exit)) ⌝ }
+    ensures { λ r. ⌜ Added (now (map .entry)) (size .w) (size .h) (now (delta .entry)) (dsize .w) (dsize .h) r
+        (now (map .exit)) ⌝ }
 {
     let n = delta.len();
     let refusal = map_refusal(map, size, dsize, n);

@@ -1,7 +1,7 @@
 use Prim.Native.Nat.{_-_}
 use native.Mathlib.Omega.{arith}
 use lib.ListN.{length}
-use Rattle.lists.proofs.FillLaws.{Filling, filling-none, filling-length, filling-more, filling-done}
+use Rattle.loops.proofs.FillLaws.{Filling, filling-none, filling-length, filling-more, filling-done}
 use Rattle.resample.specs.Blocks.{averageOf}
 use Rattle.downsample.specs.Firsts.{averagesOf}
 use Rattle.downsample.proofs.average_row.Statement.{statement}

@@ -2,7 +2,7 @@ use mathlib.Core.Path.{sym, _∙_}
 use denote.Ref.{now}
 use lib.ListN.{length}
 use borrow.Author.Tests.{not-true, not-false}
-use Rattle.resample.proofs.RefusalLaws.{Accepted, map-good}
+use Rattle.resample.proofs.RefusalLaws.{AcceptedMaps, map-good}
 use Rattle.downsample.proofs.DownsampleLaws.{down-refused, down-run-off, down-done}
 use borrow.Author.Needs.{needs}
 use Rattle.downsample.proofs.downsample.Statement.{statement}
@@ -18,7 +18,7 @@ returns : tie.Need-returns
 returns c = down-refused _ (c .enum-told .given .0 .0) (c .before .before .map-refusal .ensures) (c .enum-told .given .1)
 
 -- past the refusals of the map
-accepted : (c : tie.After-enum-told2) → let a = c .before .before .before .before .before .args in Accepted (now (a .src)) (a .size .w) (a .size .h) (length (now (a .dst))) (a .dsize .w) (a .dsize .h)
+accepted : (c : tie.After-enum-told2) → let a = c .before .before .before .before .before .args in AcceptedMaps (now (a .src)) (a .size .w) (a .size .h) (length (now (a .dst))) (a .dsize .w) (a .dsize .h)
 accepted c = map-good _ _ _ _ _ _ _ (c .before .before .map-refusal .ensures) (c .enum-told2 .given .1)
 
 enum-told-2 : tie.Need-enum-told-2

@@ -2,7 +2,7 @@ use denote.Ref.{now}
 use Prim.Native.Nat.{_-_, _*_, _≤_}
 use native.Mathlib.Omega.{arith}
 use lib.ListN.{length-take, length-drop}
-use Rattle.lists.proofs.FillLaws.{Filling, filling-length, filling-start, filling-rows}
+use Rattle.loops.proofs.FillLaws.{Filling, filling-length, filling-start, filling-rows}
 use Rattle.resample.specs.Blocks.{downsampled}
 use Rattle.resample.proofs.FillLaws.{averageAt}
 use Rattle.downsample.proofs.FirstsLaws.{columns-in, rows-in, row-place, averages-more}

@@ -1,7 +1,7 @@
 use Prim.Native.Nat.{ℕ, _+_, _-_, _≤_}
 use native.Mathlib.Omega.{arith}
 use lib.ListN.{replicate, length-replicate}
-use Rattle.lists.proofs.FillLaws.{Filling, filling-none, filling-more}
+use Rattle.loops.proofs.FillLaws.{Filling, filling-none, filling-more}
 use Rattle.resample.specs.Blocks.{firstOf}
 use Rattle.downsample.proofs.FirstsLaws.{firsts-done}
 use Rattle.downsample.proofs.firsts.Statement.{statement}

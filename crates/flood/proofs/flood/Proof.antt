@@ -7,7 +7,7 @@ use Rattle.drainage.specs.Ground.{gridGround, noBase}
 use Rattle.drainage.specs.declared.Land.{Land}
 use Rattle.flood_start.specs.Slices.{Sizes, Started}
 use Rattle.flood_start.proofs.StartLaws.{started-fresh, started-spill}
-use Rattle.reaches.proofs.ReachLaws.{sizes-kept}
+use Rattle.flood_reach.proofs.ReachLaws.{sizes-kept}
 use Rattle.flood.proofs.RunLaws.{Running, running-none, running-more, running-done, some-waits, leaver, turn-less}
 use Rattle.flood.proofs.flood.Statement.{statement}
 use Rattle.flood.proofs.flood.Tie as tie
@@ -25,7 +25,7 @@ sort-cells-requires : tie.Need-sort-cells-requires Inv-loop μ-loop
 sort-cells-requires c κs = omega (arith, c .before .before .before .before .before .before .before .before .pre .1 .1 .0 .few, c .before .before .before .before .before .before .before .before .pre .1 .1 .0 .heights)
 
 start-requires : tie.Need-start-requires Inv-loop μ-loop
-start-requires c κs = let z = c .before .before .before .before .before .before .before .before .before .before .before .before .before .before .before .before .pre .1 .1 .0 in (z .few, (z .heights, (z .statuses, (z .spills, c .before .before .before .before .before .before .before .sort-cells .kept .1 .1 .0 ∙ z .finders))))
+start-requires c κs = let z = c .before .before .before .before .before .before .before .before .before .before .before .before .before .before .before .before .pre .1 .1 .0 in (z .few, (z .heights, (z .statuses, (z .spills, c .before .before .before .before .before .before .before .sort-cells .kept .1 .1 .0 ∙ z .discoverers))))
 
 begin-requires : tie.Need-begin-requires Inv-loop μ-loop
 begin-requires c κs = let z = c .before .before .before .before .before .before .before .before .before .before .before .before .before .before .before .before .before .before .before .before .before .before .before .before .before .before .before .pre .1 .1 .0 in (
@@ -97,7 +97,7 @@ same-length : tie.Need-same-length Inv-loop μ-loop
 same-length c = c .before .loop .inv .1 ∙ c .before .before .before .before .before .before .before .before .before .before .before .before .before .before .before .before .before .before .before .before .before .before .before .sort-cells .kept .1 .0
 
 same-length-2 : tie.Need-same-length-2 Inv-loop μ-loop
-same-length-2 c = c .before .loop .inv .3 .finders ∙ sym (c .before .before .before .before .before .before .before .before .before .before .before .before .before .before .before .before .before .before .before .before .before .before .before .before .before .before .before .before .before .before .before .before .pre .1 .1 .0 .finders)
+same-length-2 c = c .before .loop .inv .3 .discoverers ∙ sym (c .before .before .before .before .before .before .before .before .before .before .before .before .before .before .before .before .before .before .before .before .before .before .before .before .before .before .before .before .before .before .before .before .pre .1 .1 .0 .discoverers)
 
 same-length-3 : tie.Need-same-length-3 Inv-loop μ-loop
 same-length-3 c = c .before .loop .inv .3 .spills ∙ sym (c .before .before .before .before .before .before .before .before .before .before .before .before .before .before .before .before .before .before .before .before .before .before .before .before .before .before .before .before .before .before .before .before .pre .1 .1 .0 .spills)

@@ -4,7 +4,7 @@ use Prim.Native.Nat.{_-_, _*_, _≤_}
 use native.Mathlib.Omega.{arith}
 use mathlib.Core.Path.{_≡_, refl, _∙_}
 use lib.ListN.{length}
-use Rattle.lists.proofs.TableLaws.{filled}
+use Rattle.loops.proofs.TableLaws.{filled}
 use Rattle.flood_start.proofs.mark_base.Statement.{statement}
 use Rattle.flood_start.proofs.mark_base.Tie as tie
 

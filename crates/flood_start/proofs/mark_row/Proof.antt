@@ -7,8 +7,8 @@ use native.Mathlib.Omega.{arith}
 use mathlib.Core.Path.{_≡_, refl, sym}
 use lib.ListN.{length, length-set}
 use Rattle.grid.proofs.SidesLaws.{row-end, cell-lt}
-use Rattle.lists.proofs.TurnLaws.{turns-none}
-use Rattle.lists.proofs.LoopLaws.{at-end}
+use Rattle.loops.proofs.TurnLaws.{turns-none}
+use Rattle.loops.proofs.LoopLaws.{at-end}
 use Rattle.flood_start.proofs.mark_row.Statement.{statement}
 use Rattle.flood_start.proofs.mark_row.Tie as tie
 
@@ -30,14 +30,14 @@ loop-holds c = (omega arith, refl, sym (turns-none _ _))
 add-c : tie.Need-add-c Inv-loop μ-loop
 add-c c = omega (arith, inside c)
 
-mul-mark : tie.Need-mul-mark Inv-loop μ-loop
-mul-mark c = omega (arith, inside c)
+mul-start-status : tie.Need-mul-start-status Inv-loop μ-loop
+mul-start-status c = omega (arith, inside c)
 
-shared-slice-read-mark : tie.Need-shared-slice-read-mark Inv-loop μ-loop
-shared-slice-read-mark c = omega (arith, inside (c .before))
+shared-slice-read-start-status : tie.Need-shared-slice-read-start-status Inv-loop μ-loop
+shared-slice-read-start-status c = omega (arith, inside (c .before))
 
-mark-requires : tie.Need-mark-requires Inv-loop μ-loop
-mark-requires c κs = tt
+start-status-requires : tie.Need-start-status-requires Inv-loop μ-loop
+start-status-requires c κs = tt
 
 slice-write-status : tie.Need-slice-write-status Inv-loop μ-loop
 slice-write-status c = omega (arith, inside (c .before .before))
@@ -51,7 +51,7 @@ loop-less c = omega arith
 loop-again : tie.Need-loop-again Inv-loop μ-loop
 loop-again c =
     let a = c .before .before .before .before .before .before .args in
-    (omega arith, simp length-set (c .before .before .before .loop .inv .1), row-more (a .g .w) (markAt (a .g .w) (a .g .h) (a .h .now) (a .land)) (a .y) _ _ _ _ (c .before .before .before .loop .inv .2) (c .mark .ensures))
+    (omega arith, simp length-set (c .before .before .before .loop .inv .1), row-more (a .g .w) (markAt (a .g .w) (a .g .h) (a .h .now) (a .land)) (a .y) _ _ _ _ (c .before .before .before .loop .inv .2) (c .start-status .ensures))
 
 same-length : tie.Need-same-length Inv-loop μ-loop
 same-length c = c .before .loop .inv .1
@@ -70,9 +70,9 @@ mark-row-spec =
     mul-row
     loop-holds
     add-c
-    mul-mark
-    shared-slice-read-mark
-    mark-requires
+    mul-start-status
+    shared-slice-read-start-status
+    start-status-requires
     slice-write-status
     add-x
     loop-less

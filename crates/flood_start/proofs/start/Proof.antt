@@ -1,5 +1,5 @@
 use mathlib.Core.Path.{ap, _∙_}
-use Rattle.lists.specs.Loops.{tabulate}
+use Rattle.loops.specs.Loops.{tabulate}
 use Rattle.flood_start.proofs.StartLaws.{started}
 use borrow.Author.Needs.{needs}
 use Rattle.flood_start.proofs.start.Statement.{statement}

@@ -1,5 +1,5 @@
 use lib.Seq.{length-take-le}
-use Rattle.flow.proofs.NetLaws.{finders, downward, sizes-of, received-is, holding}
+use Rattle.flow.proofs.NetLaws.{discoverers, downward, sizes-of, received-is, holding}
 use native.Mathlib.Omega.{arith}
 use mathlib.Core.Path.{sym, _∙_}
 use borrow.Author.Needs.{needs}
@@ -19,7 +19,7 @@ steepest-receivers-requires : tie.Need-steepest-receivers-requires
 steepest-receivers-requires c κs =
     let k = c .before .before .before .before .before .before .before .before .before .before .before .before .flood .kept .1 .1 .1 .1 in
     let p = c .before .before .before .before .before .before .before .before .before .before .before .before .before .before .before .before .before .before .before .before .before .before .before .before .before .pre in
-    (p .0 .sides, (k .1 .0 ∙ p .1 .0 .spill, (k .0 ∙ p .1 .0 .receivers, finders _ _ _ (c .before .before .before .before .before .before .before .before .before .before .before .before .before .before .before .before .before .before .before .before .before .before .before .before .before .args .land) (p .0) (c .before .before .before .before .before .before .before .before .before .before .before .before .before .before .before .before .before .before .before .before .before .before .before .before .shared-slice-known .given) (p .1 .1) _ (c .before .before .before .before .before .before .before .before .before .before .before .before .flood .ensures .found))))
+    (p .0 .sides, (k .1 .0 ∙ p .1 .0 .spill, (k .0 ∙ p .1 .0 .receivers, discoverers _ _ _ (c .before .before .before .before .before .before .before .before .before .before .before .before .before .before .before .before .before .before .before .before .before .before .before .before .before .args .land) (p .0) (c .before .before .before .before .before .before .before .before .before .before .before .before .before .before .before .before .before .before .before .before .before .before .before .before .shared-slice-known .given) (p .1 .1) _ (c .before .before .before .before .before .before .before .before .before .before .before .before .flood .ensures .found))))
 
 areas-along-requires : tie.Need-areas-along-requires
 areas-along-requires c κs =

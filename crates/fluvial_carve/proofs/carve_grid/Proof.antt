@@ -1,5 +1,5 @@
 use mathlib.Core.Path.{_∙_}
-use Rattle.area_words.proofs.WordLaws.{whole-areas}
+use Rattle.areas.proofs.WordLaws.{whole-areas}
 use Rattle.fluvial_erosion.proofs.CellLaws.{few-cells}
 use Rattle.fluvial_carve.proofs.RoutedLaws.{routing-drains, routed-areas, carves}
 use borrow.Author.Needs.{needs}

@@ -3,7 +3,7 @@ use mathlib.Core.Path.{_≡_, refl, sym, ap, _∙_}
 use lib.ListN.{length}
 use Rattle.answers.specs.Outcome.{gives, answerOf}
 use Rattle.fluvial_erosion.specs.Along.{Drains}
-use Rattle.fluvial_erosion.proofs.RefusalLaws.{decided, Accepted, Sized, accepted, accepted-sizes, accepted-drains, made-refused, made-incised, answer-done, answer-off}
+use Rattle.fluvial_erosion.proofs.RefusalLaws.{decided, AcceptedIncision, Sized, accepted, accepted-sizes, accepted-drains, made-refused, made-incised, answer-done, answer-off}
 use lib.Seq.{length-take-le}
 use Rattle.grid.proofs.SidesLaws.{range-fit}
 use borrow.Author.Needs.{needs}
@@ -14,7 +14,7 @@ use Rattle.fluvial_erosion.proofs.incise.Tie as tie
 told : (c : tie.After-enum-told) → let a = c .before .before .before .before .before .before .before .before .args in gives tt ≡ decided (a .size .w) (a .size .h) (a .hmap .now) (a .params) (a .recv .now) (a .order .now) (length (a .out .now)) (length (a .area .now))
 told c = ap answerOf (sym (c .enum-told .given .1)) ∙ c .before .before .refusal .ensures
 
-accepts : (c : tie.After-enum-told) → let a = c .before .before .before .before .before .before .before .before .args in Accepted (a .size .w) (a .size .h) (a .hmap .now) (a .params) (a .recv .now) (a .order .now) (length (a .out .now)) (length (a .area .now))
+accepts : (c : tie.After-enum-told) → let a = c .before .before .before .before .before .before .before .before .args in AcceptedIncision (a .size .w) (a .size .h) (a .hmap .now) (a .params) (a .recv .now) (a .order .now) (length (a .out .now)) (length (a .area .now))
 accepts c = let a = c .before .before .before .before .before .before .before .before .args in accepted (a .size .w) (a .size .h) (a .hmap .now) (a .params) (a .recv .now) (a .order .now) (length (a .out .now)) (length (a .area .now)) (told c)
 
 sizes : (c : tie.After-enum-told) → let a = c .before .before .before .before .before .before .before .before .args in Sized (a .size .w * a .size .h) (length (a .hmap .now)) (length (a .recv .now)) (length (a .order .now)) (length (a .out .now)) (length (a .area .now))

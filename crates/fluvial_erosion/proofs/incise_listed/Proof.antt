@@ -3,10 +3,10 @@ use native.Mathlib.Omega.{arith}
 use mathlib.Core.Path.{sym, _∙_}
 use lib.ListN.{length, getD}
 use lib.Ieee.{nan}
-use Rattle.area_words.specs.Words.{areasIn}
-use Rattle.area_words.proofs.WordLaws.{worded-passing}
-use Rattle.cuts.specs.Cut.{cutDown}
-use Rattle.cuts.proofs.CutLaws.{settled-cell}
+use Rattle.areas.specs.Words.{areasIn}
+use Rattle.areas.proofs.WordLaws.{worded-passing}
+use Rattle.incision_cell.specs.Cut.{cutDown}
+use Rattle.incision_cell.proofs.CutLaws.{settled-cell}
 use Rattle.fluvial_erosion.proofs.CellLaws.{Incising, incising-none, incising-more, incising-done}
 use borrow.Author.Needs.{needs}
 use Rattle.fluvial_erosion.proofs.incise_listed.Statement.{statement}

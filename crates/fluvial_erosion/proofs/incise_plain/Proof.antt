@@ -1,7 +1,7 @@
 use Prim.Native.Nat.{_-_}
 use native.Mathlib.Omega.{arith}
 use lib.ListN.{length}
-use Rattle.cuts.specs.Cut.{cutDown}
+use Rattle.incision_cell.specs.Cut.{cutDown}
 use Rattle.fluvial_erosion.proofs.CellLaws.{Incising, cell-of, incising-none, incising-more, incising-done}
 use Rattle.fluvial_erosion.proofs.incise_plain.Statement.{statement}
 use Rattle.fluvial_erosion.proofs.incise_plain.Tie as tie

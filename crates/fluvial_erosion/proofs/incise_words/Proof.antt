@@ -1,6 +1,6 @@
 use mathlib.Core.Path.{refl, _∙_}
-use Rattle.area_words.specs.Words.{areasIn}
-use Rattle.area_words.proofs.WordLaws.{worded-words}
+use Rattle.areas.specs.Words.{areasIn}
+use Rattle.areas.proofs.WordLaws.{worded-words}
 use Rattle.fluvial_erosion.proofs.CellLaws.{network, along-done}
 use Rattle.fluvial_erosion.proofs.WaysLaws.{ways-of, ways-done}
 use borrow.Author.Needs.{needs}

@@ -1,8 +1,8 @@
 use mathlib.Core.Path.{refl, sym, _∙_}
 use borrow.Author.Tests.{not-true, not-false}
-use Rattle.erosion.proofs.WholeLaws.{whole-on-map, whole-averages, whole-ended, whole-added}
+use Rattle.run_parts.proofs.WholeLaws.{whole-on-map, whole-averages, whole-ended, whole-added}
 use Rattle.fluvial_loop.specs.Loops.{courseBy}
-use Rattle.erosion.proofs.GridLaws.{back-grids, halted-fresh}
+use Rattle.run_parts.proofs.GridLaws.{back-grids, halted-fresh}
 use Rattle.fluvial_grid.proofs.GridLaws.{erodes-enough, erodes-map, erodes-averages}
 use borrow.Author.Needs.{needs}
 use Rattle.fluvial_grid.proofs.erode.Statement.{statement}

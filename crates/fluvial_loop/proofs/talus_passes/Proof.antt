@@ -4,7 +4,7 @@ use native.Mathlib.Omega.{arith}
 use borrow.Author.Needs.{needs}
 use lib.ListN.{length}
 use Rattle.fluvial_loop.specs.Loops.{courseBy}
-use Rattle.erosion.proofs.ReachedLaws.{worked}
+use Rattle.run_parts.proofs.ReachedLaws.{worked}
 use Rattle.fluvial_loop.proofs.SlideLaws.{Slid, slides-places, slid-none, slid-ready, slid-more, slid-done, slid-ended}
 use Rattle.fluvial_loop.proofs.talus_passes.Statement.{statement}
 use Rattle.fluvial_loop.proofs.talus_passes.Tie as tie

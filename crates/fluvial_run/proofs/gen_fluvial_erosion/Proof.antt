@@ -5,8 +5,8 @@ use lib.Seq.{length-take-le}
 use Rattle.answers.specs.Outcome.{answerOf}
 use Rattle.grid.proofs.SidesLaws.{range-fit}
 use Rattle.resample.specs.WorkSize.{Within}
-use Rattle.plans.proofs.InputLaws.{within-range}
-use Rattle.erosion.proofs.WholeLaws.{whole-numbered}
+use Rattle.run_plans.proofs.InputLaws.{within-range}
+use Rattle.run_parts.proofs.WholeLaws.{whole-numbered}
 use Rattle.fluvial_grid.specs.Grids.{scratchOf}
 use Rattle.fluvial_run.specs.FluvialRun.{inputRefusal}
 use Rattle.fluvial_run.proofs.RunLaws.{Rooms, decided, run-refused, run-accepted, run-within, run-rooms, run-erodes, run-done}

@@ -1,13 +1,13 @@
 use mathlib.Core.Path.{sym, _∙_}
 use borrow.Author.Needs.{needs}
 use Rattle.grid.proofs.HeightsLaws.{all-finite}
-use Rattle.generators.proofs.NormalizeLaws.{Accepted, normalize-setting, normalize-height, normalize-runs-off, normalize-done}
+use Rattle.generators.proofs.NormalizeLaws.{NormalizeAccepted, normalize-setting, normalize-height, normalize-runs-off, normalize-done}
 use Rattle.generators.proofs.normalize.Statement.{statement}
 use Rattle.generators.proofs.normalize.Tie as tie
 
 -- what is known where the slope has been computed, for both ends that follow
 accepted : (c : tie.After-slope)
-    → let a = c .before .before .before .before .before .before .before .before .before .args in Accepted (a .v .now) (a .target-min) (a .target-max) (c .before .min-max .result) (c .slope .result)
+    → let a = c .before .before .before .before .before .before .before .before .before .args in NormalizeAccepted (a .v .now) (a .target-min) (a .target-max) (c .before .min-max .result) (c .slope .result)
 accepted c = record {
   targets = sym (c .before .before .before .before .before .before .before .bad-targets .ensures) ∙ c .before .before .before .before .before .before .if1 .left;
   finites = all-finite _ _ (c .before .before .before .before .first-not-finite .ensures) (c .before .before .before .if2 .left);

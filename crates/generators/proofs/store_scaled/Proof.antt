@@ -3,7 +3,7 @@ use borrow.Author.Needs.{needs}
 use lib.ListN.{length, getD}
 use Rattle.generators.specs.Extents.{scaledBy}
 use lib.Ieee.{nan}
-use Rattle.lists.proofs.FillLaws.{Filling, filling-none, filling-length, filling-more}
+use Rattle.loops.proofs.FillLaws.{Filling, filling-none, filling-length, filling-more}
 use Rattle.generators.proofs.ExtentsLaws.{stored-next, stored-done}
 use Rattle.generators.proofs.store_scaled.Statement.{statement}
 use Rattle.generators.proofs.store_scaled.Tie as tie

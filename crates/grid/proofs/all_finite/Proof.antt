@@ -3,7 +3,7 @@ use mathlib.Core.Path.{_≡_}
 use native.Mathlib.Omega.{arith}
 use lib.ListN.{length, getD}
 use lib.Ieee.{nan}
-use Rattle.lists.specs.Loops.{tabulate}
+use Rattle.loops.specs.Loops.{tabulate}
 use borrow.Author.Needs.{needs}
 use Rattle.grid.specs.Heights.{allFinite}
 use Rattle.grid.proofs.HeightsLaws.{all-none, all-more, all-done}

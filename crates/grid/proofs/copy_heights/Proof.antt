@@ -3,7 +3,7 @@ use native.Mathlib.Omega.{arith}
 use lib.ListN.{length, getD}
 use lib.Ieee.{nan}
 use mathlib.Core.Path.{refl}
-use Rattle.lists.proofs.FillLaws.{Filling, filling-none, filling-length, filling-more, copied}
+use Rattle.loops.proofs.FillLaws.{Filling, filling-none, filling-length, filling-more, copied}
 use Rattle.grid.proofs.copy_heights.Statement.{statement}
 use Rattle.grid.proofs.copy_heights.Tie as tie
 

@@ -1,7 +1,7 @@
 use mathlib.Core.Path.{sym, ap, _∙_}
 use lib.Ieee.{binary32, toBits}
 use Rattle.generators.specs.Extents.{extentOf}
-use Rattle.harness_calls.specs.Word.{wordOf, endBits}
+use Rattle.harness_calls.specs.Word.{exportWord, endBits}
 use Rattle.harness_calls.proofs.WordLaws.{word-of-refusal}
 use borrow.Author.Needs.{needs}
 use Rattle.harness_calls.proofs.extent_word.Statement.{statement}
@@ -28,7 +28,7 @@ refusal-word-requires c κs = search needs
 returns : tie.Need-returns
 returns c =
     c .to-bits .ensures ∙ ap (toBits binary32) (c .before .end-of .ensures)
-    ∙ ap (wordOf (endBits (c .before .before .before .before .before .args .greatest))) (ap extentOf (sym (c .before .before .before .e .given .1)))
+    ∙ ap (exportWord (endBits (c .before .before .before .before .before .args .greatest))) (ap extentOf (sym (c .before .before .before .e .given .1)))
 
 returns-2 : tie.Need-returns-2
 returns-2 c =

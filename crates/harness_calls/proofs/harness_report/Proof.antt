@@ -1,5 +1,5 @@
 use mathlib.Core.Path.{ap, _∙_}
-use Rattle.harness_calls.specs.Word.{wordOf}
+use Rattle.harness_calls.specs.Word.{exportWord}
 use Rattle.harness_calls.specs.Reporting.{goValue}
 use borrow.Author.Needs.{needs}
 use Rattle.harness_calls.proofs.harness_report.Statement.{statement}
@@ -14,7 +14,7 @@ go-word-requires c κs = search needs
 returns : tie.Need-returns
 returns c =
     record {
-      worded = c .go-word .ensures ∙ ap (wordOf goValue) (c .before .before .report .ensures .answer);
+      worded = c .go-word .ensures ∙ ap (exportWord goValue) (c .before .before .report .ensures .answer);
       handed = c .before .before .report .ensures .handed;
     }
 

@@ -1,7 +1,7 @@
 use mathlib.Core.Path.{sym, ap, _∙_}
 use lib.Ieee.{binary32, toBits}
 use Rattle.answers.specs.Outcome.{valueOf}
-use Rattle.harness_calls.specs.Word.{wordOf}
+use Rattle.harness_calls.specs.Word.{exportWord}
 use Rattle.harness_calls.proofs.WordLaws.{word-of-refusal}
 use borrow.Author.Needs.{needs}
 use Rattle.harness_calls.proofs.value_word.Statement.{statement}
@@ -24,7 +24,7 @@ refusal-word-requires c κs = search needs
 
 returns : tie.Need-returns
 returns c =
-    c .to-bits .ensures ∙ ap (wordOf (toBits binary32)) (ap valueOf (sym (c .before .before .v .given .1)))
+    c .to-bits .ensures ∙ ap (exportWord (toBits binary32)) (ap valueOf (sym (c .before .before .v .given .1)))
 
 returns-2 : tie.Need-returns-2
 returns-2 c =

@@ -4,7 +4,7 @@ use mathlib.Core.Bool.{true, _&&_}
 use lib.ListN.{length, getD}
 use lib.Dec.{ltb}
 use native.Mathlib.Omega.{arith}
-use Rattle.lists.proofs.LoopLaws.{Turning, turning-none, turning-more, turning-done}
+use Rattle.loops.proofs.LoopLaws.{Turning, turning-none, turning-more, turning-done}
 use Rattle.lent_list.specs.Entries.{everyCell}
 use Rattle.lent_list.proofs.every_cell.Statement.{statement}
 use Rattle.lent_list.proofs.every_cell.Tie as tie

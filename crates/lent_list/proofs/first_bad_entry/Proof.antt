@@ -1,4 +1,4 @@
-use Rattle.lent_list.proofs.StretchLaws.{scanned-all}
+use Rattle.lent_list.proofs.SegmentLaws.{scanned-all}
 use borrow.Author.Needs.{needs}
 use Rattle.lent_list.proofs.first_bad_entry.Statement.{statement}
 use Rattle.lent_list.proofs.first_bad_entry.Tie as tie

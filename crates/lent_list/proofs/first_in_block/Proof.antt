@@ -2,9 +2,9 @@ use Prim.Native.Nat.{ℕ, _-_}
 use mathlib.Core.Path.{_≡_, refl, sym, _∙_}
 use lib.ListN.{length, getD, length-replicate}
 use native.Mathlib.Omega.{arith}
-use Rattle.lists.proofs.TableLaws.{filled-read}
-use Rattle.list_blocks.specs.Blocks.{takenAt, receiversAt}
-use Rattle.list_blocks.proofs.ListedLaws.{block-cells}
+use Rattle.loops.proofs.TableLaws.{filled-read}
+use Rattle.lent_list_blocks.specs.Blocks.{takenAt, receiversAt}
+use Rattle.lent_list_blocks.proofs.ListedLaws.{block-cells}
 use Rattle.lent_list.proofs.BlockLaws.{Block, Taking, taking-none, taken-before, taken-inside, receiver-inside, taking-bad, taking-more, taking-done}
 use Rattle.lent_list.proofs.first_in_block.Statement.{statement}
 use Rattle.lent_list.proofs.first_in_block.Tie as tie
@@ -27,32 +27,32 @@ loop-holds c = (record { cells = c .before .before .before .before .before .befo
 taken-requires : tie.Need-taken-requires Inv-loop μ-loop
 taken-requires c κs = (λ e. omega (arith, c .loop-test .taken, c .before .before .before .before .before .before .before .before .before .pre .1 .0 .2 e), omega (arith, c .before .loop .inv .0 .listed .below (c .before .loop .i) (c .loop-test .taken), c .before .before .before .before .before .before .before .before .before .pre .1 .0 .1))
 
-mul-bad-in-stretch : tie.Need-mul-bad-in-stretch Inv-loop μ-loop
-mul-bad-in-stretch c = omega (arith, taken-before (c .before .before .before .loop .inv .0) (c .before .before .loop-test .taken) (c .before .taken .ensures), c .before .before .before .before .before .before .before .before .before .before .before .pre .1 .0 .1)
+mul-bad-in-segment : tie.Need-mul-bad-in-segment Inv-loop μ-loop
+mul-bad-in-segment c = omega (arith, taken-before (c .before .before .before .loop .inv .0) (c .before .before .loop-test .taken) (c .before .taken .ensures), c .before .before .before .before .before .before .before .before .before .before .before .pre .1 .0 .1)
 
-shared-slice-read-bad-in-stretch : tie.Need-shared-slice-read-bad-in-stretch Inv-loop μ-loop
-shared-slice-read-bad-in-stretch c = omega (arith, taken-before (c .before .before .before .before .loop .inv .0) (c .before .before .before .loop-test .taken) (c .before .before .taken .ensures), c .before .before .before .before .before .before .before .before .before .before .before .before .pre .1 .0 .1)
+shared-slice-read-bad-in-segment : tie.Need-shared-slice-read-bad-in-segment Inv-loop μ-loop
+shared-slice-read-bad-in-segment c = omega (arith, taken-before (c .before .before .before .before .loop .inv .0) (c .before .before .before .loop-test .taken) (c .before .before .taken .ensures), c .before .before .before .before .before .before .before .before .before .before .before .before .pre .1 .0 .1)
 
-cast-bad-in-stretch : tie.Need-cast-bad-in-stretch Inv-loop μ-loop
-cast-bad-in-stretch c = omega (arith, c .shared-slice-known4 .given (c .before .before .taken .result))
+cast-bad-in-segment : tie.Need-cast-bad-in-segment Inv-loop μ-loop
+cast-bad-in-segment c = omega (arith, c .shared-slice-known4 .given (c .before .before .taken .result))
 
-mul-bad-in-stretch-2 : tie.Need-mul-bad-in-stretch-2 Inv-loop μ-loop
-mul-bad-in-stretch-2 c = omega (arith, c .before .before .before .loop-test .taken, c .before .before .before .before .loop .inv .0 .listed .few, c .before .before .before .before .before .before .before .before .before .before .before .before .pre .1 .0 .0)
+mul-bad-in-segment-2 : tie.Need-mul-bad-in-segment-2 Inv-loop μ-loop
+mul-bad-in-segment-2 c = omega (arith, c .before .before .before .loop-test .taken, c .before .before .before .before .loop .inv .0 .listed .few, c .before .before .before .before .before .before .before .before .before .before .before .before .pre .1 .0 .0)
 
-array-read-bad-in-stretch : tie.Need-array-read-bad-in-stretch Inv-loop μ-loop
-array-read-bad-in-stretch c = omega (arith, c .before .before .before .loop-test .taken, c .before .before .before .before .loop .inv .0 .listed .few, c .before .before .before .before .before .before .before .before .before .before .before .before .pre .1 .0 .0, c .before .before .before .before .before .before .receivers-of .kept .1 .1 .1 .1 .0)
+array-read-bad-in-segment : tie.Need-array-read-bad-in-segment Inv-loop μ-loop
+array-read-bad-in-segment c = omega (arith, c .before .before .before .loop-test .taken, c .before .before .before .before .loop .inv .0 .listed .few, c .before .before .before .before .before .before .before .before .before .before .before .before .pre .1 .0 .0, c .before .before .before .before .before .before .receivers-of .kept .1 .1 .1 .1 .0)
 
-cast-bad-in-stretch-2 : tie.Need-cast-bad-in-stretch-2 Inv-loop μ-loop
-cast-bad-in-stretch-2 c = omega (arith, c .before .before .before .before .loop .inv .0 .receivers (c .before .before .before .before .loop .i) (c .before .before .before .loop-test .taken), c .before .before .before .before .before .before .before .before .before .before .shared-slice-known .given (getD (c .before .before .before .before .before .before .before .before .before .before .before .before .args .list .now) (takenAt (c .before .before .before .before .before .before .before .before .before .before .before .before .args .whole) (c .before .before .before .before .before .before .before .before .before .before .before .before .args .places .now) (c .before .before .before .before .before .before .before .before .before .before .before .before .args .from) (c .before .before .before .before .loop .i)) 0))
+cast-bad-in-segment-2 : tie.Need-cast-bad-in-segment-2 Inv-loop μ-loop
+cast-bad-in-segment-2 c = omega (arith, c .before .before .before .before .loop .inv .0 .receivers (c .before .before .before .before .loop .i) (c .before .before .before .loop-test .taken), c .before .before .before .before .before .before .before .before .before .before .shared-slice-known .given (getD (c .before .before .before .before .before .before .before .before .before .before .before .before .args .list .now) (takenAt (c .before .before .before .before .before .before .before .before .before .before .before .before .args .whole) (c .before .before .before .before .before .before .before .before .before .before .before .before .args .places .now) (c .before .before .before .before .before .before .before .before .before .before .before .before .args .from) (c .before .before .before .before .loop .i)) 0))
 
-bad-in-stretch-requires : tie.Need-bad-in-stretch-requires Inv-loop μ-loop
-bad-in-stretch-requires c κs = (c .before .before .before .before .loop .inv .1 .0 .room, (taken-inside (c .before .before .before .before .loop .inv .0) (c .before .before .before .loop-test .taken) (c .before .before .taken .ensures), λ e. receiver-inside (c .before .before .before .before .loop .inv .0) (c .before .before .before .loop-test .taken) (c .before .before .taken .ensures) (c .before .before .before .before .before .before .before .before .before .before .before .before .pre .0 .1 e)))
+bad-in-segment-requires : tie.Need-bad-in-segment-requires Inv-loop μ-loop
+bad-in-segment-requires c κs = (c .before .before .before .before .loop .inv .1 .0 .room, (taken-inside (c .before .before .before .before .loop .inv .0) (c .before .before .before .loop-test .taken) (c .before .before .taken .ensures), λ e. receiver-inside (c .before .before .before .before .loop .inv .0) (c .before .before .before .loop-test .taken) (c .before .before .taken .ensures) (c .before .before .before .before .before .before .before .before .before .before .before .before .pre .0 .1 e)))
 
 same-length : tie.Need-same-length Inv-loop μ-loop
-same-length c = c .before .before .before .bad-in-stretch .kept .0 ∙ c .before .before .before .before .before .before .before .before .loop .inv .1 .1
+same-length c = c .before .before .before .bad-in-segment .kept .0 ∙ c .before .before .before .before .before .before .before .before .loop .inv .1 .1
 
 returns : tie.Need-returns Inv-loop μ-loop
-returns c = taking-bad (c .before .before .before .before .before .before .before .before .loop .inv .0) (c .before .before .before .before .before .before .before .loop-test .taken) (c .before .before .before .before .before .before .taken .ensures) (c .before .before .before .before .before .before .before .before .loop .inv .1 .0) (c .before .before .before .bad-in-stretch .ensures .1) (c .before .before .before .bad-in-stretch .ensures .0) (c .if1 .taken)
+returns c = taking-bad (c .before .before .before .before .before .before .before .before .loop .inv .0) (c .before .before .before .before .before .before .before .loop-test .taken) (c .before .before .before .before .before .before .taken .ensures) (c .before .before .before .before .before .before .before .before .loop .inv .1 .0) (c .before .before .before .bad-in-segment .ensures .1) (c .before .before .before .bad-in-segment .ensures .0) (c .if1 .taken)
 
 add-i : tie.Need-add-i Inv-loop μ-loop
 add-i c = omega (arith, c .before .before .before .before .before .before .before .loop-test .taken, c .before .before .before .before .before .before .before .before .before .before .before .before .before .before .before .before .fits .k)
@@ -61,7 +61,7 @@ loop-less : tie.Need-loop-less Inv-loop μ-loop
 loop-less c = omega (arith, c .before .before .before .before .before .before .before .loop-test .taken)
 
 loop-again : tie.Need-loop-again Inv-loop μ-loop
-loop-again c = (c .before .before .before .before .before .before .before .before .loop .inv .0, (taking-more (c .before .before .before .before .before .before .before .before .loop .inv .0) (c .before .before .before .before .before .before .before .loop-test .taken) (c .before .before .before .before .before .before .taken .ensures) (c .before .before .before .before .before .before .before .before .loop .inv .1 .0) (c .before .before .before .bad-in-stretch .ensures .1) (c .before .before .before .bad-in-stretch .ensures .0) (c .before .before .before .bad-in-stretch .kept .0) (c .if1 .left), c .before .before .before .bad-in-stretch .kept .0 ∙ c .before .before .before .before .before .before .before .before .loop .inv .1 .1))
+loop-again c = (c .before .before .before .before .before .before .before .before .loop .inv .0, (taking-more (c .before .before .before .before .before .before .before .before .loop .inv .0) (c .before .before .before .before .before .before .before .loop-test .taken) (c .before .before .before .before .before .before .taken .ensures) (c .before .before .before .before .before .before .before .before .loop .inv .1 .0) (c .before .before .before .bad-in-segment .ensures .1) (c .before .before .before .bad-in-segment .ensures .0) (c .before .before .before .bad-in-segment .kept .0) (c .if1 .left), c .before .before .before .bad-in-segment .kept .0 ∙ c .before .before .before .before .before .before .before .before .loop .inv .1 .1))
 
 same-length-2 : tie.Need-same-length-2 Inv-loop μ-loop
 same-length-2 c = c .before .loop .inv .1 .1
@@ -79,13 +79,13 @@ first-in-block-spec =
     receivers-of-requires
     loop-holds
     taken-requires
-    mul-bad-in-stretch
-    shared-slice-read-bad-in-stretch
-    cast-bad-in-stretch
-    mul-bad-in-stretch-2
-    array-read-bad-in-stretch
-    cast-bad-in-stretch-2
-    bad-in-stretch-requires
+    mul-bad-in-segment
+    shared-slice-read-bad-in-segment
+    cast-bad-in-segment
+    mul-bad-in-segment-2
+    array-read-bad-in-segment
+    cast-bad-in-segment-2
+    bad-in-segment-requires
     same-length
     returns
     add-i

@@ -3,10 +3,10 @@ use mathlib.Core.Path.{_≡_, refl, _∙_}
 use lib.ListN.{length, getD, length-set}
 use native.Mathlib.Omega.{arith}
 use borrow.Author.Tests.{eq-eqb, ne-eqb}
-use Rattle.list_marks.specs.Seen.{isSet}
+use Rattle.lent_list_marks.specs.Seen.{isSet}
 use Rattle.lent_list.specs.Walks.{Walk}
-use Rattle.lent_list.proofs.StretchLaws.{walk-none, walk-outside, walk-done, whole-twice, whole-early, whole-more}
-use Rattle.list_marks.proofs.SeenLaws.{bytes-none, put-byte}
+use Rattle.lent_list.proofs.SegmentLaws.{walk-none, walk-outside, walk-done, whole-twice, whole-early, whole-more}
+use Rattle.lent_list_marks.proofs.SeenLaws.{bytes-none, put-byte}
 use Rattle.lent_list.proofs.first_in_bytes.Statement.{statement}
 use Rattle.lent_list.proofs.first_in_bytes.Tie as tie
 

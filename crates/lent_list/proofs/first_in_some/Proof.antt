@@ -3,7 +3,7 @@ use mathlib.Core.Path.{sym}
 use mathlib.Core.Bool.{true≢false}
 use lib.ListN.{length}
 use native.Mathlib.Omega.{arith}
-use Rattle.list_marks.specs.Seen.{span}
+use Rattle.lent_list_marks.specs.Seen.{span}
 use Rattle.lent_list.proofs.BlockLaws.{whole-receivers, whole-listed}
 use borrow.Author.Needs.{needs}
 use Rattle.lent_list.proofs.first_in_some.Statement.{statement}

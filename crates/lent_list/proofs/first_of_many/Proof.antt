@@ -1,7 +1,7 @@
 use mathlib.Core.Path.{sym}
 use Prim.Native.Nat.{ℕ}
 use lib.ListN.{length-replicate}
-use Rattle.list_marks.proofs.SeenLaws.{blank-at}
+use Rattle.lent_list_marks.proofs.SeenLaws.{blank-at}
 use Rattle.lent_list.proofs.first_of_many.Statement.{statement}
 use Rattle.lent_list.proofs.first_of_many.Tie as tie
 

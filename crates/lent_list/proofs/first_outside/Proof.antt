@@ -1,5 +1,5 @@
 use mathlib.Core.Path.{sym, _∙_}
-use Rattle.lent_list.proofs.StretchLaws.{every-first}
+use Rattle.lent_list.proofs.SegmentLaws.{every-first}
 use borrow.Author.Needs.{needs}
 use Rattle.lent_list.proofs.first_outside.Statement.{statement}
 use Rattle.lent_list.proofs.first_outside.Tie as tie

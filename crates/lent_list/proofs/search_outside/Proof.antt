@@ -6,7 +6,7 @@ use lib.Dec.{ltb}
 use native.Mathlib.Omega.{arith}
 use borrow.Author.Count.{below-more}
 use borrow.Author.Tests.{lt-ltb, le-ltb}
-use Rattle.lists.proofs.FirstLaws.{first-stop, first-end}
+use Rattle.loops.proofs.FirstLaws.{first-stop, first-end}
 use Rattle.lent_list.proofs.search_outside.Statement.{statement}
 use Rattle.lent_list.proofs.search_outside.Tie as tie
 

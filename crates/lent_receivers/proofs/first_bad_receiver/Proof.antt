@@ -4,7 +4,7 @@ use mathlib.Core.Bool.{true}
 use native.Mathlib.Omega.{arith}
 use Rattle.grid.proofs.SidesLaws.{cell-lt, cells-bound, cells-fit}
 use Rattle.lent_receivers.specs.Receivers.{receiverTest}
-use Rattle.lists.proofs.FirstLaws.{first-is, rows-more, rows-stop, rows-end}
+use Rattle.loops.proofs.FirstLaws.{first-is, rows-more, rows-stop, rows-end}
 use Rattle.lent_receivers.proofs.first_bad_receiver.Statement.{statement}
 use Rattle.lent_receivers.proofs.first_bad_receiver.Tie as tie
 

@@ -7,7 +7,7 @@ use borrow.Author.Tests.{not-true, not-false}
 use Rattle.grid.specs.Sides.{cellOf}
 use Rattle.grid.proofs.SidesLaws.{cell-lt, cells-bound}
 use Rattle.lent_receivers.specs.Receivers.{receiverTest}
-use Rattle.lists.proofs.FirstLaws.{first-stop, first-end}
+use Rattle.loops.proofs.FirstLaws.{first-stop, first-end}
 use Rattle.lent_receivers.proofs.RowLaws.{row-good}
 use Rattle.lent_receivers.proofs.first_in_row.Statement.{statement}
 use Rattle.lent_receivers.proofs.first_in_row.Tie as tie

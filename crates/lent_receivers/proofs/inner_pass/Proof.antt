@@ -1,7 +1,7 @@
 use Prim.Native.Nat.{_-_}
 use native.Mathlib.Omega.{arith}
 use mathlib.Core.Bool.{true}
-use Rattle.lists.proofs.LoopLaws.{Turning, turning-none, turning-more, turning-done}
+use Rattle.loops.proofs.LoopLaws.{Turning, turning-none, turning-more, turning-done}
 use Rattle.lent_receivers.specs.Receivers.{innerPass}
 use Rattle.lent_receivers.proofs.RowLaws.{InnerAt, inner-at, passing, passing-is}
 use Rattle.lent_receivers.proofs.inner_pass.Statement.{statement}
@@ -35,32 +35,32 @@ cast-above c = omega (arith, first c)
 loop-holds : tie.Need-loop-holds Inv-loop μ-loop
 loop-holds c = turning-none
 
-add-beside : tie.Need-add-beside Inv-loop μ-loop
-add-beside c = omega (arith, here c)
+add-is-near : tie.Need-add-is-near Inv-loop μ-loop
+add-is-near c = omega (arith, here c)
 
-mul-beside : tie.Need-mul-beside Inv-loop μ-loop
-mul-beside c = omega (arith, here c)
+mul-is-near : tie.Need-mul-is-near Inv-loop μ-loop
+mul-is-near c = omega (arith, here c)
 
-add-beside-2 : tie.Need-add-beside-2 Inv-loop μ-loop
-add-beside-2 c = omega (arith, here c)
+add-is-near-2 : tie.Need-add-is-near-2 Inv-loop μ-loop
+add-is-near-2 c = omega (arith, here c)
 
-mul-beside-2 : tie.Need-mul-beside-2 Inv-loop μ-loop
-mul-beside-2 c = omega (arith, here c)
+mul-is-near-2 : tie.Need-mul-is-near-2 Inv-loop μ-loop
+mul-is-near-2 c = omega (arith, here c)
 
-shared-slice-read-beside : tie.Need-shared-slice-read-beside Inv-loop μ-loop
-shared-slice-read-beside c = omega (arith, here (c .before), c .before .before .before .before .pre .1 .0)
+shared-slice-read-is-near : tie.Need-shared-slice-read-is-near Inv-loop μ-loop
+shared-slice-read-is-near c = omega (arith, here (c .before), c .before .before .before .before .pre .1 .0)
 
-cast-beside : tie.Need-cast-beside Inv-loop μ-loop
-cast-beside c = omega (arith, here (c .before))
+cast-is-near : tie.Need-cast-is-near Inv-loop μ-loop
+cast-is-near c = omega (arith, here (c .before))
 
-add-beside-3 : tie.Need-add-beside-3 Inv-loop μ-loop
-add-beside-3 c = omega (arith, here (c .before))
+add-is-near-3 : tie.Need-add-is-near-3 Inv-loop μ-loop
+add-is-near-3 c = omega (arith, here (c .before))
 
-cast-beside-2 : tie.Need-cast-beside-2 Inv-loop μ-loop
-cast-beside-2 c = omega (arith, here (c .before))
+cast-is-near-2 : tie.Need-cast-is-near-2 Inv-loop μ-loop
+cast-is-near-2 c = omega (arith, here (c .before))
 
-beside-requires : tie.Need-beside-requires Inv-loop μ-loop
-beside-requires c κs = omega (arith, here (c .before))
+is-near-requires : tie.Need-is-near-requires Inv-loop μ-loop
+is-near-requires c κs = omega (arith, here (c .before))
 
 add-i : tie.Need-add-i Inv-loop μ-loop
 add-i c = omega (arith, here (c .before .before))
@@ -69,7 +69,7 @@ loop-less : tie.Need-loop-less Inv-loop μ-loop
 loop-less c = omega (arith, c .before .before .loop-test .taken)
 
 loop-again : tie.Need-loop-again Inv-loop μ-loop
-loop-again c = turning-more (c .before .before .before .loop .inv) (c .before .before .loop-test .taken) (passing-is _ (c .before .before .before .before .before .args .recv .now) _ (c .before .before .before .loop .good) (here (c .before .before)) (c .beside .ensures))
+loop-again c = turning-more (c .before .before .before .loop .inv) (c .before .before .loop-test .taken) (passing-is _ (c .before .before .before .before .before .args .recv .now) _ (c .before .before .before .loop .good) (here (c .before .before)) (c .is-near .ensures))
 
 returns : tie.Need-returns Inv-loop μ-loop
 unfolding innerPass
@@ -86,15 +86,15 @@ inner-pass-spec =
     sub-above
     cast-above
     loop-holds
-    add-beside
-    mul-beside
-    add-beside-2
-    mul-beside-2
-    shared-slice-read-beside
-    cast-beside
-    add-beside-3
-    cast-beside-2
-    beside-requires
+    add-is-near
+    mul-is-near
+    add-is-near-2
+    mul-is-near-2
+    shared-slice-read-is-near
+    cast-is-near
+    add-is-near-3
+    cast-is-near-2
+    is-near-requires
     add-i
     loop-less
     loop-again

@@ -1,7 +1,7 @@
 use Prim.Native.Nat.{_+_, _-_, _≤_, _<_}
 use native.Mathlib.Omega.{arith}
-use Rattle.lists.proofs.FillLaws.{Filling, filling-none, filling-more, stored}
-use Rattle.inner_cells.specs.Inner.{Inner}
+use Rattle.loops.proofs.FillLaws.{Filling, filling-none, filling-more, stored}
+use Rattle.grid_inner.specs.Inner.{Inner}
 use Rattle.receiver_blocks.specs.Runs.{steepestAt}
 use Rattle.receiver_blocks.proofs.OffsetLaws.{inner-inside, inner-few}
 use Rattle.receiver_blocks.proofs.BlockLaws.{steepest-next}

@@ -2,13 +2,13 @@ use Prim.Native.Nat.{_+_, _-_}
 use native.Mathlib.Omega.{arith}
 use mathlib.Core.Path.{_≡_, ap}
 use mathlib.Core.Logic.{inr}
-use Rattle.lists.proofs.LoopLaws.{Turning, turning-none, turning-more, turning-done}
+use Rattle.loops.proofs.LoopLaws.{Turning, turning-none, turning-more, turning-done}
 use Rattle.grid.specs.Directions.{neighbourAt}
 use Rattle.grid.proofs.NeighbourLaws.{entry-step, entry-neighbour}
-use Rattle.inner_cells.proofs.InnerLaws.{inner-below}
-use Rattle.network.specs.declared.Best.{Best}
+use Rattle.grid_inner.proofs.InnerLaws.{inner-below}
+use Rattle.receiver.specs.declared.Best.{Best}
 use Rattle.receiver_blocks.specs.Runs.{steepestFrom}
-use Rattle.receiver_blocks.proofs.OffsetLaws.{inner-inside, inner-few, inner-adjacent, finder-back, finder-ahead, against, against-is}
+use Rattle.receiver_blocks.proofs.OffsetLaws.{inner-inside, inner-few, inner-adjacent, discoverer-back, discoverer-ahead, against, against-is}
 use Rattle.receiver_blocks.proofs.steepest_inside.Statement.{statement}
 use Rattle.receiver_blocks.proofs.steepest_inside.Tie as tie
 
@@ -53,7 +53,7 @@ offset-requires : tie.Need-offset-requires Inv-loop μ-loop
 offset-requires c κs =
     let a = c .before .before .before .before .before .before .pre .0 in
     let n = inr (inner-adjacent a (c .before .before .before .before .loop .d) (c .before .before .before .loop-test .taken) _ (near c)) in
-    (a .wide, (finder-back a n, (finder-ahead a n, omega (arith, inner-inside a, inner-few a))))
+    (a .wide, (discoverer-back a n, (discoverer-ahead a n, omega (arith, inner-inside a, inner-few a))))
 
 compare-requires : tie.Need-compare-requires Inv-loop μ-loop
 compare-requires c κs =

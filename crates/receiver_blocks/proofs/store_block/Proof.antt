@@ -1,7 +1,7 @@
 use Prim.Native.Nat.{_+_, _-_, _^_, _≤_, _<_}
 use native.Mathlib.Omega.{arith}
 use lib.ListN.{length}
-use Rattle.inner_cells.specs.Inner.{Inner}
+use Rattle.grid_inner.specs.Inner.{Inner}
 use Rattle.receiver_blocks.specs.Runs.{Stored}
 use Rattle.receiver_blocks.proofs.OffsetLaws.{inner-inside, inner-few}
 use Rattle.receiver_blocks.proofs.BlockLaws.{stored-none, stored-more, stored-done}

@@ -3,7 +3,7 @@ use native.Mathlib.Omega.{arith}
 use Rattle.grid.proofs.SidesLaws.{cell-lt, cells-bound}
 use Rattle.receiver_blocks.specs.Runs.{RunReceived}
 use Rattle.receiver_blocks.proofs.RunLaws.{run-none, run-more, run-end}
-use Rattle.receiver_rows.proofs.FinderLaws.{near-at, near-other}
+use Rattle.receiver_rows.proofs.DiscovererLaws.{near-at, near-other}
 use Rattle.receiver_rows.proofs.receive_cells.Statement.{statement}
 use Rattle.receiver_rows.proofs.receive_cells.Tie as tie
 

@@ -2,10 +2,10 @@ use Prim.Native.Nat.{_+_, _-_, _^_, _≤_}
 use lib.Dec.{lit<}
 use mathlib.Core.Path.{refl, _∙_}
 use native.Mathlib.Omega.{arith}
-use Rattle.inner_cells.proofs.InnerLaws.{run-part}
+use Rattle.grid_inner.proofs.InnerLaws.{run-part}
 use Rattle.receiver_blocks.specs.Runs.{RunReceived}
 use Rattle.receiver_blocks.proofs.RunLaws.{run-none, run-end, run-join}
-use Rattle.receiver_rows.proofs.FinderLaws.{near-after}
+use Rattle.receiver_rows.proofs.DiscovererLaws.{near-after}
 use Rattle.receiver_rows.proofs.RowLaws.{run-few}
 use Rattle.receiver_rows.proofs.receive_inner_cells.Statement.{statement}
 use Rattle.receiver_rows.proofs.receive_inner_cells.Tie as tie

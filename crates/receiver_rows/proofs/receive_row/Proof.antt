@@ -1,8 +1,8 @@
 use mathlib.Core.Path.{_∙_}
 use native.Mathlib.Omega.{arith}
 use Rattle.grid.proofs.SidesLaws.{row-few}
-use Rattle.inner_cells.proofs.InnerLaws.{inner-most, row-inner}
-use Rattle.receiver_rows.proofs.FinderLaws.{near-part, near-after}
+use Rattle.grid_inner.proofs.InnerLaws.{inner-most, row-inner}
+use Rattle.receiver_rows.proofs.DiscovererLaws.{near-part, near-after}
 use Rattle.receiver_rows.proofs.RowLaws.{row-two, row-whole}
 use borrow.Author.Needs.{needs}
 use Rattle.receiver_rows.proofs.receive_row.Statement.{statement}

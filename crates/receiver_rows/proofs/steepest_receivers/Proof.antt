@@ -5,7 +5,7 @@ use borrow.Author.Needs.{needs}
 use Rattle.grid.proofs.SidesLaws.{row-end}
 use Rattle.receiver_blocks.specs.Runs.{RunReceived}
 use Rattle.receiver_blocks.proofs.RunLaws.{run-none, run-end, run-join}
-use Rattle.receiver_rows.proofs.FinderLaws.{run-all, near-all, near-after}
+use Rattle.receiver_rows.proofs.DiscovererLaws.{run-all, near-all, near-after}
 use Rattle.receiver_rows.proofs.RowLaws.{rows-end}
 use Rattle.receiver_rows.proofs.steepest_receivers.Statement.{statement}
 use Rattle.receiver_rows.proofs.steepest_receivers.Tie as tie

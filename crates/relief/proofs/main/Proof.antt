@@ -6,8 +6,8 @@ use borrow.Author.Needs.{needs}
 use Rattle.relief.proofs.main.Statement.{statement}
 use Rattle.relief.proofs.main.Tie as tie
 
-input-room-requires : tie.Need-input-room-requires
-input-room-requires c κs = search needs
+input-buffer-requires : tie.Need-input-buffer-requires
+input-buffer-requires c κs = search needs
 
 slice-aggregate-read-full : tie.Need-slice-aggregate-read-full
 slice-aggregate-read-full c = search needs
@@ -18,8 +18,8 @@ read-full-requires c κs = search needs
 drain-requires : tie.Need-drain-requires
 drain-requires c κs = search needs
 
-output-room-requires : tie.Need-output-room-requires
-output-room-requires c κs = search needs
+output-buffer-requires : tie.Need-output-buffer-requires
+output-buffer-requires c κs = search needs
 
 array-share-prefix-input : tie.Need-array-share-prefix-input
 array-share-prefix-input c = search needs
@@ -37,10 +37,10 @@ enum-known-written : tie.Need-enum-known-written
 enum-known-written c = search needs
 
 array-share-prefix-out : tie.Need-array-share-prefix-out
-array-share-prefix-out c = omega (arith, relief-inside _ (c .before .before .before .before .before .before .before .output-room .result) (c .before .written .given .0 .0) (c .before .before .before .before .relief .ensures) (c .before .written .given .1), c .before .before .before .before .relief .kept .1 .0)
+array-share-prefix-out c = omega (arith, relief-inside _ (c .before .before .before .before .before .before .before .output-buffer .result) (c .before .written .given .0 .0) (c .before .before .before .before .relief .ensures) (c .before .written .given .1), c .before .before .before .before .relief .kept .1 .0)
 
 slice-aggregate-write-all : tie.Need-slice-aggregate-write-all
-slice-aggregate-write-all c = sym (length-take-le _ (c .before .before .before .before .before .relief .last .1 .0) (omega (arith, relief-inside _ (c .before .before .before .before .before .before .before .before .output-room .result) (c .before .before .written .given .0 .0) (c .before .before .before .before .before .relief .ensures) (c .before .before .written .given .1), c .before .before .before .before .before .relief .kept .1 .0)))
+slice-aggregate-write-all c = sym (length-take-le _ (c .before .before .before .before .before .relief .last .1 .0) (omega (arith, relief-inside _ (c .before .before .before .before .before .before .before .before .output-buffer .result) (c .before .before .written .given .0 .0) (c .before .before .before .before .before .relief .ensures) (c .before .before .written .given .1), c .before .before .before .before .before .relief .kept .1 .0)))
 
 write-all-requires : tie.Need-write-all-requires
 write-all-requires c κs = search needs
@@ -58,11 +58,11 @@ pub main-spec : {M : Type 1} → statement M
 main-spec =
     tie.close
     (tie.spec
-    input-room-requires
+    input-buffer-requires
     slice-aggregate-read-full
     read-full-requires
     drain-requires
-    output-room-requires
+    output-buffer-requires
     array-share-prefix-input
     slice-aggregate-relief
     slice-aggregate-relief-2

@@ -1,4 +1,4 @@
-use Rattle.stream.proofs.ReaderLaws.{read-grid, read-room, read-sides, read-range, read-cells, read-rest, read-whole, read-framed, read-values}
+use Rattle.stream.proofs.ReaderLaws.{read-grid, read-buffer, read-sides, read-range, read-cells, read-rest, read-whole, read-framed, read-values}
 use borrow.Author.Needs.{needs}
 use Rattle.stream.proofs.read_stream.Statement.{statement}
 use Rattle.stream.proofs.read_stream.Tie as tie
@@ -10,7 +10,7 @@ returns : tie.Need-returns
 returns c = read-grid (c .before .before .before .args .limited) (c .before .before .before .args .bytes .now) (c .before .bad-grid .ensures) (c .if1 .taken)
 
 sides-requires : tie.Need-sides-requires
-sides-requires c κs = read-room (c .before .before .before .args .limited) (c .before .before .before .args .bytes .now) (c .before .bad-grid .ensures) (c .if1 .left)
+sides-requires c κs = read-buffer (c .before .before .before .args .limited) (c .before .before .before .args .bytes .now) (c .before .bad-grid .ensures) (c .if1 .left)
 
 bad-sides-requires : tie.Need-bad-sides-requires
 bad-sides-requires c κs = search needs

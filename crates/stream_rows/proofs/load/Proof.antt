@@ -1,7 +1,7 @@
 use Prim.Native.Nat.{_-_, _*_, _≤_}
 use native.Mathlib.Omega.{arith}
 use lib.ListN.{length-take, length-drop}
-use Rattle.lists.proofs.FillLaws.{Filling, filling-length, filling-start, filling-rows}
+use Rattle.loops.proofs.FillLaws.{Filling, filling-length, filling-start, filling-rows}
 use Rattle.stream_rows.specs.Rows.{cellAt, heightsAt}
 use Rattle.stream_rows.proofs.CellLaws.{row-inside, rows-more}
 use Rattle.stream_rows.proofs.load.Statement.{statement}

@@ -1,7 +1,7 @@
 use Prim.Native.Nat.{_-_}
 use native.Mathlib.Omega.{arith}
 use lib.ListN.{length}
-use Rattle.lists.proofs.FillLaws.{Filling, filling-none, filling-length, filling-more, filling-done}
+use Rattle.loops.proofs.FillLaws.{Filling, filling-none, filling-length, filling-more, filling-done}
 use Rattle.stream_rows.specs.Rows.{heightAt, rowHeights}
 use Rattle.stream_rows.proofs.read_row.Statement.{statement}
 use Rattle.stream_rows.proofs.read_row.Tie as tie

@@ -3,8 +3,8 @@ use mathlib.Core.Path.{_≡_, ap, _∙_}
 use native.Mathlib.Omega.{arith}
 use borrow.Author.Needs.{needs}
 use lib.Ieee.Scale.{finite}
-use Rattle.lists.specs.Loops.{tabulate}
-use Rattle.lists.proofs.LoopLaws.{at-end}
+use Rattle.loops.specs.Loops.{tabulate}
+use Rattle.loops.proofs.LoopLaws.{at-end}
 use Rattle.grid.specs.Heights.{allFinite}
 use Rattle.grid.proofs.HeightsLaws.{all-none, all-more}
 use Rattle.stream_rows.specs.Rows.{heightAt, rowHeights}

@@ -1,6 +1,6 @@
 use Rattle.stream_run.proofs.AskedLaws.{loaded-accepted}
 use Rattle.stream_run.specs.StreamRun.{askedRun}
-use Rattle.erosion.specs.Ending.{ranTo}
+use Rattle.run_parts.specs.Ending.{ranTo}
 use lib.Ieee.{Float}
 use mathlib.Core.List.{List}
 use mathlib.Core.Path.{ap, _∙_}

@@ -5,7 +5,7 @@ use borrow.Author.Needs.{needs}
 use lib.ListN.{length, length-set}
 use Rattle.grid.specs.Directions.{neighbourAt}
 use Rattle.grid.proofs.NeighbourLaws.{entry-step, entry-neighbour}
-use Rattle.inner_cells.proofs.InnerLaws.{inner-below}
+use Rattle.grid_inner.proofs.InnerLaws.{inner-below}
 use Rattle.talus.proofs.RowLaws.{row-cell-below, Passing, passing-none, passing-more, passing-done}
 use Rattle.talus_directions.specs.Parts.{gainOf, gainsToward}
 use Rattle.talus_directions.proofs.PassLaws.{gain-more, inner-column}

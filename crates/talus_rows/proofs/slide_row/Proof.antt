@@ -1,6 +1,6 @@
 use mathlib.Core.Path.{_∙_}
 use native.Mathlib.Omega.{arith}
-use Rattle.inner_cells.proofs.InnerLaws.{inner-most}
+use Rattle.grid_inner.proofs.InnerLaws.{inner-most}
 use Rattle.talus_rows.proofs.PartLaws.{inner-row, inner-rest}
 use Rattle.talus_rows.proofs.RowLaws.{row-parts}
 use borrow.Author.Needs.{needs}

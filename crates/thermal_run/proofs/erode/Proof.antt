@@ -1,8 +1,8 @@
 use mathlib.Core.Path.{sym, _∙_}
 use lib.Seq.{length-take-le}
 use Rattle.grid.proofs.SidesLaws.{range-fit}
-use Rattle.plans.proofs.InputLaws.{within-range}
-use Rattle.erosion.proofs.WholeLaws.{whole-on-map}
+use Rattle.run_plans.proofs.InputLaws.{within-range}
+use Rattle.run_parts.proofs.WholeLaws.{whole-on-map}
 use Rattle.thermal_run.proofs.RunLaws.{small-room, eroded-room, copy-room, erodes-slides, erodes-reduces}
 use borrow.Author.Needs.{needs}
 use Rattle.thermal_run.proofs.erode.Statement.{statement}

@@ -1,8 +1,8 @@
 use mathlib.Core.Path.{_∙_}
 use borrow.Author.Tests.{not-true, not-false}
-use Rattle.runs.specs.Run.{slideCourse}
-use Rattle.erosion.proofs.WholeLaws.{whole-averages, whole-ended, whole-added}
-use Rattle.erosion.proofs.GridLaws.{back-grids, halted-fresh}
+use Rattle.run_machine.specs.Run.{slideCourse}
+use Rattle.run_parts.proofs.WholeLaws.{whole-averages, whole-ended, whole-added}
+use Rattle.run_parts.proofs.GridLaws.{back-grids, halted-fresh}
 use borrow.Author.Needs.{needs}
 use Rattle.thermal_run.proofs.erode_reduced.Statement.{statement}
 use Rattle.thermal_run.proofs.erode_reduced.Tie as tie

@@ -4,8 +4,9 @@ use lib.ListN.{length}
 use borrow.Author.Needs.{needs}
 use Rattle.answers.specs.Outcome.{answerOf}
 use Rattle.resample.specs.WorkSize.{Within}
-use Rattle.plans.proofs.InputLaws.{within-range, thermal-iterations}
-use Rattle.erosion.proofs.WholeLaws.{whole-numbered}
+use Rattle.run_plans.proofs.InputLaws.{within-range}
+use Rattle.run_settings.proofs.RefusalLaws.{thermal-iterations}
+use Rattle.run_parts.proofs.WholeLaws.{whole-numbered}
 use Rattle.thermal_run.specs.ThermalRun.{inputRefusal}
 use Rattle.thermal_run.proofs.RunLaws.{decided, run-refused, run-accepted, run-within, run-erodes, run-done}
 use Rattle.thermal_run.proofs.gen_thermal_erosion.Statement.{statement}

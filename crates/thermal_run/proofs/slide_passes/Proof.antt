@@ -4,7 +4,7 @@ use native.Mathlib.Omega.{arith}
 use borrow.Author.Needs.{needs}
 use lib.ListN.{length}
 use Rattle.talus.specs.Talus.{thresholdsOf}
-use Rattle.runs.specs.Run.{slideCourse}
+use Rattle.run_machine.specs.Run.{slideCourse}
 use Rattle.thermal_run.proofs.SlideLaws.{Passing, passing-none, passing-done, passing-ended, passing-ready, passing-more}
 use Rattle.thermal_run.proofs.slide_passes.Statement.{statement}
 use Rattle.thermal_run.proofs.slide_passes.Tie as tie

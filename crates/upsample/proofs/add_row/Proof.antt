@@ -3,7 +3,7 @@ use Prim.Native.Nat.{_-_}
 use mathlib.Core.Path.{refl}
 use native.Mathlib.Omega.{arith}
 use lib.ListN.{length}
-use Rattle.lists.proofs.FillLaws.{Filling, filling-none, filling-length, filling-more, filling-done}
+use Rattle.loops.proofs.FillLaws.{Filling, filling-none, filling-length, filling-more, filling-done}
 use Rattle.upsample.specs.Samples.{summedRow}
 use Rattle.upsample.proofs.RowLaws.{sumAt, sum-next}
 use Rattle.upsample.proofs.add_row.Statement.{statement}

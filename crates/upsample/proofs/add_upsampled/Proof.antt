@@ -1,6 +1,6 @@
 use Rattle.upsample.proofs.AddLaws.{full-grid, small-grid, add-refused, add-small, add-run-off, add-done}
 use Rattle.grid.proofs.HeightsLaws.{all-finite, not-all-finite}
-use Rattle.resample.proofs.RefusalLaws.{Accepted, map-good}
+use Rattle.resample.proofs.RefusalLaws.{AcceptedMaps, map-good}
 use borrow.Author.Tests.{not-true, not-false}
 use lib.ListN.{length}
 use denote.Ref.{now}
@@ -21,7 +21,7 @@ returns : tie.Need-returns
 returns c = add-refused _ (c .enum-told .given .0 .0) (c .before .before .map-refusal .ensures) (c .enum-told .given .1)
 
 -- past the refusals of the map
-accepted : (c : tie.After-enum-told2) → let a = c .before .before .before .before .before .before .args in Accepted (now (a .map)) (a .size .w) (a .size .h) (length (now (a .delta))) (a .dsize .w) (a .dsize .h)
+accepted : (c : tie.After-enum-told2) → let a = c .before .before .before .before .before .before .args in AcceptedMaps (now (a .map)) (a .size .w) (a .size .h) (length (now (a .delta))) (a .dsize .w) (a .dsize .h)
 accepted c = map-good _ _ _ _ _ _ _ (c .before .before .map-refusal .ensures) (c .enum-told2 .given .1)
 
 enum-told-2 : tie.Need-enum-told-2

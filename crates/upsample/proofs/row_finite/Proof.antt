@@ -5,8 +5,8 @@ use native.Mathlib.Omega.{arith}
 use lib.ListN.{length, getD}
 use lib.Ieee.{Float, nan, binary32, add}
 use lib.Ieee.Scale.{finite}
-use Rattle.lists.specs.Loops.{tabulate}
-use Rattle.lists.proofs.LoopLaws.{at-end}
+use Rattle.loops.specs.Loops.{tabulate}
+use Rattle.loops.proofs.LoopLaws.{at-end}
 use Rattle.grid.specs.Heights.{allFinite}
 use Rattle.upsample.specs.Samples.{summedRow}
 use Rattle.grid.proofs.HeightsLaws.{all-none, all-more}

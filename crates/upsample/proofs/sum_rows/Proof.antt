@@ -7,8 +7,8 @@ use lib.Ieee.{Float, binary32, ofBits}
 use borrow.Author.Tests.{not-true, not-false}
 use Rattle.bilinear.specs.Samples.{asSource}
 use Rattle.bilinear.proofs.CornerLaws.{grid-row}
-use Rattle.sample_rows.specs.Rows.{Mixes}
-use Rattle.sample_rows.proofs.MixLaws.{all-columns, row-in, columns-put, mixes-put, mixes-next}
+use Rattle.upsample_rows.specs.Rows.{Mixes}
+use Rattle.upsample_rows.proofs.MixLaws.{all-columns, row-in, columns-put, mixes-put, mixes-next}
 use Rattle.upsample.specs.Samples.{addedAt, addedOf}
 use Rattle.upsample.proofs.RowLaws.{part-small}
 use Rattle.upsample.proofs.SumLaws.{Summing, summing-start, summing-length, summing-done, summing-more, summing-not}

@@ -1,2 +1,0 @@
--- Laws of the definitions in specs/.
-pub mod WordLaws

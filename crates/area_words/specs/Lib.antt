@@ -1,2 +1,0 @@
--- Words that hold an area and the step to a receiver.
-pub mod Words

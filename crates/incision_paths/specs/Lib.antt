@@ -1,0 +1,3 @@
+-- The new heights of cells by their ways down, and the walks along these.
+pub mod Settled
+pub mod Walk

@@ -1,0 +1,18 @@
+-- Document 01, 'Incision', the coefficient before its division by the distance.
+use Prim.Native.Nat.{ℕ}
+use mathlib.Core.List.{List, _++_}
+use lib.ListN.{drop, replicate}
+use lib.Ieee.{Float, binary32, ofBits, mul, div}
+use Rattle.loops.specs.Loops.{tabulate}
+use Rattle.floats.specs.Stand.{maxOf}
+use Rattle.floats.specs.Stand.{whole}
+use Rattle.square_root.specs.Root.{rootOf}
+
+-- k × root(max(area, 1e-4 × n) / n)
+abbrev pub rateOf : Float → Float → Float → Float
+rateOf area n k = mul binary32 k (rootOf (div binary32 (maxOf area (mul binary32 (ofBits binary32 0x38d1_b717) n)) n))
+
+-- a table of 1,024 places: the rates of the whole areas below m, and 0 from there on
+unfoldable pub ratesOf : ℕ → Float → Float → List Float
+unfolding tabulate
+ratesOf m n k = tabulate m (λ i. rateOf (whole i) n k) ++ drop m (replicate 1024 (ofBits binary32 0))

@@ -1,2 +1,0 @@
--- The opening of an iteration.
-pub mod Opening

@@ -1,0 +1,2 @@
+-- Laws of marks and segments.
+pub mod SeenLaws

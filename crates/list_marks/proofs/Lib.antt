@@ -1,2 +1,0 @@
--- Laws of marks and stretches.
-pub mod SeenLaws

@@ -1,2 +1,0 @@
--- The marks of cells.
-pub mod Seen

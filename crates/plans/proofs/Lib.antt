@@ -1,3 +1,0 @@
--- Laws of plans and of the refusals of whole runs.
-pub mod RefusalLaws
-pub mod InputLaws

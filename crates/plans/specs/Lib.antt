@@ -1,2 +1,0 @@
--- What a whole run refuses.
-pub mod Accepted

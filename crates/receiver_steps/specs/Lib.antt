@@ -1,0 +1,3 @@
+-- The step from a cell to its receiver.
+pub mod Distance
+pub mod Step

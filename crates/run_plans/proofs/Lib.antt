@@ -1,0 +1,2 @@
+-- Laws of plans and of the refusals of whole runs.
+pub mod InputLaws

@@ -1,2 +1,0 @@
--- The step from a cell to its receiver.
-pub mod Step

@@ -1,3 +1,0 @@
--- Laws of talus blocks.
-pub mod BlockLaws
-pub mod SlideLaws

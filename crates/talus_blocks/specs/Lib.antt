@@ -1,2 +1,0 @@
--- Blocks of inner cells of a talus pass.
-pub mod Blocks

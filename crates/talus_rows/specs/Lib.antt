@@ -1,0 +1,2 @@
+-- The inner cells of a row, in blocks.
+pub mod Blocks

@@ -1,3 +1,0 @@
--- Laws of the definitions in specs/.
-pub mod DistanceLaws
-pub mod SumLaws
