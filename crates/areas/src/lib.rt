@@ -15,6 +15,9 @@ ghost use Rattle.areas.specs.Sums.{Along};
 ghost use Rattle.areas.specs.Words.{areaWord, areasIn, passedOn, SteppedNetwork, Words, Worded, AreaWords, Ahead};
 ghost use Rattle.areas.specs.Words.{WholeArea, WholeAreas, startArea, startAreas};
 
+// The positions of the list whose receivers are read ahead: 1 KB of them stays in the nearest cache.
+const AHEAD: usize = 256;
+
 // Adds the area of cell c, whose receiver is r, to that of r, if r is another cell.
 fn add_down(area: &mut [f32], c: usize, r: usize)
     requires { ⌜ (c < length (now area)) × (r < length (now area)) ⌝ }
@@ -165,12 +168,12 @@ fn refill(
     if lo < k {
         return lo;
     }
-    if k < 256 {
+    if k < AHEAD {
         read_ahead(width, recv, order, words, 0, k, below, offsets);
         return 0;
     }
-    read_ahead(width, recv, order, words, k - 256, k, below, offsets);
-    k - 256
+    read_ahead(width, recv, order, words, k - AHEAD, k, below, offsets);
+    k - AHEAD
 }
 
 // Writes the words of all cells with the drainage areas along a work list, on three columns or more: each starts with
@@ -183,7 +186,7 @@ pub fn words_along(width: usize, recv: &[u32], order: &[u32], words: &mut [f32])
 {
     let offsets = step_offsets(width);
     to_words(width, recv, words, false);
-    let mut below: [u32; 256] = [0; 256];
+    let mut below: [u32; AHEAD] = [0; AHEAD];
     let mut k = order.len();
     let mut lo = k;
     while k > 0 {

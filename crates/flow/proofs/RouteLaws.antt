@@ -1,24 +1,23 @@
 -- Laws of the public call: which answer the tests give, what is accepted, and what the slices hold then.
 use Prim.Native.Nat.{ℕ, _*_}
-use mathlib.Core.Path.{_≡_, refl, sym, ap, _∙_}
+use mathlib.Core.Path.{_≡_, refl, sym, ap, _∙_, subst}
 use mathlib.Core.Bool.{Bool, true, false, not, _&&_, cond}
 use mathlib.Core.List.{List}
 use lib.ListN.{length}
 use lib.Ieee.{Float}
 use lib.Ieee.Scale.{finite}
 use borrow.Author.Tests.{eqb-true, ltb-false, not-true, not-false}
-use Rattle.drainage.specs.Routing.{orderOn, receiversOn, spillOn, areasOn}
-use Rattle.loops.proofs.TestLaws.{neither, both, chosen, passed, clash}
+use Rattle.loops.proofs.TestLaws.{neither, both, clash}
 use Rattle.answers.specs.Outcome.{Outcome, gives, refused, refusedAt, answerOf, given}
 use Rattle.answers.specs.declared.Answer.{Answer}
 use Rattle.grid.specs.Sides.{badSides}
 use Rattle.grid.specs.Heights.{firstNotFinite, allFinite}
 use Rattle.grid.proofs.SidesLaws.{good-sides}
-use Rattle.drainage.specs.Ground.{gridGround, squareLand}
+use Rattle.drainage.specs.Ground.{squareLand}
 use Rattle.drainage.specs.declared.Land.{Land}
 use Rattle.flood.specs.Slices.{AcceptedGrid}
 use Rattle.flow.specs.declared.Lent.{Lent}
-use Rattle.flow.specs.Route.{lentOf, badLengths, routeAnswer, accepted, Enough, Holding, Routed}
+use Rattle.flow.specs.Route.{lentBy, badLengths, routeAnswer, accepted, Enough, Holding, NetSlices, Routed}
 
 abbrev byTests : Bool → Bool → Bool → Bool → ℕ → Outcome (Unit {0})
 byTests s l f a k = cond s (refused 1) (cond l (refused 3) (cond f (cond a (gives tt) (refusedAt 5 k)) (refused 4)))
@@ -79,39 +78,16 @@ module _ (w h : ℕ) (hs : List Float) (water : Float) (l : Lent) (e : accepted 
     finites = both (finite water) (allFinite hs) (past-lengths .1) .1;
   }
 
-module _ (w h : ℕ) (hs : List Float) (water : Float) (order recv : List ℕ) (spill area : List Float) (queue status : List ℕ) where
-  abbrev lent : Lent
-  lent = lentOf hs order recv spill area queue status
+module _ (w h : ℕ) (hs : List Float) (water : Float) (old : NetSlices) where
+  pub routed-refused : (r : Answer) → answerOf r ≡ routeAnswer w h hs water (lentBy hs old) → given (answerOf r) ≡ false → Routed w h hs water old r old
+  routed-refused r e f =
+      record { answer = e; routed = λ y. absurd (clash y (answered w h hs water (lentBy hs old) r e ∙ f)); kept = λ _. refl }
 
-  pub routed-refused :
-      (r : Answer) → answerOf r ≡ routeAnswer w h hs water lent → given (answerOf r) ≡ false
-      → Routed w h hs water order recv spill area queue status r order recv spill area queue status
-  routed-refused r e f = record {
-    answer = e;
-    orders = passed (accepted w h hs water lent) (orderOn (gridGround w h (squareLand water)) hs) order no;
-    receivers = passed (accepted w h hs water lent) (receiversOn (gridGround w h (squareLand water)) hs) recv no;
-    spills = passed (accepted w h hs water lent) (spillOn (gridGround w h (squareLand water)) hs) spill no;
-    areas = passed (accepted w h hs water lent) (areasOn (gridGround w h (squareLand water)) hs) area no;
-    kept-queue = λ _. refl;
-    kept-status = λ _. refl;
-  }
-    where
-      no : accepted w h hs water lent ≡ false
-      no = answered w h hs water lent r e ∙ f
-
-  pub routed-done :
-      answerOf Answer.Done ≡ routeAnswer w h hs water lent → (order′ recv′ : List ℕ) (spill′ area′ : List Float)
-      (queue′ status′ : List ℕ) {land : Land} → land ≡ squareLand water → Holding w h hs land order′ recv′ spill′ area′
-      → Routed w h hs water order recv spill area queue status Answer.Done order′ recv′ spill′ area′ queue′ status′
-  routed-done e order′ recv′ spill′ area′ queue′ status′ g s = record {
-    answer = e;
-    orders = s .left ∙ ap (λ (l : Land). orderOn (gridGround w h l) hs) g ∙ chosen (accepted w h hs water lent) (orderOn (gridGround w h (squareLand water)) hs) order yes′;
-    receivers = s .received ∙ ap (λ (l : Land). receiversOn (gridGround w h l) hs) g ∙ chosen (accepted w h hs water lent) (receiversOn (gridGround w h (squareLand water)) hs) recv yes′;
-    spills = s .raised ∙ ap (λ (l : Land). spillOn (gridGround w h l) hs) g ∙ chosen (accepted w h hs water lent) (spillOn (gridGround w h (squareLand water)) hs) spill yes′;
-    areas = s .drained ∙ ap (λ (l : Land). areasOn (gridGround w h l) hs) g ∙ chosen (accepted w h hs water lent) (areasOn (gridGround w h (squareLand water)) hs) area yes′;
-    kept-queue = λ f. absurd (clash yes′ f);
-    kept-status = λ f. absurd (clash yes′ f);
-  }
-    where
-      yes′ : accepted w h hs water lent ≡ true
-      yes′ = answered w h hs water lent Answer.Done e
+  pub routed-done : answerOf Answer.Done ≡ routeAnswer w h hs water (lentBy hs old) → (new : NetSlices) {land : Land} → land ≡ squareLand water
+      → Holding w h hs land (new .order) (new .recv) (new .spill) (new .area) → Routed w h hs water old Answer.Done new
+  routed-done e new g s =
+      record {
+        answer = e;
+        routed = λ _. subst (λ (l : Land). Holding w h hs l (new .order) (new .recv) (new .spill) (new .area)) g s;
+        kept = λ f. absurd (clash (answered w h hs water (lentBy hs old) Answer.Done e) f);
+      }

@@ -1,7 +1,7 @@
 -- `route` of document 01, 'Network': flood, receivers, areas of a grid, with its refusals.
 use Prim.Native.Nat.{ℕ, _*_, _≤_}
 use mathlib.Core.Path.{_≡_}
-use mathlib.Core.Bool.{Bool, false, not, _||_, cond}
+use mathlib.Core.Bool.{Bool, true, false, not, _||_, cond}
 use mathlib.Core.List.{List}
 use lib.ListN.{length}
 use lib.Dec.{eqb, ltb}
@@ -63,14 +63,23 @@ pub record Holding (w h : ℕ) (hs : List Float) (land : Land) (order recv : Lis
   pub raised : spill ≡ spillOn (gridGround w h land) hs
   pub drained : area ≡ areasOn (gridGround w h land) hs
 
+-- The slices lent to `route` besides the heights: order, receivers, spill heights and areas are results, queue and
+-- statuses are scratch.
+pub record NetSlices : Type 0 where
+  pub order : List ℕ
+  pub recv : List ℕ
+  pub spill : List Float
+  pub area : List Float
+  pub queue : List ℕ
+  pub status : List ℕ
+
+abbrev pub lentBy : List Float → NetSlices → Lent
+lentBy hs s = lentOf hs (s .order) (s .recv) (s .spill) (s .area) (s .queue) (s .status)
+
 -- What `route` answers and leaves: accepted, the four results hold the routing on document 01's land; refused, every
 -- slice is as it was, scratch included.
-pub record Routed (w h : ℕ) (hs : List Float) (water : Float) (order recv : List ℕ) (spill area : List Float) (queue status : List ℕ) (r : Answer)
-    (order′ recv′ : List ℕ) (spill′ area′ : List Float) (queue′ status′ : List ℕ) : Type 0 where
-  pub answer : answerOf r ≡ routeAnswer w h hs water (lentOf hs order recv spill area queue status)
-  pub orders : order′ ≡ cond (accepted w h hs water (lentOf hs order recv spill area queue status)) (orderOn (gridGround w h (squareLand water)) hs) order
-  pub receivers : recv′ ≡ cond (accepted w h hs water (lentOf hs order recv spill area queue status)) (receiversOn (gridGround w h (squareLand water)) hs) recv
-  pub spills : spill′ ≡ cond (accepted w h hs water (lentOf hs order recv spill area queue status)) (spillOn (gridGround w h (squareLand water)) hs) spill
-  pub areas : area′ ≡ cond (accepted w h hs water (lentOf hs order recv spill area queue status)) (areasOn (gridGround w h (squareLand water)) hs) area
-  pub kept-queue : accepted w h hs water (lentOf hs order recv spill area queue status) ≡ false → queue′ ≡ queue
-  pub kept-status : accepted w h hs water (lentOf hs order recv spill area queue status) ≡ false → status′ ≡ status
+pub record Routed (w h : ℕ) (hs : List Float) (water : Float) (old : NetSlices) (r : Answer) (new : NetSlices) : Type 0 where
+  pub answer : answerOf r ≡ routeAnswer w h hs water (lentBy hs old)
+  pub routed : accepted w h hs water (lentBy hs old) ≡ true
+      → Holding w h hs (squareLand water) (new .order) (new .recv) (new .spill) (new .area)
+  pub kept : accepted w h hs water (lentBy hs old) ≡ false → new ≡ old

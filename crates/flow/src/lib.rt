@@ -117,9 +117,23 @@ pub fn route(
     queue: &mut [u32],
     status: &mut [u8],
 ) -> Answer
-    ensures { λ r. ⌜ Routed (size .w) (size .h) (now (h .entry)) «water_level» (now (order .entry)) (now (recv .entry))
-        (now (spill .entry)) (now (area .entry)) (now (queue .entry)) (now (status .entry)) r (now (order .exit))
-        (now (recv .exit)) (now (spill .exit)) (now (area .exit)) (now (queue .exit)) (now (status .exit)) ⌝ }
+    ensures { λ r. ⌜ Routed (size .w) (size .h) (now (h .entry)) «water_level»
+        (record {
+          order = now (order .entry);
+          recv = now (recv .entry);
+          spill = now (spill .entry);
+          area = now (area .entry);
+          queue = now (queue .entry);
+          status = now (status .entry);
+        }) r
+        (record {
+          order = now (order .exit);
+          recv = now (recv .exit);
+          spill = now (spill .exit);
+          area = now (area .exit);
+          queue = now (queue .exit);
+          status = now (status .exit);
+        }) ⌝ }
 {
     let lent = Lent {
         heights: h.len(),

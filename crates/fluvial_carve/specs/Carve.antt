@@ -1,7 +1,7 @@
 -- A routing and the incision along the network that it found.
 use Prim.Native.Nat.{ℕ}
 use mathlib.Core.Path.{_≡_}
-use mathlib.Core.Bool.{Bool, false, cond}
+use mathlib.Core.Bool.{true, false}
 use mathlib.Core.List.{List}
 use lib.Ieee.{Float}
 use Rattle.drainage.specs.Routing.{orderOn, receiversOn, areasOn}
@@ -9,7 +9,7 @@ use Rattle.answers.specs.Outcome.{answerOf}
 use Rattle.answers.specs.declared.Answer.{Answer}
 use Rattle.drainage.specs.Ground.{gridGround, squareLand}
 use Rattle.drainage.specs.declared.Land.{Land}
-use Rattle.flow.specs.Route.{lentOf, routeAnswer, accepted}
+use Rattle.flow.specs.Route.{NetSlices, lentBy, routeAnswer, accepted}
 use Rattle.fluvial_erosion.specs.Incision.{incisedBy}
 use Rattle.fluvial_erosion.specs.declared.FluvialParams.{FluvialParams}
 
@@ -25,18 +25,10 @@ pub record Carves (w h : ℕ) (land : Land) (p : FluvialParams) (hs : List Float
   pub areas : area ≡ areasOn (gridGround w h land) hs
 
 -- What `carve` answers and leaves: accepted as `route` is, the network on document 01's land in order, receivers and
--- areas, and the heights incised along it in `out`; refused, every slice is as it was, scratch
+-- areas, and the heights incised along it in the place of the spill heights; refused, every slice is as it was, scratch
 -- included. k, uplift and a result that is not finite are not tested.
-module _ (w h : ℕ) (hs : List Float) (p : FluvialParams) (order recv : List ℕ) (out area : List Float) (queue status : List ℕ) where
-  -- whether the call is accepted
-  abbrev pub carvable : Bool
-  carvable = accepted w h hs (p .«water_level») (lentOf hs order recv out area queue status)
-
-  pub record CarveMade (r : Answer) (order′ recv′ : List ℕ) (out′ area′ : List Float) (queue′ status′ : List ℕ) : Type 0 where
-    pub answer : answerOf r ≡ routeAnswer w h hs (p .«water_level») (lentOf hs order recv out area queue status)
-    pub orders : order′ ≡ cond carvable (orderOn (gridGround w h (squareLand (p .«water_level»))) hs) order
-    pub receivers : recv′ ≡ cond carvable (receiversOn (gridGround w h (squareLand (p .«water_level»))) hs) recv
-    pub heights : out′ ≡ cond carvable (carvedOf w h (squareLand (p .«water_level»)) p hs) out
-    pub areas : area′ ≡ cond carvable (areasOn (gridGround w h (squareLand (p .«water_level»))) hs) area
-    pub kept-queue : carvable ≡ false → queue′ ≡ queue
-    pub kept-status : carvable ≡ false → status′ ≡ status
+pub record CarveMade (w h : ℕ) (hs : List Float) (p : FluvialParams) (old : NetSlices) (r : Answer) (new : NetSlices) : Type 0 where
+  pub answer : answerOf r ≡ routeAnswer w h hs (p .«water_level») (lentBy hs old)
+  pub carved : accepted w h hs (p .«water_level») (lentBy hs old) ≡ true
+      → Carves w h (squareLand (p .«water_level»)) p hs (new .order) (new .recv) (new .spill) (new .area)
+  pub kept : accepted w h hs (p .«water_level») (lentBy hs old) ≡ false → new ≡ old

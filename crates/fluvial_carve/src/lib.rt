@@ -55,9 +55,23 @@ pub fn carve(
     queue: &mut [u32],
     status: &mut [u8],
 ) -> Answer
-    ensures { λ r. ⌜ CarveMade (size .w) (size .h) (now (hmap .entry)) params (now (order .entry)) (now (recv .entry))
-        (now (out .entry)) (now (area .entry)) (now (queue .entry)) (now (status .entry)) r (now (order .exit))
-        (now (recv .exit)) (now (out .exit)) (now (area .exit)) (now (queue .exit)) (now (status .exit)) ⌝ }
+    ensures { λ r. ⌜ CarveMade (size .w) (size .h) (now (hmap .entry)) params
+        (record {
+          order = now (order .entry);
+          recv = now (recv .entry);
+          spill = now (out .entry);
+          area = now (area .entry);
+          queue = now (queue .entry);
+          status = now (status .entry);
+        }) r
+        (record {
+          order = now (order .exit);
+          recv = now (recv .exit);
+          spill = now (out .exit);
+          area = now (area .exit);
+          queue = now (queue .exit);
+          status = now (status .exit);
+        }) ⌝ }
 {
     let water = params.water_level;
     let answer = route(size, hmap, water, order, recv, out, area, queue, status);

@@ -38,7 +38,7 @@ use Rattle.fluvial_loop.specs.Loops.{planOf, courseBy}
 use Rattle.fluvial_loop.specs.declared.FluvialPlan.{FluvialPlan}
 use Rattle.fluvial_grid.specs.Grids.{scratchOf, Erodes}
 use Rattle.fluvial_grid.specs.declared.Scratch.{Scratch}
-use Rattle.fluvial_run.specs.FluvialRun.{shortestOf, inputRefusal, FluvialRun}
+use Rattle.fluvial_run.specs.FluvialRun.{shortestOf, inputRefusal, FluvialScratch, lengthsOf, FluvialRun}
 
 -- a plan by its parts
 pub plan-is : {p : FluvialPlan} (q : Plan) → p .iterations ≡ q .iterations → p .passes ≡ q .passes → p .cuts ≡ q .cuts → p .slides ≡ q .slides → p .land ≡ q .land → planOf p ≡ q
@@ -56,7 +56,7 @@ module _ (w h : ℕ) (conf : FluvialSettings) (stop : ℕ) {plan : FluvialPlan} 
 at-most : {n a b : ℕ} → n ≤ min a b → (n ≤ a) × (n ≤ b)
 at-most l = (omega arith, omega arith)
 
--- room for n cells in each scratch slice
+-- each scratch slice has n cells or more
 pub record Rooms (n : ℕ) (s : Scratch) : Type 0 where
   pub small : n ≤ s .small
   pub eroded : n ≤ s .eroded
@@ -69,8 +69,11 @@ pub record Rooms (n : ℕ) (s : Scratch) : Type 0 where
 
 -- the whole call
 module _ (w h : ℕ) (conf : FluvialSettings) (stop : ℕ) (map small eroded copy area : List Float) (order recv queue status : List ℕ) where
+  abbrev scratch : FluvialScratch
+  scratch = record { small = small; eroded = eroded; copy = copy; area = area; order = order; recv = recv; queue = queue; status = status }
+
   abbrev lengths : Scratch
-  lengths = scratchOf small eroded copy area order recv queue status
+  lengths = lengthsOf scratch
 
   abbrev outcome : Outcome (Unit {0})
   outcome = inputRefusal w h conf map lengths
@@ -80,17 +83,10 @@ module _ (w h : ℕ) (conf : FluvialSettings) (stop : ℕ) (map small eroded cop
   decided = decided-by w h map
 
   pub run-refused : {r : RunAnswer} {early : Answer} (why : Refusal) → answerOf early ≡ outcome → early ≡ Answer.Refused why → r ≡ refusedTo why
-      → FluvialRun w h conf stop map small eroded copy area order recv queue status r map small eroded copy area order recv queue status
+      → FluvialRun w h conf stop map scratch r map scratch
   run-refused {r} {early} why f e g = record {
     ended = ending-refused why early outcome map (runBy w h conf stop ours map) e f g;
-    small-kept = λ _. refl;
-    eroded-kept = λ _. refl;
-    copy-kept = λ _. refl;
-    area-kept = λ _. refl;
-    order-kept = λ _. refl;
-    recv-kept = λ _. refl;
-    queue-kept = λ _. refl;
-    status-kept = λ _. refl;
+    kept = λ _. refl;
   }
 
   module _ {early : Answer} (f : answerOf early ≡ outcome) (e : early ≡ Answer.Done) where
@@ -152,17 +148,11 @@ module _ (w h : ℕ) (conf : FluvialSettings) (stop : ℕ) (map small eroded cop
 
         pub run-done : {r : Reached} {a : RunAnswer} (map′ small′ eroded′ copy′ area′ : List Float) (order′ recv′ queue′ status′ : List ℕ) → Answered r a
             → worked map′ r ≡ wholeRun w h (courseBy (work .w) (work .h) plan stop) map
-            → FluvialRun w h conf stop map small eroded copy area order recv queue status a map′ small′ eroded′ copy′ area′ order′ recv′ queue′ status′
+            → FluvialRun w h conf stop map scratch a map′
+            (record { small = small′; eroded = eroded′; copy = copy′; area = area′; order = order′; recv = recv′; queue = queue′; status = status′ })
         run-done {r} {a} map′ small′ eroded′ copy′ area′ order′ recv′ queue′ status′ s t =
             let ran = whole-run w h (courseBy (work .w) (work .h) plan stop) map t (run-within .dh-low) (run-erodes .bounded .some) in
             record {
               ended = ending-ran r a outcome map map′ (runBy w h conf stop ours map) s (ran ∙ whole-is) (done-accepts f e);
-              small-kept = done-keeps f e;
-              eroded-kept = done-keeps f e;
-              copy-kept = done-keeps f e;
-              area-kept = done-keeps f e;
-              order-kept = done-keeps f e;
-              recv-kept = done-keeps f e;
-              queue-kept = done-keeps f e;
-              status-kept = done-keeps f e;
+              kept = done-keeps f e;
             }

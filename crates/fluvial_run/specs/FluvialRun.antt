@@ -22,18 +22,23 @@ shortestOf s =
 abbrev pub inputRefusal : ℕ → ℕ → FluvialSettings → List Float → Scratch → Outcome (Unit {0})
 inputRefusal w h conf map s = refusalOn w h (badFluvial conf) map (shortestOf s)
 
--- The answer, the counts and the map are those of the run of document 01 along the flood's own order, or of the refusal; a refused input leaves
--- scratch as it was.
-pub record FluvialRun (w h : ℕ) (conf : FluvialSettings) (stop : ℕ) (map small eroded copy area : List Float) (order recv queue status : List ℕ) (r : RunAnswer)
-    (map′ small′ eroded′ copy′ area′ : List Float) (order′ recv′ queue′ status′ : List ℕ) : Type 0 where
-  pub ended :
-      endedWith r map′
-      ≡ endingOf (inputRefusal w h conf map (scratchOf small eroded copy area order recv queue status)) map (runBy w h conf stop ours map)
-  pub small-kept : given (inputRefusal w h conf map (scratchOf small eroded copy area order recv queue status)) ≡ false → small′ ≡ small
-  pub eroded-kept : given (inputRefusal w h conf map (scratchOf small eroded copy area order recv queue status)) ≡ false → eroded′ ≡ eroded
-  pub copy-kept : given (inputRefusal w h conf map (scratchOf small eroded copy area order recv queue status)) ≡ false → copy′ ≡ copy
-  pub area-kept : given (inputRefusal w h conf map (scratchOf small eroded copy area order recv queue status)) ≡ false → area′ ≡ area
-  pub order-kept : given (inputRefusal w h conf map (scratchOf small eroded copy area order recv queue status)) ≡ false → order′ ≡ order
-  pub recv-kept : given (inputRefusal w h conf map (scratchOf small eroded copy area order recv queue status)) ≡ false → recv′ ≡ recv
-  pub queue-kept : given (inputRefusal w h conf map (scratchOf small eroded copy area order recv queue status)) ≡ false → queue′ ≡ queue
-  pub status-kept : given (inputRefusal w h conf map (scratchOf small eroded copy area order recv queue status)) ≡ false → status′ ≡ status
+-- the scratch slices lent to a fluvial run
+pub record FluvialScratch : Type 0 where
+  pub small : List Float
+  pub eroded : List Float
+  pub copy : List Float
+  pub area : List Float
+  pub order : List ℕ
+  pub recv : List ℕ
+  pub queue : List ℕ
+  pub status : List ℕ
+
+abbrev pub lengthsOf : FluvialScratch → Scratch
+lengthsOf s = scratchOf (s .small) (s .eroded) (s .copy) (s .area) (s .order) (s .recv) (s .queue) (s .status)
+
+-- The answer, the counts and the map are those of the run of document 01 along the flood's own order, or of the refusal;
+-- a refused input leaves scratch as it was.
+pub record FluvialRun (w h : ℕ) (conf : FluvialSettings) (stop : ℕ) (map : List Float) (scratch : FluvialScratch) (r : RunAnswer)
+    (map′ : List Float) (scratch′ : FluvialScratch) : Type 0 where
+  pub ended : endedWith r map′ ≡ endingOf (inputRefusal w h conf map (lengthsOf scratch)) map (runBy w h conf stop ours map)
+  pub kept : given (inputRefusal w h conf map (lengthsOf scratch)) ≡ false → scratch′ ≡ scratch

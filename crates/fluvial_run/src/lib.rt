@@ -65,11 +65,27 @@ pub fn gen_fluvial_erosion(
     queue: &mut [u32],
     status: &mut [u8],
 ) -> RunAnswer
-    ensures { λ r. ⌜ FluvialRun (size .w) (size .h) conf stop (now (hmap .entry)) (now (small .entry))
-        (now (eroded .entry)) (now (copy .entry)) (now (area .entry)) (now (order .entry)) (now (recv .entry))
-        (now (queue .entry)) (now (status .entry)) r (now (hmap .exit)) (now (small .exit)) (now (eroded .exit))
-        (now (copy .exit)) (now (area .exit)) (now (order .exit)) (now (recv .exit)) (now (queue .exit))
-        (now (status .exit)) ⌝ }
+    ensures { λ r. ⌜ FluvialRun (size .w) (size .h) conf stop (now (hmap .entry))
+        (record {
+          small = now (small .entry);
+          eroded = now (eroded .entry);
+          copy = now (copy .entry);
+          area = now (area .entry);
+          order = now (order .entry);
+          recv = now (recv .entry);
+          queue = now (queue .entry);
+          status = now (status .entry);
+        }) r (now (hmap .exit))
+        (record {
+          small = now (small .exit);
+          eroded = now (eroded .exit);
+          copy = now (copy .exit);
+          area = now (area .exit);
+          order = now (order .exit);
+          recv = now (recv .exit);
+          queue = now (queue .exit);
+          status = now (status .exit);
+        }) ⌝ }
 {
     let scratch = Scratch {
         small: small.len(),

@@ -25,10 +25,23 @@ pub extern "C" fn harness_route(
     queue: &mut [u32],
     status: &mut [u8],
 ) -> u64
-    ensures { λ r. ⌜ Exported (λ a. Routed w h (now (hmap .entry)) «water_level» (now (order .entry))
-        (now (recv .entry)) (now (spill .entry)) (now (area .entry)) (now (queue .entry)) (now (status .entry)) a
-        (now (order .exit)) (now (recv .exit)) (now (spill .exit)) (now (area .exit)) (now (queue .exit))
-        (now (status .exit))) r ⌝ }
+    ensures { λ r. ⌜ Exported (λ a. Routed w h (now (hmap .entry)) «water_level»
+        (record {
+          order = now (order .entry);
+          recv = now (recv .entry);
+          spill = now (spill .entry);
+          area = now (area .entry);
+          queue = now (queue .entry);
+          status = now (status .entry);
+        }) a
+        (record {
+          order = now (order .exit);
+          recv = now (recv .exit);
+          spill = now (spill .exit);
+          area = now (area .exit);
+          queue = now (queue .exit);
+          status = now (status .exit);
+        })) r ⌝ }
 {
     let size = Sides { w, h };
     word(flow::route(
@@ -90,9 +103,23 @@ pub extern "C" fn harness_carve(
     status: &mut [u8],
 ) -> u64
     ensures { λ r. ⌜ Exported (λ a. CarveMade w h (now (hmap .entry))
-        (record { k = k; uplift = uplift; «water_level» = «water_level» }) (now (order .entry)) (now (recv .entry))
-        (now (out .entry)) (now (area .entry)) (now (queue .entry)) (now (status .entry)) a (now (order .exit))
-        (now (recv .exit)) (now (out .exit)) (now (area .exit)) (now (queue .exit)) (now (status .exit))) r ⌝ }
+        (record { k = k; uplift = uplift; «water_level» = «water_level» })
+        (record {
+          order = now (order .entry);
+          recv = now (recv .entry);
+          spill = now (out .entry);
+          area = now (area .entry);
+          queue = now (queue .entry);
+          status = now (status .entry);
+        }) a
+        (record {
+          order = now (order .exit);
+          recv = now (recv .exit);
+          spill = now (out .exit);
+          area = now (area .exit);
+          queue = now (queue .exit);
+          status = now (status .exit);
+        })) r ⌝ }
 {
     let size = Sides { w, h };
     let params = FluvialParams {

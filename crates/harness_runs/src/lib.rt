@@ -44,8 +44,10 @@ pub extern "C" fn harness_thermal_run(
       strength = strength;
       iterations = iterations;
       «work_res» = «work_res»;
-    }) stop (now (hmap .entry)) (now (small .entry)) (now (eroded .entry)) (now (copy .entry)) a (now (hmap .exit))
-        (now (small .exit)) (now (eroded .exit)) (now (copy .exit))) r ⌝ }
+    }) stop (now (hmap .entry))
+        (record { small = now (small .entry); eroded = now (eroded .entry); copy = now (copy .entry) }) a
+        (now (hmap .exit))
+        (record { small = now (small .exit); eroded = now (eroded .exit); copy = now (copy .exit) })) r ⌝ }
 {
     let size = Sides { w, h };
     let conf = ThermalSettings {
@@ -87,10 +89,27 @@ pub extern "C" fn harness_fluvial_run(
       uplift = uplift;
       iterations = iterations;
       «work_res» = «work_res»;
-    }) stop (now (hmap .entry)) (now (small .entry)) (now (eroded .entry)) (now (copy .entry)) (now (area .entry))
-        (now (order .entry)) (now (recv .entry)) (now (queue .entry)) (now (status .entry)) a (now (hmap .exit))
-        (now (small .exit)) (now (eroded .exit)) (now (copy .exit)) (now (area .exit)) (now (order .exit))
-        (now (recv .exit)) (now (queue .exit)) (now (status .exit))) r ⌝ }
+    }) stop (now (hmap .entry))
+        (record {
+          small = now (small .entry);
+          eroded = now (eroded .entry);
+          copy = now (copy .entry);
+          area = now (area .entry);
+          order = now (order .entry);
+          recv = now (recv .entry);
+          queue = now (queue .entry);
+          status = now (status .entry);
+        }) a (now (hmap .exit))
+        (record {
+          small = now (small .exit);
+          eroded = now (eroded .exit);
+          copy = now (copy .exit);
+          area = now (area .exit);
+          order = now (order .exit);
+          recv = now (recv .exit);
+          queue = now (queue .exit);
+          status = now (status .exit);
+        })) r ⌝ }
 {
     let size = Sides { w, h };
     let conf = FluvialSettings {

@@ -30,7 +30,7 @@ use Rattle.answers.specs.declared.RunAnswer.{RunAnswer}
 use Rattle.run_parts.proofs.ReachedLaws.{worked}
 use Rattle.run_parts.proofs.EndingLaws.{done-accepts, done-keeps, ending-refused, ending-ran}
 use Rattle.run_parts.proofs.WholeLaws.{whole-run}
-use Rattle.thermal_run.specs.ThermalRun.{inputRefusal, ThermalRun, Slides, Reduces, Erodes}
+use Rattle.thermal_run.specs.ThermalRun.{ThermalScratch, inputRefusal, ThermalRun, Slides, Reduces, Erodes}
 
 module _ {w h dw dh : ℕ} {passes map small eroded copy : ℕ} where
   module _ (e : Erodes w h dw dh passes map small eroded copy) where
@@ -55,8 +55,11 @@ module _ {w h dw dh : ℕ} {passes map small eroded copy : ℕ} where
 
 -- the whole call
 module _ (w h : ℕ) (conf : ThermalSettings) (stop : ℕ) (map small eroded copy : List Float) where
+  abbrev scratch : ThermalScratch
+  scratch = record { small = small; eroded = eroded; copy = copy }
+
   abbrev outcome : Outcome (Unit {0})
-  outcome = inputRefusal w h conf map (length small) (length eroded) (length copy)
+  outcome = inputRefusal w h conf map scratch
 
   -- by the test of the settings and the length of the shortest scratch slice
   pub decided : {o : Outcome (Unit {0})} {bad : Bool} {scratch k : ℕ} → o ≡ refusalOn w h bad map scratch → bad ≡ badThermal conf
@@ -64,12 +67,10 @@ module _ (w h : ℕ) (conf : ThermalSettings) (stop : ℕ) (map small eroded cop
   decided e b s k = decided-by w h map e b (s ∙ ap (min (length small)) k)
 
   pub run-refused : {r : RunAnswer} {early : Answer} (why : Refusal) → answerOf early ≡ outcome → early ≡ Answer.Refused why → r ≡ refusedTo why
-      → ThermalRun w h conf stop map small eroded copy r map small eroded copy
+      → ThermalRun w h conf stop map scratch r map scratch
   run-refused {r} {early} why f e g = record {
     ended = ending-refused why early outcome map (thermalRun w h conf stop map) e f g;
-    small-kept = λ _. refl;
-    eroded-kept = λ _. refl;
-    copy-kept = λ _. refl;
+    kept = λ _. refl;
   }
 
   module _ {early : Answer} (f : answerOf early ≡ outcome) (e : early ≡ Answer.Done) where
@@ -108,12 +109,10 @@ module _ (w h : ℕ) (conf : ThermalSettings) (stop : ℕ) (map small eroded cop
 
           pub run-done : {r : Reached} {a : RunAnswer} (map′ small′ eroded′ copy′ : List Float) → Answered r a
               → worked map′ r ≡ wholeRun w h (slideCourse (work .w) (work .h) params passes stop) map
-              → ThermalRun w h conf stop map small eroded copy a map′ small′ eroded′ copy′
+              → ThermalRun w h conf stop map scratch a map′ (record { small = small′; eroded = eroded′; copy = copy′ })
           run-done {r} {a} map′ small′ eroded′ copy′ s t =
               let ran = whole-run w h (slideCourse (work .w) (work .h) params passes stop) map t (run-within .dh-low) (omega arith) in
               record {
                 ended = ending-ran r a outcome map map′ (thermalRun w h conf stop map) s (ran ∙ whole-is) (done-accepts f e);
-                small-kept = done-keeps f e;
-                eroded-kept = done-keeps f e;
-                copy-kept = done-keeps f e;
+                kept = done-keeps f e;
               }

@@ -15,16 +15,22 @@ use Rattle.run_settings.specs.Accepted.{refusalOn}
 use Rattle.run_parts.specs.Ending.{endingOf, endedWith}
 use Rattle.answers.specs.declared.RunAnswer.{RunAnswer}
 
--- the refusals of the input; of the scratch slices the shortest is tested
-abbrev pub inputRefusal : ℕ → ℕ → ThermalSettings → List Float → ℕ → ℕ → ℕ → Outcome (Unit {0})
-inputRefusal w h conf map small eroded copy = refusalOn w h (badThermal conf) map (min small (min eroded copy))
+-- the scratch slices lent to a thermal run
+pub record ThermalScratch : Type 0 where
+  pub small : List Float
+  pub eroded : List Float
+  pub copy : List Float
 
--- The answer, the counts and the map are those of the run of document 01, or of the refusal; a refused input leaves scratch as it was.
-pub record ThermalRun (w h : ℕ) (conf : ThermalSettings) (stop : ℕ) (map small eroded copy : List Float) (r : RunAnswer) (map′ small′ eroded′ copy′ : List Float) : Type 0 where
-  pub ended : endedWith r map′ ≡ endingOf (inputRefusal w h conf map (length small) (length eroded) (length copy)) map (thermalRun w h conf stop map)
-  pub small-kept : given (inputRefusal w h conf map (length small) (length eroded) (length copy)) ≡ false → small′ ≡ small
-  pub eroded-kept : given (inputRefusal w h conf map (length small) (length eroded) (length copy)) ≡ false → eroded′ ≡ eroded
-  pub copy-kept : given (inputRefusal w h conf map (length small) (length eroded) (length copy)) ≡ false → copy′ ≡ copy
+-- the refusals of the input; of the scratch slices the shortest is tested
+abbrev pub inputRefusal : ℕ → ℕ → ThermalSettings → List Float → ThermalScratch → Outcome (Unit {0})
+inputRefusal w h conf map s = refusalOn w h (badThermal conf) map (min (length (s .small)) (min (length (s .eroded)) (length (s .copy))))
+
+-- The answer, the counts and the map are those of the run of document 01, or of the refusal; a refused input leaves
+-- scratch as it was.
+pub record ThermalRun (w h : ℕ) (conf : ThermalSettings) (stop : ℕ) (map : List Float) (scratch : ThermalScratch) (r : RunAnswer)
+    (map′ : List Float) (scratch′ : ThermalScratch) : Type 0 where
+  pub ended : endedWith r map′ ≡ endingOf (inputRefusal w h conf map scratch) map (thermalRun w h conf stop map)
+  pub kept : given (inputRefusal w h conf map scratch) ≡ false → scratch′ ≡ scratch
 
 -- what the passes require of their grid, their number and the lengths of the map and its copy
 pub record Slides (w h passes map copy : ℕ) : Type 0 where

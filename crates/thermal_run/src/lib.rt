@@ -133,9 +133,10 @@ pub fn gen_thermal_erosion(
     eroded: &mut [f32],
     copy: &mut [f32],
 ) -> RunAnswer
-    ensures { λ r. ⌜ ThermalRun (size .w) (size .h) conf stop (now (hmap .entry)) (now (small .entry))
-        (now (eroded .entry)) (now (copy .entry)) r (now (hmap .exit)) (now (small .exit)) (now (eroded .exit))
-        (now (copy .exit)) ⌝ }
+    ensures { λ r. ⌜ ThermalRun (size .w) (size .h) conf stop (now (hmap .entry))
+        (record { small = now (small .entry); eroded = now (eroded .entry); copy = now (copy .entry) }) r
+        (now (hmap .exit))
+        (record { small = now (small .exit); eroded = now (eroded .exit); copy = now (copy .exit) }) ⌝ }
 {
     let scratch = least(small.len(), least(eroded.len(), copy.len()));
     let early = refusal(size, hmap, bad_thermal(conf), scratch);

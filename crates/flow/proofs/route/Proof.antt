@@ -19,7 +19,7 @@ enum-told-2 : tie.Need-enum-told-2
 enum-told-2 c = search needs
 
 returns : tie.Need-returns
-returns c = routed-refused _ _ _ _ _ _ _ _ _ _ _ (c .before .before .refusal .ensures) (refused-given (c .enum-told2 .given .1))
+returns c = routed-refused _ _ _ _ _ _ (c .before .before .refusal .ensures) (refused-given (c .enum-told2 .given .1))
 
 square-land-requires : tie.Need-square-land-requires
 square-land-requires c κs = search needs
@@ -52,7 +52,7 @@ same-length-6 c = search needs
 
 returns-2 : tie.Need-returns-2
 returns-2 c =
-    routed-done _ _ _ _ _ _ _ _ _ _ (ap answerOf (sym (c .before .before .before .before .before .before .before .before .before .before .before .before .before .before .before .before .before .before .before .before .enum-told .given .1)) ∙ c .before .before .before .before .before .before .before .before .before .before .before .before .before .before .before .before .before .before .before .before .before .before .refusal .ensures) _ _ _ _ _ _ (c .before .before .before .before .before .before .before .before .before .before .before .before .before .before .before .before .before .before .before .square-land .ensures) (c .before .before .before .before .before .before .before .before .before .before .before .before .route-grid .ensures)
+    routed-done _ _ _ _ _ (ap answerOf (sym (c .before .before .before .before .before .before .before .before .before .before .before .before .before .before .before .before .before .before .before .before .enum-told .given .1)) ∙ c .before .before .before .before .before .before .before .before .before .before .before .before .before .before .before .before .before .before .before .before .before .before .refusal .ensures) _ (c .before .before .before .before .before .before .before .before .before .before .before .before .before .before .before .before .before .before .before .square-land .ensures) (c .before .before .before .before .before .before .before .before .before .before .before .before .route-grid .ensures)
 
 pub route-spec : {M : Type 1} → statement M
 route-spec =

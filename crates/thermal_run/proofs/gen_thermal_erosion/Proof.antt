@@ -1,6 +1,5 @@
 use native.Mathlib.Omega.{arith}
 use mathlib.Core.Path.{_≡_}
-use lib.ListN.{length}
 use borrow.Author.Needs.{needs}
 use Rattle.answers.specs.Outcome.{answerOf}
 use Rattle.resample.specs.WorkSize.{Within}
@@ -13,7 +12,7 @@ use Rattle.thermal_run.proofs.gen_thermal_erosion.Statement.{statement}
 use Rattle.thermal_run.proofs.gen_thermal_erosion.Tie as tie
 
 -- what was decided of an input that is accepted
-told : (c : tie.After-enum-told) → let a = c .before .before .before .before .before .before .before .before .before .before .before .args in answerOf (c .before .before .refusal .result) ≡ inputRefusal (a .size .w) (a .size .h) (a .conf) (a .hmap .now) (length (a .small .now)) (length (a .eroded .now)) (length (a .copy .now))
+told : (c : tie.After-enum-told) → let a = c .before .before .before .before .before .before .before .before .before .before .before .args in answerOf (c .before .before .refusal .result) ≡ inputRefusal (a .size .w) (a .size .h) (a .conf) (a .hmap .now) (record { small = a .small .now; eroded = a .eroded .now; copy = a .copy .now })
 told c = let a = c .before .before .before .before .before .before .before .before .before .before .before .args in decided (a .size .w) (a .size .h) (a .conf) (a .stop) (a .hmap .now) (a .small .now) (a .eroded .now) (a .copy .now) (c .before .before .refusal .ensures) (c .before .before .before .bad-thermal .ensures) (c .before .before .before .before .before .least2 .ensures) (c .before .before .before .before .before .before .least .ensures)
 
 -- the working sides
