@@ -31,7 +31,7 @@ pub const DIRX: [i32; 9] = [0, -1, 0, 1, -1, 1, -1, 0, 1];
 pub const DIRY: [i32; 9] = [0, -1, -1, -1, 0, 0, 1, 1, 1];
 
 // Document 01's longest side.
-const SIDE_MAX: usize = 4096;
+pub const SIDE_MAX: usize = 4096;
 
 // Whether a side is outside 1 to 4,096.
 fn bad_side(side: usize) -> bool

@@ -2,6 +2,7 @@
 // that holds both.
 use floats::max;
 use grid_spacing::Distances;
+use incision_rates::RATES;
 use incision_rates::rate;
 use incision_rates::rate_at;
 use receiver_steps::receiver_distance;
@@ -65,7 +66,7 @@ pub fn settle_cell(
     by: Incision,
     by_step: &[f32; 16],
     offsets: &[usize; 16],
-    rates: &[f32; 1024],
+    rates: &[f32; RATES],
     m: usize,
     words: &[f32],
     out: &mut [f32],

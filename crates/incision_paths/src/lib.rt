@@ -4,6 +4,7 @@
 // receiver and whether it is done, so that the walk down reads one slice and no height.
 use incision_cell::Incision;
 use incision_cell::settle_cell;
+use incision_rates::RATES;
 use incision_rates::table;
 use receiver_steps::step_distances;
 use receiver_steps::step_offsets;
@@ -103,7 +104,7 @@ fn walk_up(
     by: Incision,
     by_step: &[f32; 16],
     offsets: &[usize; 16],
-    rates: &[f32; 1024],
+    rates: &[f32; RATES],
     hmap: &[f32],
     recv: &[u32],
     words: &mut [f32],
@@ -124,7 +125,7 @@ fn walk_up(
     let mut steps = stop.steps;
     loop {
         let above = out[j];
-        settle_cell(by, by_step, offsets, rates, 1024, words, out, j, hmap[j]);
+        settle_cell(by, by_step, offsets, rates, RATES, words, out, j, hmap[j]);
         mark_done(words, j);
         if steps == 0 {
             return;
@@ -139,7 +140,7 @@ fn settle_way(
     by: Incision,
     by_step: &[f32; 16],
     offsets: &[usize; 16],
-    rates: &[f32; 1024],
+    rates: &[f32; RATES],
     hmap: &[f32],
     recv: &[u32],
     words: &mut [f32],
@@ -172,7 +173,7 @@ pub fn incise_ways(by: Incision, hmap: &[f32], recv: &[u32], words: &mut [f32], 
 {
     let by_step = step_distances(by.distances);
     let offsets = step_offsets(by.width);
-    let rates = table(1024, by.cells, by.k);
+    let rates = table(RATES, by.cells, by.k);
     let n = recv.len();
     let mut i: usize = 0;
     while i < n {

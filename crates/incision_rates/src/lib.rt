@@ -18,21 +18,24 @@ pub fn rate(area: f32, n_cells: f32, k: f32) -> f32
     k * root_of(max(area, HILLSLOPE_AREA * n_cells) / n_cells)
 }
 
+// The most entries of a table of rates: 4 KB of it stay in the nearest cache.
+pub const RATES: usize = 1024;
+
 // Returns how many whole areas, from 0 on, the table of a grid of n cells has: n / 64, at most 1,024, so that filling
 // it costs little.
 pub fn table_size(n: usize) -> usize
     ensures { λ r. ⌜ r ≡ min (n / 64) 1024 ⌝ }
 {
     let some = n / 64;
-    if some < 1024 { some } else { 1024 }
+    if some < RATES { some } else { RATES }
 }
 
 // The rates of the whole areas below m.
-pub fn table(m: usize, n_cells: f32, k: f32) -> [f32; 1024]
+pub fn table(m: usize, n_cells: f32, k: f32) -> [f32; RATES]
     requires { ⌜ m ≤ 1024 ⌝ }
     ensures { λ r. ⌜ r ≡ ratesOf m «n_cells» k ⌝ }
 {
-    let mut rates: [f32; 1024] = [0.0; 1024];
+    let mut rates: [f32; RATES] = [0.0; RATES];
     let mut i: usize = 0;
     while i < m {
         rates[i] = rate(i as f32, n_cells, k);
@@ -42,7 +45,7 @@ pub fn table(m: usize, n_cells: f32, k: f32) -> [f32; 1024]
 }
 
 // The rate of the whole area i, read from the table where i is below m.
-pub fn rate_at(rates: &[f32; 1024], m: usize, i: usize, n_cells: f32, k: f32) -> f32
+pub fn rate_at(rates: &[f32; RATES], m: usize, i: usize, n_cells: f32, k: f32) -> f32
     requires { ⌜ m ≤ 1024 ⌝ }
     requires { ⌜ now rates ≡ ratesOf m «n_cells» k ⌝ }
     requires { ⌜ i ≤ 2 ^ 24 ⌝ }

@@ -1,4 +1,5 @@
 // Refusal 7: the check of a lent list. Nothing lent is written before it is decided.
+use lent_list_blocks::BLOCK;
 use lent_list_blocks::block_end;
 use lent_list_blocks::positions_in;
 use lent_list_blocks::receivers_of;
@@ -45,7 +46,7 @@ fn first_in_block(
     ensures { λ r. ⌜ WalkEnded (length (now (recv .entry))) (now (recv .entry)) (now (list .entry)) lo to
         (now (seen .exit)) r ⌝ }
 {
-    let mut below: [u32; 1024] = [0; 1024];
+    let mut below: [u32; BLOCK] = [0; BLOCK];
     receivers_of(recv, list, places, k, &mut below, whole, from);
     let mut i: usize = 0;
     while i < k {
@@ -82,7 +83,7 @@ fn first_in_some(
             return first_in_block(seen, 0, recv, list, from, to, list, to - from, true);
         }
     }
-    let mut places: [u32; 1024] = [0; 1024];
+    let mut places: [u32; BLOCK] = [0; BLOCK];
     let k = positions_in(list, lo, from, to, &mut places);
     first_in_block(seen, lo, recv, list, from, to, &places, k, false)
 }
@@ -182,7 +183,7 @@ fn first_of_few(n: usize, recv: &[u32], list: &[u32]) -> usize
     requires { ⌜ n ≤ 65536 ⌝ }
     ensures { λ r. ⌜ Scanned n (now (recv .entry)) (now (list .entry)) 0 (0 + n) n r ⌝ }
 {
-    let mut seen: [u8; 65536] = [0; 65536];
+    let mut seen: [u8; FEW] = [0; FEW];
     first_in_bytes(n, recv, list, &mut seen)
 }
 
@@ -192,7 +193,7 @@ fn first_of_many(n: usize, recv: &[u32], list: &[u32]) -> usize
     requires { ⌜ n ≤ 1048576 ⌝ }
     ensures { λ r. ⌜ Scanned n (now (recv .entry)) (now (list .entry)) 0 (0 + n) n r ⌝ }
 {
-    let mut seen: [u8; 1048576] = [0; 1048576];
+    let mut seen: [u8; MANY] = [0; MANY];
     first_in_bytes(n, recv, list, &mut seen)
 }
 

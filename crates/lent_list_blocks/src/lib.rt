@@ -12,7 +12,7 @@ ghost use Rattle.lent_list_marks.specs.Seen.{span, inSegment};
 ghost use Rattle.lent_list_blocks.specs.Blocks.{takenAt, CellsAt, Picked, receiversAt};
 
 // The number of positions in a block: their receivers, 4 KB, stay in the nearest cache.
-const BLOCK: usize = 1024;
+pub const BLOCK: usize = 1024;
 
 // The number of cells of one segment that have a mark.
 const CELLS_MARKED: u32 = SPAN as u32;

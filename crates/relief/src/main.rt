@@ -4,19 +4,25 @@ use stream_run::relief;
 ghost use mathlib.Core.Path.{_≡_};
 ghost use lib.ListN.{length};
 
+// One byte more than the longest accepted stream has.
+const INPUT: usize = 24613;
+
+// The bytes of the longest output: 22, and 6 for each of 4,096 rows.
+const OUTPUT: usize = 24598;
+
 // A buffer of one byte more than the longest accepted stream has: of a longer input these bytes decide the output
 // (LongInput in crates/stream_run/specs).
-fn input_buffer() -> [u8; 24613]
+fn input_buffer() -> [u8; INPUT]
     ensures { λ r. ⌜ 24613 ≡ length r ⌝ }
 {
-    [0; 24613]
+    [0; INPUT]
 }
 
 // A buffer for the longest output: 22 bytes, and 6 for each of 4,096 rows.
-fn output_buffer() -> [u8; 24598]
+fn output_buffer() -> [u8; OUTPUT]
     ensures { λ r. ⌜ 24598 ≡ length r ⌝ }
 {
-    [0; 24598]
+    [0; OUTPUT]
 }
 
 // Reads what is left of an input that was not read to its end.
@@ -35,7 +41,7 @@ fn drain() {
 fn main() {
     let mut input = input_buffer();
     let n = io::read_full(0, &mut input);
-    if n == 24613 {
+    if n == INPUT {
         drain();
     }
     let mut out = output_buffer();

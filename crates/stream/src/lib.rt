@@ -171,7 +171,7 @@ fn bad_settings(settings: Settings) -> bool
 }
 
 // The most cells that the program takes.
-const CELLS_MAX: usize = 4096;
+pub const CELLS_MAX: usize = 4096;
 
 // Refusal 9: whether the grid has more than the 4,096 cells that the program takes; false where `limited` is.
 fn too_many(limited: bool, size: Sides) -> bool

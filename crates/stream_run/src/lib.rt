@@ -7,6 +7,7 @@ use grid::Sides;
 use run_parts::refused;
 use run_settings::FluvialSettings;
 use run_settings::ThermalSettings;
+use stream::CELLS_MAX;
 use stream::Header;
 use stream::Read;
 use stream::Settings;
@@ -30,22 +31,22 @@ ghost use Rattle.stream_output.specs.Output.{Wrote};
 ghost use Rattle.stream_run.specs.StreamRun.{askedRun, AcceptedStream, Relief};
 
 // Slices for the 4,096 cells that the program takes: the map, and scratch.
-fn heights() -> [f32; 4096]
+fn heights() -> [f32; CELLS_MAX]
     ensures { λ r. ⌜ 4096 ≡ length r ⌝ }
 {
-    [0.0; 4096]
+    [0.0; CELLS_MAX]
 }
 
-fn cells() -> [u32; 4096]
+fn cells() -> [u32; CELLS_MAX]
     ensures { λ r. ⌜ 4096 ≡ length r ⌝ }
 {
-    [0; 4096]
+    [0; CELLS_MAX]
 }
 
-fn statuses() -> [u8; 4096]
+fn statuses() -> [u8; CELLS_MAX]
     ensures { λ r. ⌜ 4096 ≡ length r ⌝ }
 {
-    [0; 4096]
+    [0; CELLS_MAX]
 }
 
 // A fluvial run that is not refused, of at most 4,096 cells.

@@ -12,26 +12,29 @@ ghost use lib.Seq.{sets};
 ghost use Rattle.loops.specs.Loops.{tabulate};
 ghost use Rattle.stream_words.specs.Words.{wordAt, floatAt, bitsAt, cellAt, wordBytes, fitting, Part};
 
+// The values of the longest slice of the replay list.
+const LONGEST: usize = 10500;
+
 // Returns a buffer of 10,500 values, each x: as many as the longest slice of the replay list has.
-pub fn float_buffer(x: f32) -> [f32; 10500]
+pub fn float_buffer(x: f32) -> [f32; LONGEST]
     ensures { λ r. ⌜ 10500 ≡ length r ⌝ }
     ensures { λ r. ⌜ r ≡ replicate 10500 x ⌝ }
 {
-    [x; 10500]
+    [x; LONGEST]
 }
 
-pub fn cell_buffer(x: u32) -> [u32; 10500]
+pub fn cell_buffer(x: u32) -> [u32; LONGEST]
     ensures { λ r. ⌜ 10500 ≡ length r ⌝ }
     ensures { λ r. ⌜ r ≡ replicate 10500 x ⌝ }
 {
-    [x; 10500]
+    [x; LONGEST]
 }
 
-pub fn state_buffer(x: u8) -> [u8; 10500]
+pub fn state_buffer(x: u8) -> [u8; LONGEST]
     ensures { λ r. ⌜ 10500 ≡ length r ⌝ }
     ensures { λ r. ⌜ r ≡ replicate 10500 x ⌝ }
 {
-    [x; 10500]
+    [x; LONGEST]
 }
 
 // A word as a length.

@@ -4,6 +4,7 @@ use answers::Answer;
 use answers::Refusal;
 use bilinear::mixed;
 use floats::is_finite;
+use grid::SIDE_MAX;
 use grid::Sides;
 use grid::first_not_finite;
 use resample::map_refusal;
@@ -21,7 +22,7 @@ ghost use Rattle.upsample.specs.Samples.{summedRow, Summed, addedOf, Add
 
 // Whether every height of a row stays finite with the samples added, dy of the way from north to south. The loop has no
 // branch, so that several heights are tested at a time.
-fn row_finite(row: &[f32], north: &[f32; 4096], south: &[f32; 4096], dy: f32) -> bool
+fn row_finite(row: &[f32], north: &[f32; SIDE_MAX], south: &[f32; SIDE_MAX], dy: f32) -> bool
     requires { ⌜ length (now row) ≤ 4096 ⌝ }
     ensures { λ r. ⌜ r ≡ allFinite (summedRow (now (row .entry)) (now (north .entry)) (now (south .entry)) dy) ⌝ }
 {
@@ -36,7 +37,7 @@ fn row_finite(row: &[f32], north: &[f32; 4096], south: &[f32; 4096], dy: f32) ->
 }
 
 // Adds the samples to a row.
-fn add_row(row: &mut [f32], north: &[f32; 4096], south: &[f32; 4096], dy: f32)
+fn add_row(row: &mut [f32], north: &[f32; SIDE_MAX], south: &[f32; SIDE_MAX], dy: f32)
     requires { ⌜ length (now row) ≤ 4096 ⌝ }
     ensures { λ _. ⌜ now (row .exit) ≡ summedRow (now (row .entry)) (now (north .entry)) (now (south .entry)) dy ⌝ }
 {
@@ -50,7 +51,13 @@ fn add_row(row: &mut [f32], north: &[f32; 4096], south: &[f32; 4096], dy: f32)
 }
 
 // If `store`, adds the samples to a row and returns true; else returns whether every sum is finite.
-fn sum_row(row: &mut [f32], north: &[f32; 4096], south: &[f32; 4096], dy: f32, store: bool) -> bool
+fn sum_row(
+    row: &mut [f32],
+    north: &[f32; SIDE_MAX],
+    south: &[f32; SIDE_MAX],
+    dy: f32,
+    store: bool,
+) -> bool
     requires { ⌜ length (now row) ≤ 4096 ⌝ }
     ensures { λ r. ⌜ Summed store (summedRow (now (row .entry)) (now (north .entry)) (now (south .entry)) dy)
         (now (row .entry)) r (now (row .exit)) ⌝ }
@@ -72,11 +79,11 @@ fn sum_rows(map: &mut [f32], size: Sides, delta: &[f32], dsize: Sides, store: bo
 {
     let w = size.w;
     let h = size.h;
-    let mut cs: [usize; 4096] = [0; 4096];
-    let mut ds: [f32; 4096] = [0.0; 4096];
+    let mut cs: [usize; SIDE_MAX] = [0; SIDE_MAX];
+    let mut ds: [f32; SIDE_MAX] = [0.0; SIDE_MAX];
     columns(w, dsize.w, &mut cs, &mut ds);
-    let mut north: [f32; 4096] = [0.0; 4096];
-    let mut south: [f32; 4096] = [0.0; 4096];
+    let mut north: [f32; SIDE_MAX] = [0.0; SIDE_MAX];
+    let mut south: [f32; SIDE_MAX] = [0.0; SIDE_MAX];
     mix_rows(delta, dsize, &cs, &ds, w, 0, &mut north, &mut south);
     let mut held: usize = 0;
     let mut y: usize = 0;

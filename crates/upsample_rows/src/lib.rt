@@ -6,6 +6,7 @@ use floats::fract;
 use floats::index;
 use floats::max;
 use floats::ratio;
+use grid::SIDE_MAX;
 use grid::Sides;
 ghost use mathlib.Core.Path.{_≡_};
 ghost use Prim.Native.Nat.{_<_, _≤_};
@@ -40,7 +41,7 @@ pub fn way(side: usize, reduced: usize, x: usize) -> f32
 }
 
 // Stores, for each of the w columns of a map, its reduced column in `cs` and its `way` to the next one in `ds`.
-pub fn columns(w: usize, dw: usize, cs: &mut [usize; 4096], ds: &mut [f32; 4096])
+pub fn columns(w: usize, dw: usize, cs: &mut [usize; SIDE_MAX], ds: &mut [f32; SIDE_MAX])
     requires { ⌜ Sampled w dw w ⌝ }
     requires { ⌜ length (now cs) ≡ 4096 ⌝ }
     requires { ⌜ length (now ds) ≡ 4096 ⌝ }
@@ -58,12 +59,12 @@ pub fn columns(w: usize, dw: usize, cs: &mut [usize; 4096], ds: &mut [f32; 4096]
 fn mix_row(
     delta: &[f32],
     dsize: Sides,
-    cs: &[usize; 4096],
-    ds: &[f32; 4096],
+    cs: &[usize; SIDE_MAX],
+    ds: &[f32; SIDE_MAX],
     w: usize,
     y: usize,
     south: usize,
-    row: &mut [f32; 4096],
+    row: &mut [f32; SIDE_MAX],
 )
     requires { ⌜ Grid (dsize .w) (dsize .h) (length (now delta)) ⌝ }
     requires { ⌜ Columns w (dsize .w) (now cs) (now ds) ⌝ }
@@ -86,12 +87,12 @@ fn mix_row(
 pub fn mix_rows(
     delta: &[f32],
     dsize: Sides,
-    cs: &[usize; 4096],
-    ds: &[f32; 4096],
+    cs: &[usize; SIDE_MAX],
+    ds: &[f32; SIDE_MAX],
     w: usize,
     y: usize,
-    north: &mut [f32; 4096],
-    south: &mut [f32; 4096],
+    north: &mut [f32; SIDE_MAX],
+    south: &mut [f32; SIDE_MAX],
 )
     requires { ⌜ Grid (dsize .w) (dsize .h) (length (now delta)) ⌝ }
     requires { ⌜ Columns w (dsize .w) (now cs) (now ds) ⌝ }
@@ -111,13 +112,13 @@ pub fn mix_rows(
 pub fn prepare(
     delta: &[f32],
     dsize: Sides,
-    cs: &[usize; 4096],
-    ds: &[f32; 4096],
+    cs: &[usize; SIDE_MAX],
+    ds: &[f32; SIDE_MAX],
     size: Sides,
     y: usize,
     held: usize,
-    north: &mut [f32; 4096],
-    south: &mut [f32; 4096],
+    north: &mut [f32; SIDE_MAX],
+    south: &mut [f32; SIDE_MAX],
 ) -> usize
     requires { ⌜ Grid (dsize .w) (dsize .h) (length (now delta)) ⌝ }
     requires { ⌜ Columns (size .w) (dsize .w) (now cs) (now ds) ⌝ }
