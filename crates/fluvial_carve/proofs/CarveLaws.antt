@@ -67,7 +67,7 @@ module _ (w h : ℕ) (hs : List Float) (p : FluvialParams) (old : NetSlices) whe
 
       -- the incision along it
       pub carve-done :
-          {ds : Distances} {cut drained : List Float} → ds ≡ squareDistances → Carved w h hs p ds (new .recv) (new .order) cut drained
+          {ds : Distances} {cut drained : List Float} → ds ≡ squareDistances → Carved w h hs p ds (new .recv) (new .order) (record { out = cut; area = drained })
           → CarveMade w h hs p old Answer.Done
           (record { order = new .order; recv = new .recv; spill = cut; area = drained; queue = new .queue; status = new .status })
       carve-done d c = record {

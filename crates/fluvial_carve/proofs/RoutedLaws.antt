@@ -48,7 +48,7 @@ routed-areas {w} {h} r = r .drained ∙ (λ i. areasAlong (w * h) (sym (r .recei
 
 -- the routing, and the incision by the areas that it left
 pub carves : (w h : ℕ) (land : Land) (p : FluvialParams) (hs : List Float) {order recv : List ℕ} {spill area out still : List Float}
-    → Holding w h hs land order recv spill area → Incised w h hs p (land .distances) area recv order out still
+    → Holding w h hs land order recv spill area → Incised w h hs p (land .distances) area recv order (record { out = out; area = still })
     → Carves w h land p hs order recv out still
 unfolding incisedBy
 carves w h land p hs r o = record {

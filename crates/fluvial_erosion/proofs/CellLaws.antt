@@ -114,7 +114,7 @@ module _ {make : ℕ → Float → Float → Float} {recv list : List ℕ} {star
 
 -- the areas and the incision along the list together
 pub carved : {w h n : ℕ} {hs : List Float} {p : FluvialParams} {ds : Distances} {recv list : List ℕ} {areas area out : List Float} → n ≡ w * h → areas ≡ areasAlong n recv list
-    → Incised w h hs p ds areas recv list out area → Carved w h hs p ds recv list out area
+    → Incised w h hs p ds areas recv list (record { out = out; area = area }) → Carved w h hs p ds recv list (record { out = out; area = area })
 unfolding incisedBy
 carved {w} {h} {n} {hs} {p} {ds} {recv} {list} {areas} {area} {out} e a o =
     let along : areas ≡ areasAlong (w * h) recv list = a ∙ ap (λ (k : ℕ). areasAlong k recv list) e in

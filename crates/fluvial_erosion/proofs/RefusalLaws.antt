@@ -185,7 +185,8 @@ module _ (w h : ℕ) (hs : List Float) (p : FluvialParams) (recv list : List ℕ
   same = alike w h hs p recv list (length old) (length scratch)
 
   -- a refusal of the input leaves both slices as they were
-  pub made-refused : (r : Answer) (q : Refusal) → answerOf r ≡ decided w h hs p recv list (length old) (length scratch) → r ≡ Answer.Refused q → InciseMade w h hs p recv list old scratch r old scratch
+  pub made-refused : (r : Answer) (q : Refusal) → answerOf r ≡ decided w h hs p recv list (length old) (length scratch) → r ≡ Answer.Refused q
+      → InciseMade w h hs p recv list (record { out = old; area = scratch }) r (record { out = old; area = scratch })
   made-refused r q d e =
       let none = refused-given e in
       record { answer = refused-whole own same (answerOf r) d none _; result = refused-kept own same (answerOf r) d none old _; areas = refused-kept own same (answerOf r) d none scratch _ }
@@ -193,7 +194,8 @@ module _ (w h : ℕ) (hs : List Float) (p : FluvialParams) (recv list : List ℕ
   -- an accepted input is incised
   module _ (e : gives tt ≡ decided w h hs p recv list (length old) (length scratch)) where
     pub made-incised : {r : Answer} {ds : Distances} {out front area : List Float} → answerOf r ≡ cond (allFinite out) (gives tt) (refused 22) → ds ≡ squareDistances
-        → Carved w h hs p ds recv list out front → area ≡ front ++ drop (w * h) scratch → InciseMade w h hs p recv list old scratch r out area
+        → Carved w h hs p ds recv list (record { out = out; area = front }) → area ≡ front ++ drop (w * h) scratch
+        → InciseMade w h hs p recv list (record { out = old; area = scratch }) r (record { out = out; area = area })
     made-incised {r} {ds} {out} {front} {area} b s c d =
         let cut : out ≡ incised w h hs p recv list = c .heights (λ c. false) ∙ ap (λ (ds : Distances). incisedBy (groundBy w h ds (λ c. false)) p recv list hs) s in
         record {

@@ -33,13 +33,19 @@ pub record Lengths (n hmap out area : ℕ) : Type 0 where
 abbrev pub onGrid : ℕ → ℕ → FluvialParams → Distances → Incision
 onGrid w h p ds = record { width = w; cells = whole (w * h); k = p .k; uplift = p .uplift; water = p .«water_level»; distances = ds }
 
--- what an incision by given areas leaves: the heights incised along the list, whatever cells are base level, and the
--- areas as they were
-pub record Incised (w h : ℕ) (hs : List Float) (p : FluvialParams) (ds : Distances) (areas : List Float) (recv list : List ℕ) (out area : List Float) : Type 0 where
-  pub heights : (base : ℕ → Bool) → out ≡ inciseAlong (groundBy w h ds base) p areas recv list hs
-  pub still : area ≡ areas
+-- the two slices that an incision writes: `out` for the heights, `area` for the areas
+pub record IncisionSlices : Type 0 where
+  pub out : List Float
+  pub area : List Float
 
--- what `incise_into` leaves: the heights incised along the list, whatever cells are base level, and the areas along it
-pub record Carved (w h : ℕ) (hs : List Float) (p : FluvialParams) (ds : Distances) (recv list : List ℕ) (out area : List Float) : Type 0 where
-  pub heights : (base : ℕ → Bool) → out ≡ incisedBy (groundBy w h ds base) p recv list hs
-  pub areas : area ≡ areasAlong (w * h) recv list
+-- what an incision by `areas` leaves in `after`: the heights hs incised along the list, whatever cells are base level,
+-- and the areas as they were
+pub record Incised (w h : ℕ) (hs : List Float) (p : FluvialParams) (ds : Distances) (areas : List Float) (recv list : List ℕ) (after : IncisionSlices) : Type 0 where
+  pub heights : (base : ℕ → Bool) → after .out ≡ inciseAlong (groundBy w h ds base) p areas recv list hs
+  pub still : after .area ≡ areas
+
+-- what `incise_into` leaves in `after`: the heights hs incised along the list, whatever cells are base level, and the
+-- areas along it
+pub record Carved (w h : ℕ) (hs : List Float) (p : FluvialParams) (ds : Distances) (recv list : List ℕ) (after : IncisionSlices) : Type 0 where
+  pub heights : (base : ℕ → Bool) → after .out ≡ incisedBy (groundBy w h ds base) p recv list hs
+  pub areas : after .area ≡ areasAlong (w * h) recv list

@@ -15,6 +15,7 @@ use Rattle.grid_spacing.specs.Distances.{squareDistances}
 use Rattle.drainage.specs.Ground.{groundBy}
 use Rattle.drainage.specs.Ways.{areasAlong}
 use Rattle.fluvial_erosion.specs.Incision.{incisedBy}
+use Rattle.fluvial_erosion.specs.Along.{IncisionSlices}
 use Rattle.lent_receivers.specs.Receivers.{firstBadReceiver}
 use Rattle.lent_list.specs.Entries.{firstBadEntry}
 use Rattle.fluvial_erosion.specs.declared.FluvialParams.{FluvialParams}
@@ -51,12 +52,16 @@ abbrev pub inciseAnswer : ℕ → ℕ → List Float → FluvialParams → List 
 inciseAnswer w h hs p recv list result scratch =
     inciseRefusal w h hs p recv list result scratch refused refusedAt (cond (allFinite (incised w h hs p recv list)) (gives tt) (refused 22))
 
--- What `incise` promises of its answer, of its result and of its scratch: on 1 to 7 both slices as they were, else the incised heights, and the areas
--- in the first n places of the scratch.
-pub record InciseMade (w h : ℕ) (hs : List Float) (p : FluvialParams) (recv list : List ℕ) (old scratch : List Float) (r : Answer) (out area : List Float) : Type 0 where
-  pub answer : answerOf r ≡ inciseAnswer w h hs p recv list (length old) (length scratch)
-  pub result : out ≡ inciseRefusal w h hs p recv list (length old) (length scratch) (λ _. old) (λ _ _. old) (incised w h hs p recv list)
+-- What `incise` promises of its answer r and of its two slices `before` and `after` the call, `out` for the result and
+-- `area` for scratch: on refusals 1 to 7 both as they were, else the incised heights in `out`, and the areas in the
+-- first n places of `area`.
+pub record InciseMade (w h : ℕ) (hs : List Float) (p : FluvialParams) (recv list : List ℕ) (before : IncisionSlices) (r : Answer) (after : IncisionSlices) : Type 0 where
+  pub answer : answerOf r ≡ inciseAnswer w h hs p recv list (length (before .out)) (length (before .area))
+  pub result :
+      after .out
+      ≡ inciseRefusal w h hs p recv list (length (before .out)) (length (before .area)) (λ _. before .out) (λ _ _. before .out)
+      (incised w h hs p recv list)
   pub areas :
-      area
-      ≡ inciseRefusal w h hs p recv list (length old) (length scratch) (λ _. scratch) (λ _ _. scratch)
-      (areasAlong (w * h) recv list ++ drop (w * h) scratch)
+      after .area
+      ≡ inciseRefusal w h hs p recv list (length (before .out)) (length (before .area)) (λ _. before .area) (λ _ _. before .area)
+      (areasAlong (w * h) recv list ++ drop (w * h) (before .area))

@@ -144,7 +144,7 @@ fn incise_words(
     requires { ⌜ Lengths (size .w * size .h) (length (now hmap)) (length (now out)) (length (now words)) ⌝ }
     requires { ⌜ (3 ≤ size .w) × Worded (size .w) (now recv) (now words) ⌝ }
     ensures { λ _. ⌜ Incised (size .w) (size .h) (now (hmap .entry)) params ds (areasIn (now (words .entry)))
-        (now (recv .entry)) (now (order .entry)) (now (out .exit)) (now (words .exit)) ⌝ }
+        (now (recv .entry)) (now (order .entry)) (record { out = now (out .exit); area = now (words .exit) }) ⌝ }
 {
     let by = incision_of(size, params, ds);
     if LISTED < words.len() {
@@ -173,7 +173,7 @@ pub fn incise_along(
     requires { ⌜ Lengths (size .w * size .h) (length (now hmap)) (length (now out)) (length (now area)) ⌝ }
     requires { ⌜ WholeAreas (now area) ⌝ }
     ensures { λ _. ⌜ Incised (size .w) (size .h) (now (hmap .entry)) params ds (now (area .entry)) (now (recv .entry))
-        (now (order .entry)) (now (out .exit)) (now (area .exit)) ⌝ }
+        (now (order .entry)) (record { out = now (out .exit); area = now (area .exit) }) ⌝ }
 {
     if size.w < 3 {
         incise_narrow(size, hmap, params, ds, area, recv, order, out);
@@ -197,7 +197,7 @@ pub fn incise_into(
     requires { ⌜ Drains (size .w) (size .h) (now recv) (now order) ⌝ }
     requires { ⌜ Lengths (size .w * size .h) (length (now hmap)) (length (now out)) (length (now area)) ⌝ }
     ensures { λ _. ⌜ Carved (size .w) (size .h) (now (hmap .entry)) params ds (now (recv .entry)) (now (order .entry))
-        (now (out .exit)) (now (area .exit)) ⌝ }
+        (record { out = now (out .exit); area = now (area .exit) }) ⌝ }
 {
     if size.w < 3 {
         areas_along(size.w, recv, order, area);
@@ -298,7 +298,8 @@ pub fn incise(
     area: &mut [f32],
 ) -> Answer
     ensures { λ r. ⌜ InciseMade (size .w) (size .h) (now (hmap .entry)) params (now (recv .entry)) (now (order .entry))
-        (now (out .entry)) (now (area .entry)) r (now (out .exit)) (now (area .exit)) ⌝ }
+        (record { out = now (out .entry); area = now (area .entry) }) r
+        (record { out = now (out .exit); area = now (area .exit) }) ⌝ }
 {
     let answer = refusal(size, hmap, params, recv, order, out.len(), area.len());
     let Answer::Done = answer else {

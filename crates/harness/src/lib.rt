@@ -73,7 +73,8 @@ pub extern "C" fn harness_incise(
 ) -> u64
     ensures { λ r. ⌜ Exported (λ a. InciseMade w h (now (hmap .entry))
         (record { k = k; uplift = uplift; «water_level» = «water_level» }) (now (recv .entry)) (now (order .entry))
-        (now (out .entry)) (now (area .entry)) a (now (out .exit)) (now (area .exit))) r ⌝ }
+        (record { out = now (out .entry); area = now (area .entry) }) a
+        (record { out = now (out .exit); area = now (area .exit) })) r ⌝ }
 {
     let size = Sides { w, h };
     let params = FluvialParams {
@@ -147,9 +148,15 @@ pub extern "C" fn harness_slide_pass(
     stopped: &mut bool,
     stop: u32,
 ) -> u64
-    ensures { λ r. ⌜ Exported (λ a. SlideMade w h (now (hmap .entry)) (now (out .entry))
-        (record { threshold = threshold; strength = strength; «water_level» = «water_level» }) from to
-        (record { last = now (last .entry); asked = now (asked .entry); stopped = now (stopped .entry) }) stop
+    ensures { λ r. ⌜ Exported (λ a. SlideMade w h (now (hmap .entry))
+        (record { threshold = threshold; strength = strength; «water_level» = «water_level» })
+        (record {
+          from = from;
+          to = to;
+          marks = record { last = now (last .entry); asked = now (asked .entry); stopped = now (stopped .entry) };
+          stop = stop;
+        })
+        (now (out .entry))
         (record {
           answer = a;
           progress = record { last = now (last .exit); asked = now (asked .exit); stopped = now (stopped .exit) };

@@ -25,7 +25,8 @@ use Rattle.receiver_blocks.proofs.OffsetLaws.{offset-enough, offset-bel
 
 -- the lists keep their lengths
 pub begun-long :
-    {ds : Distances} {w : ℕ} {spill : List Float} {recv : List ℕ} {c n : ℕ} {cells cells′ : List ℕ} {slopes slopes′ : List Float} → Begun ds w spill recv c n cells slopes cells′ slopes′
+    {ds : Distances} {w : ℕ} {spill : List Float} {recv : List ℕ} {c n : ℕ} {cells cells′ : List ℕ} {slopes slopes′ : List Float}
+    → Begun ds w spill recv c n (record { cells = cells; slopes = slopes }) (record { cells = cells′; slopes = slopes′ })
     → n ≤ length cells → length cells′ ≡ length cells
 begun-long {ds} {w} {spill} {recv} {c} {n} {cells} b l = ap length (b .offsets) ∙ filled-length (λ i. discovererAs ds w spill (c + i) (getD recv (c + i) 0) .cell) n cells l
 
@@ -39,7 +40,8 @@ steepest-next by-direction w h spill c old slopes i p e =
 -- the offset that is read back
 module _ (ds : Distances) (w h : ℕ) (spill : List Float) (recv : List ℕ) (c n : ℕ) {cells cells′ cells″ : List ℕ} {slopes slopes′ : List Float} where
   pub block-offset :
-      Begun ds w spill recv c n cells slopes cells′ slopes′ → {by-direction : List Float} → by-direction ≡ nineOf ds → cells″ ≡ tabulate n (steepestAt by-direction w h spill c cells′ slopes′) ++ drop n cells′ → (i : ℕ) → i < n
+      Begun ds w spill recv c n (record { cells = cells; slopes = slopes }) (record { cells = cells′; slopes = slopes′ }) → {by-direction : List Float}
+      → by-direction ≡ nineOf ds → cells″ ≡ tabulate n (steepestAt by-direction w h spill c cells′ slopes′) ++ drop n cells′ → (i : ℕ) → i < n
       → getD cells″ i 0 ≡ steepestFrom (nineOf ds) w h spill (c + i) (discovererAs ds w spill (c + i) (getD recv (c + i) 0)) .cell
   block-offset b {by-direction} t e i l =
       filled-read (steepestAt by-direction w h spill c cells′ slopes′) n cells′ e i 0 l

@@ -38,11 +38,16 @@ steepestAt by-direction w h spill c cells slopes i = steepestFrom by-direction w
 pub record NearDiscoverers (w h from to : ℕ) (recv : List ℕ) : Type 0 where
   pub near : (c : ℕ) → from ≤ c → c < to → (getD recv c 0 ≡ c) ⊎ Adjacent w h c (getD recv c 0)
 
--- cells′ and slopes′ begin with the offsets of the discoverers of the n cells from cell c on and the slopes down to
--- them; the rest is as in cells and slopes
-pub record Begun (ds : Distances) (w : ℕ) (spill : List Float) (recv : List ℕ) (c n : ℕ) (cells : List ℕ) (slopes : List Float) (cells′ : List ℕ) (slopes′ : List Float) : Type 0 where
-  pub offsets : cells′ ≡ tabulate n (λ i. discovererAs ds w spill (c + i) (getD recv (c + i) 0) .cell) ++ drop n cells
-  pub downs : slopes′ ≡ tabulate n (λ i. discovererAs ds w spill (c + i) (getD recv (c + i) 0) .slope) ++ drop n slopes
+-- the receivers so far of a block of cells: `cells` holds their offsets, `slopes` the slopes down to them
+pub record BlockReceivers : Type 0 where
+  pub cells : List ℕ
+  pub slopes : List Float
+
+-- `after` begins with the offsets of the discoverers of the n cells from cell c on and the slopes down to them; the
+-- rest is as in `before`
+pub record Begun (ds : Distances) (w : ℕ) (spill : List Float) (recv : List ℕ) (c n : ℕ) (before after : BlockReceivers) : Type 0 where
+  pub offsets : after .cells ≡ tabulate n (λ i. discovererAs ds w spill (c + i) (getD recv (c + i) 0) .cell) ++ drop n (before .cells)
+  pub downs : after .slopes ≡ tabulate n (λ i. discovererAs ds w spill (c + i) (getD recv (c + i) 0) .slope) ++ drop n (before .slopes)
 
 -- for each of the n cells from cell c on, cell number + offset is at least w + 1, so that the offset leads to no number
 -- below 0, and at most 2 ^ 25

@@ -73,8 +73,9 @@ fn discoverer_block(
     requires { ⌜ n ≤ 64 ⌝ }
     requires { ⌜ length (now cells) ≡ 64 ⌝ }
     requires { ⌜ length (now slopes) ≡ 64 ⌝ }
-    ensures { λ _. ⌜ Begun ds (size .w) (now (spill .entry)) (now (recv .entry)) c n (now (cells .entry))
-        (now (slopes .entry)) (now (cells .exit)) (now (slopes .exit)) ⌝ }
+    ensures { λ _. ⌜ Begun ds (size .w) (now (spill .entry)) (now (recv .entry)) c n
+        (record { cells = now (cells .entry); slopes = now (slopes .entry) })
+        (record { cells = now (cells .exit); slopes = now (slopes .exit) }) ⌝ }
 {
     let w = size.w;
     let mut i: usize = 0;

@@ -14,14 +14,14 @@ use Rattle.loops.proofs.LoopLaws.{at-end}
 use Rattle.loops.proofs.TableLaws.{filled-read}
 use Rattle.talus.specs.Talus.{shedOf, gainsOf, slideCell, slideCells}
 use Rattle.talus.proofs.CellLaws.{slide-under, slide-still, slide-moved}
-use Rattle.talus_rows.specs.Blocks.{shedTotal, movedFrom, Sheds, ShedsPut, shedders}
+use Rattle.talus_rows.specs.Blocks.{shedTotal, movedFrom, RowCells, ShedArrays, Sheds, ShedsPut, shedders}
 
 -- the arrays that totals and losses were put into hold them
-pub sheds-put : {w h : ℕ} {ts hs : List Float} {strength water : Float} {y x n : ℕ} {totals moved totals′ moved′ : List Float}
-    → ShedsPut w h ts hs strength water y x n totals moved totals′ moved′ → Sheds w h ts hs strength water y x n totals′ moved′
-sheds-put {w} {h} {ts} {hs} {strength} {water} {y} {x} {n} {totals} {moved} p = record {
-  total = λ i l. filled-read (λ i. shedTotal w h ts hs water (x + i + y * w)) n totals (p .total) i nan l;
-  loss = λ i l. filled-read (λ i. movedFrom w h ts hs strength (x + i + y * w)) n moved (p .loss) i nan l;
+pub sheds-put : {w h : ℕ} {ts hs : List Float} {strength water : Float} {cells : RowCells} {before after : ShedArrays}
+    → ShedsPut w h ts hs strength water cells before after → Sheds w h ts hs strength water cells after
+sheds-put {w} {h} {ts} {hs} {strength} {water} {cells} {before} p = record {
+  total = λ i l. filled-read (λ i. shedTotal w h ts hs water (cells .x + i + cells .y * w)) (cells .n) (before .totals) (p .total) i nan l;
+  loss = λ i l. filled-read (λ i. movedFrom w h ts hs strength (cells .x + i + cells .y * w)) (cells .n) (before .moved) (p .loss) i nan l;
 }
 
 zero-still : le (ofBits binary32 0) (ofBits binary32 0) ≡ true
@@ -92,7 +92,7 @@ shedders-none totals (suc n) e i l =
 
 -- a block where none sheds
 pub block-still : (w h : ℕ) (ts hs : List Float) (strength water : Float) (y x n : ℕ) (totals moved out : List Float)
-    → Sheds w h ts hs strength water y x n totals moved
+    → Sheds w h ts hs strength water (record { y = y; x = x; n = n }) (record { totals = totals; moved = moved })
     → shedders totals n ≡ 0
     → out ≡ slideCells w h ts hs strength water y x n out
 unfolding slideCells

@@ -21,7 +21,7 @@ use Rattle.talus_rows.specs.Blocks.{Sheds}
 use Rattle.talus_rows.proofs.BlockLaws.{cell-still, cell-moved}
 
 module _ (w h : ℕ) (ts hs : List Float) (y x : ℕ) (totals moved : List Float) (cells n : ℕ) (r : InnerRow w h cells y x n) (strength water : Float)
-    (s : Sheds w h ts hs strength water y x n totals moved) where
+    (s : Sheds w h ts hs strength water (record { y = y; x = x; n = n }) (record { totals = totals; moved = moved })) where
   module _ (i : ℕ) (l : i < n) where
     -- a cell that does not shed
     still : (d : ℕ) (t : List Float) → le (getD totals i nan) (ofBits binary32 0) ≡ true → gainOf w h ts hs y x totals moved d i t ≡ t

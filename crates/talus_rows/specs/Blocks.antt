@@ -16,16 +16,26 @@ module _ (w h : ℕ) (ts hs : List Float) where
   abbrev pub movedFrom : Float → ℕ → Float
   movedFrom strength c = mul binary32 strength (shedOf w h ts hs c .greatest)
 
--- `totals` and `moved` hold, from the front, the totals and the losses of the n cells from column x on, in row y
-pub record Sheds (w h : ℕ) (ts hs : List Float) (strength water : Float) (y x n : ℕ) (totals moved : List Float) : Type 0 where
-  pub total : (i : ℕ) → i < n → getD totals i nan ≡ shedTotal w h ts hs water (x + i + y * w)
-  pub loss : (i : ℕ) → i < n → getD moved i nan ≡ movedFrom w h ts hs strength (x + i + y * w)
+-- the n cells of row y from column x on
+pub record RowCells : Type 0 where
+  pub y : ℕ
+  pub x : ℕ
+  pub n : ℕ
 
--- totals′ and moved′ are `totals` and `moved` with the totals and the losses of the n cells from column x on, in row y,
--- written to the front; what stands behind is as it was
-pub record ShedsPut (w h : ℕ) (ts hs : List Float) (strength water : Float) (y x n : ℕ) (totals moved totals′ moved′ : List Float) : Type 0 where
-  pub total : totals′ ≡ tabulate n (λ i. shedTotal w h ts hs water (x + i + y * w)) ++ drop n totals
-  pub loss : moved′ ≡ tabulate n (λ i. movedFrom w h ts hs strength (x + i + y * w)) ++ drop n moved
+-- what cells shed: the totals of their excesses, and their losses
+pub record ShedArrays : Type 0 where
+  pub totals : List Float
+  pub moved : List Float
+
+-- `held` has, from the front, the totals and the losses of `cells`
+pub record Sheds (w h : ℕ) (ts hs : List Float) (strength water : Float) (cells : RowCells) (held : ShedArrays) : Type 0 where
+  pub total : (i : ℕ) → i < cells .n → getD (held .totals) i nan ≡ shedTotal w h ts hs water (cells .x + i + cells .y * w)
+  pub loss : (i : ℕ) → i < cells .n → getD (held .moved) i nan ≡ movedFrom w h ts hs strength (cells .x + i + cells .y * w)
+
+-- `after` is `before` with the totals and the losses of `cells` written to the front; what stands behind is as it was
+pub record ShedsPut (w h : ℕ) (ts hs : List Float) (strength water : Float) (cells : RowCells) (before after : ShedArrays) : Type 0 where
+  pub total : after .totals ≡ tabulate (cells .n) (λ i. shedTotal w h ts hs water (cells .x + i + cells .y * w)) ++ drop (cells .n) (before .totals)
+  pub loss : after .moved ≡ tabulate (cells .n) (λ i. movedFrom w h ts hs strength (cells .x + i + cells .y * w)) ++ drop (cells .n) (before .moved)
 
 -- how many of the first n cells shed
 unfoldable pub shedders : List Float → ℕ → ℕ

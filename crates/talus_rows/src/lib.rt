@@ -76,8 +76,10 @@ fn shed_block(
     requires { ⌜ n ≤ 64 ⌝ }
     requires { ⌜ length (now totals) ≡ 64 ⌝ }
     requires { ⌜ length (now moved) ≡ 64 ⌝ }
-    ensures { λ _. ⌜ ShedsPut (size .w) (size .h) (now (ts .entry)) (now (hmap .entry)) strength water y x n
-        (now (totals .entry)) (now (moved .entry)) (now (totals .exit)) (now (moved .exit)) ⌝ }
+    ensures { λ _. ⌜ ShedsPut (size .w) (size .h) (now (ts .entry)) (now (hmap .entry)) strength water
+        (record { y = y; x = x; n = n })
+        (record { totals = now (totals .entry); moved = now (moved .entry) })
+        (record { totals = now (totals .exit); moved = now (moved .exit) }) ⌝ }
 {
     let w = size.w;
     let mut i: usize = 0;
@@ -128,7 +130,8 @@ fn slide_few(
     requires { ⌜ InnerRow (size .w) (size .h) (length (now hmap)) y x n ⌝ }
     requires { ⌜ length (now out) ≡ length (now hmap) ⌝ }
     requires { ⌜ n ≤ 64 ⌝ }
-    requires { ⌜ Sheds (size .w) (size .h) (now ts) (now hmap) strength water y x n (now totals) (now moved) ⌝ }
+    requires { ⌜ Sheds (size .w) (size .h) (now ts) (now hmap) strength water (record { y = y; x = x; n = n })
+        (record { totals = now totals; moved = now moved }) ⌝ }
     ensures { λ _. ⌜ now (out .exit) ≡ slideCells (size .w) (size .h) (now (ts .entry)) (now (hmap .entry)) strength
         water y x n (now (out .entry)) ⌝ }
 {

@@ -18,7 +18,7 @@ use Rattle.grid.specs.Heights.{firstNotFinite, allFinite}
 use Rattle.grid.proofs.SidesLaws.{good-sides}
 use Rattle.generators.specs.declared.Progress.{Progress}
 use Rattle.grid.proofs.HeightsLaws.{all-finite, not-all-finite}
-use Rattle.thermal_erosion.specs.SlidePass.{Pass, passOf, RowsReady, badMarks, badPass, Passed, SlideMade}
+use Rattle.thermal_erosion.specs.SlidePass.{Pass, passOf, RowsReady, badMarks, badPass, Passed, PassMarks, SlideMade}
 use Rattle.thermal_erosion.specs.declared.ThermalParams.{ThermalParams}
 use Rattle.thermal_erosion.specs.declared.Slid.{Slid}
 
@@ -60,11 +60,14 @@ module _ (s : Pass) (new : List Float) (m : Progress) (e : _≡_ {A = Pass} (rec
         subst (λ (s : Pass). Passed s (refusing Refusal.RunOff m) new) e (record { answer = rw (on, f); handed = refl; heights = refl })
 
 module _ (w h : ℕ) (hs old : List Float) (p : ThermalParams) (from to : Float) (m : Progress) (stop : ℕ) where
-  pub slide-side : badSides w h ≡ true → SlideMade w h hs old p from to m stop (refusing Refusal.Side m) old
+  abbrev by : PassMarks
+  by = record { from = from; to = to; marks = m; stop = stop }
+
+  pub slide-side : badSides w h ≡ true → SlideMade w h hs p by old (refusing Refusal.Side m) old
   slide-side b = record { answer = rw b; handed = rw b; heights = rw b }
 
   module _ (sides : badSides w h ≡ false) where
-    pub slide-map : (length hs ≡ w * h → ⊥) → SlideMade w h hs old p from to m stop (refusing Refusal.Length m) old
+    pub slide-map : (length hs ≡ w * h → ⊥) → SlideMade w h hs p by old (refusing Refusal.Length m) old
     slide-map b =
         let e : eqb (length hs) (w * h) ≡ false = ne-eqb _ _ b in
         record { answer = rw (sides, e); handed = rw (sides, e); heights = rw (sides, e) }
@@ -73,7 +76,7 @@ module _ (w h : ℕ) (hs old : List Float) (p : ThermalParams) (from to : Float)
       lengths : eqb (length hs) (w * h) ≡ true
       lengths = eq-eqb _ _ map
 
-      pub slide-copy : (length old ≡ w * h → ⊥) → SlideMade w h hs old p from to m stop (refusing Refusal.Length m) old
+      pub slide-copy : (length old ≡ w * h → ⊥) → SlideMade w h hs p by old (refusing Refusal.Length m) old
       slide-copy b =
           let e : eqb (length old) (w * h) ≡ false = ne-eqb _ _ b in
           record { answer = rw (sides, lengths, e); handed = rw (sides, lengths, e); heights = rw (sides, lengths, e) }
@@ -82,11 +85,11 @@ module _ (w h : ℕ) (hs old : List Float) (p : ThermalParams) (from to : Float)
         copies : eqb (length old) (w * h) ≡ true
         copies = eq-eqb _ _ copy
 
-        pub slide-setting : badPass p from to m ≡ true → SlideMade w h hs old p from to m stop (refusing Refusal.Setting m) old
+        pub slide-setting : badPass p from to m ≡ true → SlideMade w h hs p by old (refusing Refusal.Setting m) old
         slide-setting b = record { answer = rw (sides, lengths, copies, b); handed = rw (sides, lengths, copies, b); heights = rw (sides, lengths, copies, b) }
 
         module _ (set : badPass p from to m ≡ false) (c : ℕ) (e : c ≡ firstNotFinite hs) where
-          pub slide-height : (c ≡ length hs → ⊥) → SlideMade w h hs old p from to m stop (refusing (Refusal.Height c) m) old
+          pub slide-height : (c ≡ length hs → ⊥) → SlideMade w h hs p by old (refusing (Refusal.Height c) m) old
           slide-height b =
               let f : allFinite hs ≡ false = not-all-finite hs c e b in
               record {
@@ -95,7 +98,7 @@ module _ (w h : ℕ) (hs old : List Float) (p : ThermalParams) (from to : Float)
                 heights = rw (sides, lengths, copies, set, f);
               }
 
-          pub slide-accepted : c ≡ length hs → (r : Slid) (new : List Float) → Passed (passOf w h p hs from to stop m) r new → SlideMade w h hs old p from to m stop r new
+          pub slide-accepted : c ≡ length hs → (r : Slid) (new : List Float) → Passed (passOf w h p hs from to stop m) r new → SlideMade w h hs p by old r new
           slide-accepted b r new a =
               let f : allFinite hs ≡ true = all-finite hs c e b in
               record {

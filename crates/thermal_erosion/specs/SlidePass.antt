@@ -85,9 +85,23 @@ pub record Passed (s : Pass) (r : Slid) (new : List Float) : Type 0 where
   pub handed : r .progress ≡ s .marks
   pub heights : new ≡ s .out
 
--- what `slide_pass` promises of its answer, of the record that it hands back, and of the slice `out` after it: on 1 to 5 the record as given and
--- the slice as it was, else those of the pass
-pub record SlideMade (w h : ℕ) (hs old : List Float) (p : ThermalParams) (from to : Float) (m : Progress) (stop : ℕ) (r : Slid) (new : List Float) : Type 0 where
-  pub answer : answerOf (r .answer) ≡ slideRefusal w h hs (length old) p from to m refused refusedAt (passAnswer (passOf w h p hs from to stop m))
-  pub handed : r .progress ≡ slideRefusal w h hs (length old) p from to m (λ _. m) (λ _ _. m) (passOf w h p hs from to stop m .marks)
-  pub heights : new ≡ slideRefusal w h hs (length old) p from to m (λ _. old) (λ _ _. old) (passOf w h p hs from to stop m .out)
+-- what a pass reports by: p at its two ends, the record before it, and the stop number
+pub record PassMarks : Type 0 where
+  pub from : Float
+  pub to : Float
+  pub marks : Progress
+  pub stop : ℕ
+
+-- What `slide_pass` promises of its answer r, of the record that it hands back, and of its result slice, `old` before and
+-- `new` after it: on refusals 1 to 5 the record as given and the slice as it was, else those of the pass.
+module _ (w h : ℕ) (hs : List Float) (p : ThermalParams) (by : PassMarks) (old : List Float) where
+  abbrev slid : Pass
+  slid = passOf w h p hs (by .from) (by .to) (by .stop) (by .marks)
+
+  abbrev unless : {A : Type 0} → (ℕ → A) → (ℕ → ℕ → A) → A → A
+  unless = slideRefusal w h hs (length old) p (by .from) (by .to) (by .marks)
+
+  pub record SlideMade (r : Slid) (new : List Float) : Type 0 where
+    pub answer : answerOf (r .answer) ≡ unless refused refusedAt (passAnswer slid)
+    pub handed : r .progress ≡ unless (λ _. by .marks) (λ _ _. by .marks) (slid .marks)
+    pub heights : new ≡ unless (λ _. old) (λ _ _. old) (slid .out)

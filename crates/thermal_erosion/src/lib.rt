@@ -162,8 +162,9 @@ pub fn slide_pass(
     progress: Progress,
     stop: u32,
 ) -> Slid
-    ensures { λ r. ⌜ SlideMade (size .w) (size .h) (now (hmap .entry)) (now (out .entry)) params «progress_from»
-        «progress_to» progress stop r (now (out .exit)) ⌝ }
+    ensures { λ r. ⌜ SlideMade (size .w) (size .h) (now (hmap .entry)) params
+        (record { from = «progress_from»; to = «progress_to»; marks = progress; stop = stop }) (now (out .entry)) r
+        (now (out .exit)) ⌝ }
 {
     let from = progress_from;
     let to = progress_to;

@@ -37,8 +37,11 @@ same-length-4 c = search needs
 returns-2 : tie.Need-returns-2
 returns-2 c =
     let a = c .before .before .before .before .before .before .before .before .before .before .before .before .before .before .before .before .before .before .args in
-    subst (λ (t : List Float). Incised (a .size .w) (a .size .h) (a .hmap .now) (a .params) (a .ds) t (a .recv .now) (a .order .now) (c .before .before .before .before .incise-words .last .1 .1 .1 .1 .1 .1 .0) (c .before .before .before .before .incise-words .last .1 .1 .1 .1 .1 .1 .1 .0))
-    (c .before .before .before .before .before .before .before .before .before .to-words .ensures .areas) (c .before .before .before .before .incise-words .ensures)
+    let turned = c .before .before .before .before .before .before .before .before .before .to-words in
+    let words = c .before .before .before .before .incise-words in
+    let left = words .last .1 .1 .1 .1 .1 .1 in
+    subst (λ (t : List Float). Incised (a .size .w) (a .size .h) (a .hmap .now) (a .params) (a .ds) t (a .recv .now) (a .order .now) (record { out = left .0; area = left .1 .0 }))
+    (turned .ensures .areas) (words .ensures)
 
 pub incise-along-spec : {M : Type 1} → statement M
 incise-along-spec =
