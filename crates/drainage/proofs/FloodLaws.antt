@@ -10,7 +10,7 @@ use lib.Dec.{eqb, ltb}
 use lib.ListN.{length, getD}
 use borrow.Author.Tests.{eqb-true, ne-eqb, lt-ltb, le-ltb}
 use Rattle.drainage.specs.Ground.{Ground, Kind}
-use Rattle.drainage.specs.Flood.{Flood, pushAll, leave, waits, leastWaiting, step, floodAfter, flooded}
+use Rattle.drainage.specs.Flood.{Flood, pushAll, leave, waits, leastWaiting, floodStep, floodAfter, flooded}
 use Rattle.loops.specs.Counts.{oneIf, times, countBelow}
 use Rattle.drainage.specs.Theorems.{Joined, Numbers}
 use Rattle.loops.proofs.CountLaws.{count-apart}
@@ -20,15 +20,15 @@ pub use Rattle.drainage.proofs.KeptLaws.{Sized, Later, floodAfter-none,
 
 module _ {H : Type 0} (k : Kind H) (g : Ground) (hs : List H) where
   -- a step once the next leaver is known
-  pub step-leaves : (s : Flood H) (c : ℕ) → leastWaiting k g hs s ≡ c → c < g .cells → step k g hs s ≡ pushAll k g hs c (leave k g hs c s)
-  unfolding step
+  pub step-leaves : (s : Flood H) (c : ℕ) → leastWaiting k g hs s ≡ c → c < g .cells → floodStep k g hs s ≡ pushAll k g hs c (leave k g hs c s)
+  unfolding floodStep
   step-leaves s c e l =
       ap (λ c. cond (ltb c (g .cells)) (pushAll k g hs c (leave k g hs c s)) s) e
       ∙ ap (λ b. cond b (pushAll k g hs c (leave k g hs c s)) s) (lt-ltb c (g .cells) l)
 
   -- where nobody waits nothing happens
-  pub step-stays : (s : Flood H) → leastWaiting k g hs s ≡ g .cells → step k g hs s ≡ s
-  unfolding step
+  pub step-stays : (s : Flood H) → leastWaiting k g hs s ≡ g .cells → floodStep k g hs s ≡ s
+  unfolding floodStep
   step-stays s e = ap (λ b. cond b (pushAll k g hs c (leave k g hs c s)) s) (le-ltb c (g .cells) (omega arith))
     where
       c : ℕ
@@ -88,5 +88,5 @@ module _ {H : Type 0} (k : Kind H) (g : Ground) (hs : List H) where
     floodAfter-ends (suc j) =
         ap (floodAfter k g hs) (add-suc (g .cells) j)
         ∙ floodAfter-more k g hs (g .cells + j)
-        ∙ ap (step k g hs) (floodAfter-ends j)
+        ∙ ap (floodStep k g hs) (floodAfter-ends j)
         ∙ step-stays (flooded k g hs) flooded-nobody

@@ -14,7 +14,7 @@ use borrow.Author.Tests.{ltb-true, ltb-false, eqb-true, eqb-false}
 use Rattle.loops.specs.Loops.{turns}
 use Rattle.loops.proofs.TableLaws.{length-tabulate}
 use Rattle.drainage.specs.Ground.{Ground, Kind}
-use Rattle.drainage.specs.Flood.{Flood, start, pushed, push, pushAll, leave, waits, leastWaiting, step, floodAfter}
+use Rattle.drainage.specs.Flood.{Flood, floodStart, pushed, push, pushAll, leave, waits, leastWaiting, floodStep, floodAfter}
 use Rattle.loops.proofs.TestLaws.{same-or-not, lower-or-not}
 use Rattle.drainage.proofs.LeastLaws.{leastWaiting-found}
 
@@ -149,8 +149,8 @@ module _ {H : Type 0} (k : Kind H) (g : Ground) (hs : List H) where
   -- one step is one of two things: the least waiting cell leaves, or nobody waits and nothing happens
   pub step-cases :
       (P : Flood H → Type 0) (s : Flood H)
-      → ((c : ℕ) → leastWaiting k g hs s ≡ c → c < g .cells → P (pushedTo c 8 (leave k g hs c s))) → (leastWaiting k g hs s ≡ g .cells → P s) → P (step k g hs s)
-  unfolding step pushAll
+      → ((c : ℕ) → leastWaiting k g hs s ≡ c → c < g .cells → P (pushedTo c 8 (leave k g hs c s))) → (leastWaiting k g hs s ≡ g .cells → P s) → P (floodStep k g hs s)
+  unfolding floodStep pushAll
   step-cases P s some none = go (ltb (leastWaiting k g hs s) (g .cells)) refl
     where
       go : (b : Bool) → ltb (leastWaiting k g hs s) (g .cells) ≡ b
@@ -163,10 +163,10 @@ module _ {H : Type 0} (k : Kind H) (g : Ground) (hs : List H) where
   next-waits s c e l =
       eqb-true (getD (s .status) c 0) 1 (subst (λ c. c < g .cells → waits k g hs s c ≡ true) e (leastWaiting-found k g hs s .one-waits) l)
 
-  pub step-sized : (s : Flood H) → Sized (g .cells) s → Sized (g .cells) (step k g hs s)
+  pub step-sized : (s : Flood H) → Sized (g .cells) s → Sized (g .cells) (floodStep k g hs s)
   step-sized s z = step-cases (Sized (g .cells)) s (λ c e l. pushedTo-sized c 8 (leave k g hs c s) (leave-sized c s z)) (λ _. z)
 
-  pub step-later : (s : Flood H) → Sized (g .cells) s → Later (k .absent) s (step k g hs s)
+  pub step-later : (s : Flood H) → Sized (g .cells) s → Later (k .absent) s (floodStep k g hs s)
   step-later s z =
       step-cases (Later (k .absent) s) s
       (λ c e l.
@@ -174,17 +174,17 @@ module _ {H : Type 0} (k : Kind H) (g : Ground) (hs : List H) where
       (λ _. later-same (k .absent) s)
 
   -- the first state, and one more
-  pub floodAfter-none : floodAfter k g hs 0 ≡ start k g hs
+  pub floodAfter-none : floodAfter k g hs 0 ≡ floodStart k g hs
   unfolding floodAfter turns
   floodAfter-none = refl
 
-  pub floodAfter-more : (i : ℕ) → floodAfter k g hs (suc i) ≡ step k g hs (floodAfter k g hs i)
+  pub floodAfter-more : (i : ℕ) → floodAfter k g hs (suc i) ≡ floodStep k g hs (floodAfter k g hs i)
   unfolding floodAfter turns
   floodAfter-more i = refl
 
   module _ (many : length hs ≡ g .cells) where
-    pub start-sized : Sized (g .cells) (start k g hs)
-    unfolding start
+    pub start-sized : Sized (g .cells) (floodStart k g hs)
+    unfolding floodStart
     start-sized = record { status = length-tabulate _ (g .cells); spill = many; discoverer = length-tabulate _ (g .cells) }
 
     pub floodAfter-sized : (i : ℕ) → Sized (g .cells) (floodAfter k g hs i)

@@ -12,7 +12,7 @@ use borrow.Author.Tests.{eq-eqb, eqb-true}
 use Rattle.loops.specs.Loops.{turns}
 use Rattle.loops.proofs.TableLaws.{getD-tabulate}
 use Rattle.drainage.specs.Ground.{Ground, Kind}
-use Rattle.drainage.specs.Flood.{Flood, start, pushed, push, leave, place, leastWaiting, step, floodAfter, flooded}
+use Rattle.drainage.specs.Flood.{Flood, floodStart, pushed, push, leave, place, leastWaiting, floodStep, floodAfter, flooded}
 use Rattle.drainage.specs.Chains.{Neighbours}
 use Rattle.drainage.specs.Theorems.{Joined, Numbers}
 use Rattle.loops.proofs.TestLaws.{same-or-not, lower-or-not}
@@ -138,12 +138,12 @@ module _ {H : Type 0} (k : Kind H) (g : Ground) (hs : List H) (Good : H → Type
         pushedTo-holds (leave k g hs c s) c 8 (omega arith) (leave-holds s last c h e l) l
         (omega (arith, getD-set-same (s .status) c 2 0 (omega (arith, h .sized .status))))
 
-    start-holds : Holds (start k g hs) 0 8
-    unfolding start
+    start-holds : Holds (floodStart k g hs) 0 8
+    unfolding floodStart
     start-holds = record {
       sized = start-sized k g hs many;
       good = fine;
-      flooding = begins g heightOf (viewOf (start k g hs)) (record {
+      flooding = begins g heightOf (viewOf (floodStart k g hs)) (record {
         status = λ c l. getD-tabulate (λ c. one-of (g .base c)) (g .cells) c 0 l;
         number = λ c. refl;
         discoverer = λ c l. getD-tabulate (λ c. c) (g .cells) c 0 l;
@@ -183,7 +183,7 @@ module _ {H : Type 0} (k : Kind H) (g : Ground) (hs : List H) (Good : H → Type
         left : (c : ℕ) → c < g .cells → eqb (getD (s .status) c 0) 2 ≡ true
         left c l = eq-eqb (getD (s .status) c 0) 2 (all-left s last h none c l)
 
-    step-stands : (i : ℕ) (s : Flood H) → i < g .cells → Stands i s → Stands (suc i) (step k g hs s)
+    step-stands : (i : ℕ) (s : Flood H) → i < g .cells → Stands i s → Stands (suc i) (floodStep k g hs s)
     step-stands i s l h =
         step-cases k g hs (Stands (suc i)) s
         (λ c e m. record {
@@ -195,8 +195,8 @@ module _ {H : Type 0} (k : Kind H) (g : Ground) (hs : List H) (Good : H → Type
         })
         (λ e. absurd (some-waits s (h .leaver) (h .holds) (omega (arith, h .left)) e))
 
-    start-stands : Stands 0 (start k g hs)
-    start-stands = record { leaver = 0; holds = start-holds; left = unfold start in refl }
+    start-stands : Stands 0 (floodStart k g hs)
+    start-stands = record { leaver = 0; holds = start-holds; left = unfold floodStart in refl }
 
     pub floodAfter-stands : (i : ℕ) → i ≤ g .cells → Stands i (floodAfter k g hs i)
     floodAfter-stands =

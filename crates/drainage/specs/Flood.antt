@@ -17,9 +17,9 @@ pub record Flood (H : Type 0) : Type 0 where
   pub order : List ℕ
 
 module _ {H : Type 0} (k : Kind H) (g : Ground) (hs : List H) where
-  unfoldable pub start : Flood H
+  unfoldable pub floodStart : Flood H
   unfolding tabulate
-  start = record { status = tabulate (g .cells) (λ c. cond (g .base c) 1 0); spill = hs; discoverer = tabulate (g .cells) (λ c. c); order = [] }
+  floodStart = record { status = tabulate (g .cells) (λ c. cond (g .base c) 1 0); spill = hs; discoverer = tabulate (g .cells) (λ c. c); order = [] }
 
   -- the place of a cell in the queue: the key of its spill height, then its number
   abbrev pub place : Flood H → ℕ → ℕ
@@ -57,14 +57,14 @@ module _ {H : Type 0} (k : Kind H) (g : Ground) (hs : List H) where
   leave c s = record { status = set (s .status) c 2; spill = s .spill; discoverer = s .discoverer; order = s .order ++ (c ∷ []) }
 
   -- the least waiting cell leaves and reaches its neighbours; nothing changes where no cell waits
-  unfoldable pub step : Flood H → Flood H
+  unfoldable pub floodStep : Flood H → Flood H
   unfolding leastWaiting pushAll
-  step s = let c = leastWaiting s in cond (ltb c (g .cells)) (pushAll c (leave c s)) s
+  floodStep s = let c = leastWaiting s in cond (ltb c (g .cells)) (pushAll c (leave c s)) s
 
   -- the flood once n cells have left (or none waits any more)
   unfoldable pub floodAfter : ℕ → Flood H
-  unfolding turns step start
-  floodAfter n = turns n (λ i. step) start
+  unfolding turns floodStep floodStart
+  floodAfter n = turns n (λ i. floodStep) floodStart
 
   -- the whole flood
   abbrev pub flooded : Flood H

@@ -17,14 +17,14 @@ use Rattle.loops.proofs.LoopLaws.{at-end}
 use Rattle.grid.proofs.SidesLaws.{cells-bound}
 use Rattle.drainage.specs.Ground.{floats, gridGround, noBase}
 use Rattle.drainage.specs.Grids.{Height}
-use Rattle.drainage.specs.Flood.{Flood, leastWaiting, step, floodAfter, flooded}
+use Rattle.drainage.specs.Flood.{Flood, leastWaiting, floodStep, floodAfter, flooded}
 use Rattle.loops.specs.Counts.{countBelow}
 use Rattle.drainage.specs.declared.Land.{Land}
 use Rattle.loops.proofs.CountLaws.{count-more, count-apart}
 use Rattle.drainage.proofs.FloodLaws.{step-leaves, leastWaiting-is, leastWaiting-found, floodAfter-none, floodAfter-more}
 use Rattle.drainage.proofs.GroundLaws.{grid-stage, grid-stands, grid-heights}
 use Rattle.flood_queue.specs.declared.Scan.{Scan}
-use Rattle.flood_start.specs.Slices.{stateOf, Started}
+use Rattle.flood_start.specs.Slices.{stateOf, slicesOf, Started}
 use Rattle.flood.specs.Slices.{AcceptedGrid, Flooded}
 use Rattle.flood_queue.specs.Scans.{atLimit, Remaining, Queued, ScanBegun, Waits, Turned, Leaves}
 use Rattle.flood_reach.specs.Reaches.{ReachedAll}
@@ -36,9 +36,11 @@ pub record Running (w h : ℕ) (land : Land) (hs : List Float) (i : ℕ) (s : Sc
   pub state : stateOf status spill recv (take i order) ≡ floodAfter floats (gridGround w h land hs) hs i
   pub begun : ScanBegun hs order status spill s queue
 
-module _ (w h : ℕ) (hs : List Float) (i : ℕ) (s : Scan) (order status : List ℕ) (spill : List Float) (recv queue : List ℕ) where
-  pub onward-none : length hs ≤ s .cell → Queued hs (s .limit) status spill (s .len) queue → Onward w h hs i s order status spill recv (s .len) order status spill recv queue
-  onward-none l q = record {
+module _ (w h : ℕ) (hs : List Float) (i : ℕ) (s : Scan) (lent : Flood Float) where
+  pub onward-none :
+      (queue : List ℕ) → length hs ≤ s .cell → Queued hs (s .limit) (lent .status) (lent .spill) (s .len) queue
+      → Onward w h hs i s lent (s .len) lent queue
+  onward-none queue l q = record {
     joins = λ m. let z : ⊥ = omega arith in absurd z;
     reached = λ m. let z : ⊥ = omega arith in absurd z;
     stays = λ _. refl;
@@ -46,10 +48,9 @@ module _ (w h : ℕ) (hs : List Float) (i : ℕ) (s : Scan) (order status : List
   }
 
   pub onward-some :
-      s .cell < length hs → (len′ : ℕ) (order′ status′ : List ℕ) (spill′ : List Float) (recv′ queue′ : List ℕ) → order′ ≡ set order i (s .cell)
-      → ReachedAll w h hs (s .limit) (s .cell) status spill recv len′ status′ spill′ recv′ queue′
-      → Onward w h hs i s order status spill recv len′ order′ status′ spill′ recv′ queue′
-  onward-some l len′ order′ status′ spill′ recv′ queue′ e x = record {
+      s .cell < length hs → (len′ : ℕ) (lent′ : Flood Float) (queue′ : List ℕ) → lent′ .order ≡ set (lent .order) i (s .cell)
+      → ReachedAll w h hs (s .limit) (s .cell) (slicesOf lent) len′ (slicesOf lent′) queue′ → Onward w h hs i s lent len′ lent′ queue′
+  onward-some l len′ lent′ queue′ e x = record {
     joins = λ _. e;
     reached = λ _. x;
     stays = λ m. let z : ⊥ = omega arith in absurd z;
@@ -144,7 +145,7 @@ module _ (w h : ℕ) (land : Land) (hs : List Float) where
 
         running-leaves :
             (len′ : ℕ) (status″ : List ℕ) (spill″ : List Float) (recv″ order″ queue″ : List ℕ) → length order ≡ w * h → order″ ≡ set order i c
-            → ReachedAll w h hs (t .limit) c status′ spill recv len′ status″ spill″ recv″ queue″
+            → ReachedAll w h hs (t .limit) c (slicesOf (stateOf status′ spill recv order)) len′ (slicesOf (stateOf status″ spill″ recv″ order″)) queue″
             → Running w h land hs (i + 1) (after t len′) status″ spill″ recv″ order″ queue″
         running-leaves len′ status″ spill″ recv″ order″ queue″ n e x = record {
           state =
@@ -152,7 +153,7 @@ module _ (w h : ℕ) (land : Land) (hs : List Float) where
               ∙ x .state (land .distances) _ (take i order ++ (c ∷ []))
               ∙ ap (λ z. Rattle.drainage.specs.Flood.pushAll floats (gridGround w h land hs) hs c (stateOf z spill recv (take i order ++ (c ∷ [])))) (v .marked)
               ∙ sym (step-leaves floats (gridGround w h land hs) hs now-state c leaves-next inside)
-              ∙ ap (step floats (gridGround w h land hs) hs) (r .state)
+              ∙ ap (floodStep floats (gridGround w h land hs) hs) (r .state)
               ∙ sym (floodAfter-more floats (gridGround w h land hs) hs i)
               ∙ ap (floodAfter floats (gridGround w h land hs) hs) (sym (add-one i));
           begun = record { listed = listed-set hs (t .head) (t .limit) order order″ (turned .listed) i c leaver-room e; queued = x .queued };
@@ -175,7 +176,8 @@ module _ (w h : ℕ) (land : Land) (hs : List Float) where
 
       pub running-more :
           length order ≡ w * h → (len′ k : ℕ) (status″ : List ℕ) (spill″ : List Float) (recv″ order″ queue″ : List ℕ)
-          → Onward w h hs i t order status′ spill recv len′ order″ status″ spill″ recv″ queue″ → k ≡ cond (ltb (t .cell) (length hs)) 1 0
+          → Onward w h hs i t (stateOf status′ spill recv order) len′ (stateOf status″ spill″ recv″ order″) queue″
+          → k ≡ cond (ltb (t .cell) (length hs)) 1 0
           → Running w h land hs (i + k) (after t len′) status″ spill″ recv″ order″ queue″
       running-more n len′ k status″ spill″ recv″ order″ queue″ o e = elim (decLt (t .cell) (length hs)) [
         | yes m ↦

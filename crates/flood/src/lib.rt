@@ -16,7 +16,7 @@ ghost use lib.Dec.{ltb};
 ghost use Rattle.grid.specs.Sides.{InRange};
 ghost use Rattle.drainage.specs.Ground.{gridGround, noBase};
 ghost use Rattle.flood_queue.specs.Scans.{Queued};
-ghost use Rattle.flood_start.specs.Slices.{Sizes};
+ghost use Rattle.flood_start.specs.Slices.{stateOf, Sizes};
 ghost use Rattle.flood.specs.Slices.{AcceptedGrid, Flooded};
 ghost use Rattle.flood.specs.Steps.{Leaver, Onward};
 
@@ -38,9 +38,10 @@ fn leave(
     requires { ⌜ Queued (now h) (s .limit) (now status) (now spill) (s .len) (now queue) ⌝ }
     requires { ⌜
         (s .cell < length (now h) → Leaver (now h) (s .limit) (s .cell) i (now status) (now spill) (now order)) ⌝ }
-    ensures { λ r. ⌜ Onward (g .w) (g .h) (now (h .entry)) i s (now (order .entry)) (now (status .entry))
-        (now (spill .entry)) (now (recv .entry)) r (now (order .exit)) (now (status .exit)) (now (spill .exit))
-        (now (recv .exit)) (now (queue .exit)) ⌝ }
+    ensures { λ r. ⌜ Onward (g .w) (g .h) (now (h .entry)) i s
+        (stateOf (now (status .entry)) (now (spill .entry)) (now (recv .entry)) (now (order .entry))) r
+        (stateOf (now (status .exit)) (now (spill .exit)) (now (recv .exit)) (now (order .exit)))
+        (now (queue .exit)) ⌝ }
 {
     let c = s.cell;
     if h.len() <= c {

@@ -20,7 +20,7 @@ use Rattle.loops.proofs.CountLaws.{one-same, one-other, one-bound}
 use Rattle.drainage.proofs.KeptLaws.{getD-inside}
 use Rattle.flood_heap.specs.Queue.{queuePlace, within, Heap, Pushed}
 use Rattle.flood_heap.proofs.RoomLaws.{heap-same, heap-room}
-use Rattle.flood_start.specs.Slices.{stateOf, Sizes}
+use Rattle.flood_start.specs.Slices.{stateOf, FloodSlices, Sizes}
 use Rattle.flood_queue.specs.Scans.{Queued, Level}
 use Rattle.flood_queue.proofs.ScanLaws.{unlike-zero}
 use Rattle.flood_reach.specs.Reaches.{pushedBy, Reached}
@@ -70,7 +70,10 @@ module _ (hs : List Float) (limit : ℕ) (status : List ℕ) (spill : List Float
 
 module _ (hs : List Float) (limit c m : ℕ) (status : List ℕ) (spill : List Float) (recv : List ℕ) (len : ℕ) (queue : List ℕ)
     (q : Queued hs limit status spill len queue) (left : getD status c 0 ≡ 2) where
-  stays : (getD status m 1 ≡ 0 → ⊥) → Reached hs limit c m status spill recv len status spill recv queue
+  abbrev lent : FloodSlices
+  lent = record { status = status; spill = spill; recv = recv }
+
+  stays : (getD status m 1 ≡ 0 → ⊥) → Reached hs limit c m lent len lent queue
   unfolding pushedBy
   stays d = record {
     left = left;
@@ -81,18 +84,21 @@ module _ (hs : List Float) (limit c m : ℕ) (status : List ℕ) (spill : List F
   }
 
   -- outside the grid, or pushed already
-  pub reached-none : length status ≤ m → Reached hs limit c m status spill recv len status spill recv queue
+  pub reached-none : length status ≤ m → Reached hs limit c m lent len lent queue
   reached-none l = stays unlike
     where
       unlike : getD status m 1 ≡ 0 → ⊥
       unlike z = omega (arith, List·getD-eq-default status 1 {n = m} l)
 
-  pub reached-old : m < length status → (getD status m 0 ≡ 0 → ⊥) → Reached hs limit c m status spill recv len status spill recv queue
+  pub reached-old : m < length status → (getD status m 0 ≡ 0 → ⊥) → Reached hs limit c m lent len lent queue
   reached-old l d = stays (λ z. d (getD-inside status m 0 1 l ∙ z))
 
   -- a cell not pushed yet: t and y are the statuses and the spill heights after it
   module _ (l : m < length status) (e : getD status m 0 ≡ 0) (status′ : List ℕ) (spill′ : List Float) (recv′ : List ℕ) (a : status′ ≡ set status m 1)
       (x : Float) (top : x ≡ maxOf (getD spill m nan) (getD spill c nan)) (s : spill′ ≡ set spill m x) (f : recv′ ≡ set recv m c) where
+    abbrev lent′ : FloodSlices
+    lent′ = record { status = status′; spill = spill′; recv = recv′ }
+
     -- its spill height so far is its own height
     r : x ≡ maxOf (getD hs m nan) (getD spill c nan)
     r = top ∙ ap (λ y. maxOf y (getD spill c nan)) (q .unraised m e)
@@ -124,7 +130,7 @@ module _ (hs : List Float) (limit c m : ℕ) (status : List ℕ) (spill : List F
       | inr z ↦ other-spill j z ∙ q .unraised j (sym (other j z) ∙ w)
     ]
 
-    reached : (len′ : ℕ) (queue′ : List ℕ) → Queued hs limit status′ spill′ len′ queue′ → Reached hs limit c m status spill recv len′ status′ spill′ recv′ queue′
+    reached : (len′ : ℕ) (queue′ : List ℕ) → Queued hs limit status′ spill′ len′ queue′ → Reached hs limit c m lent len′ lent′ queue′
     unfolding pushedBy
     reached len′ queue′ q′ = record {
       left = other c apart ∙ left;
@@ -138,7 +144,7 @@ module _ (hs : List Float) (limit c m : ℕ) (status : List ℕ) (spill : List F
     -- one that the scan has not passed waits in the list
     pub reached-listed :
         m < length spill → m < length hs → Level hs limit (getD spill c nan) → limit ≤ queuePlace spill m
-        → Reached hs limit c m status spill recv len status′ spill′ recv′ queue
+        → Reached hs limit c m lent len lent′ queue
     reached-listed b i v o = reached len queue (record {
       heap = respilled hs limit status spill len queue q m e spill′ x s;
       below = λ j k. q .below j k ∙ ap (λ t. oneIf t 1) (sym (other j (under j k)));
@@ -162,7 +168,7 @@ module _ (hs : List Float) (limit c m : ℕ) (status : List ℕ) (spill : List F
     -- another joins the heap
     pub reached-heaped :
         (queue′ : List ℕ) → queuePlace spill m < limit → Pushed (queuePlace spill′) (length spill′) len queue m queue′
-        → Reached hs limit c m status spill recv (len + 1) status′ spill′ recv′ queue′
+        → Reached hs limit c m lent (len + 1) lent′ queue′
     reached-heaped queue′ h p = reached (len + 1) queue′ (record {
       heap = p .heap;
       below = λ j k. p .cells j ∙ elim (same-or-not m j) [

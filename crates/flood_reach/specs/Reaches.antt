@@ -10,7 +10,7 @@ use Rattle.grid_spacing.specs.declared.Distances.{Distances}
 use Rattle.drainage.specs.Ground.{Kind, Ground, floats, groundBy}
 use Rattle.drainage.specs.Flood.{Flood, push, pushAll}
 use Rattle.flood_queue.specs.Scans.{Queued}
-use Rattle.flood_start.specs.Slices.{stateOf}
+use Rattle.flood_start.specs.Slices.{FloodSlices, stateWith}
 
 -- the flood after cell c has reached the cells of a list, in their order
 module _ {H : Type 0} (k : Kind H) (g : Ground) (hs : List H) (c : ℕ) where
@@ -18,27 +18,26 @@ module _ {H : Type 0} (k : Kind H) (g : Ground) (hs : List H) (c : ℕ) where
   pushedBy [] s = s
   pushedBy (m ∷ l) s = pushedBy l (push k g hs c m s)
 
--- Cell c, which has left, has reached the cells of the list `cells`: status′, spill′ and recv′ are the state after
--- that, on any ground and for any order so far, and the queue is as `Queued` states.
-pub record ReachedBy (hs : List Float) (limit c : ℕ) (cells status : List ℕ) (spill : List Float) (recv : List ℕ) (len : ℕ) (status′ : List ℕ)
-    (spill′ : List Float) (recv′ queue′ : List ℕ) : Type 0 where
-  pub left : getD status′ c 0 ≡ 2
-  pub level : getD spill′ c nan ≡ getD spill c nan
-  pub state :
-      (g : Ground) (order : List ℕ) → stateOf status′ spill′ recv′ order ≡ pushedBy floats g hs c cells (stateOf status spill recv order)
-  pub queued : Queued hs limit status′ spill′ len queue′
+-- Cell c, which has left, has reached the cells of the list `cells`: the slices held `before` and hold `after`, the
+-- state after that, on any ground and for any order so far; with `after`, len and queue are as `Queued` states.
+pub record ReachedBy (hs : List Float) (limit c : ℕ) (cells : List ℕ) (before : FloodSlices) (len : ℕ) (after : FloodSlices) (queue : List ℕ)
+    : Type 0 where
+  pub left : getD (after .status) c 0 ≡ 2
+  pub level : getD (after .spill) c nan ≡ getD (before .spill) c nan
+  pub state : (g : Ground) (order : List ℕ) → stateWith after order ≡ pushedBy floats g hs c cells (stateWith before order)
+  pub queued : Queued hs limit (after .status) (after .spill) len queue
 
 -- Cell c has reached cell m.
-abbrev pub Reached : List Float → ℕ → ℕ → ℕ → List ℕ → List Float → List ℕ → ℕ → List ℕ → List Float → List ℕ → List ℕ → Type 0
+abbrev pub Reached : List Float → ℕ → ℕ → ℕ → FloodSlices → ℕ → FloodSlices → List ℕ → Type 0
 Reached hs limit c m = ReachedBy hs limit c (m ∷ [])
 
--- Cell c has reached all its neighbours, whatever cells are base level and whatever the distances.
-pub record ReachedAll (w h : ℕ) (hs : List Float) (limit c : ℕ) (status : List ℕ) (spill : List Float) (recv : List ℕ) (len : ℕ) (status′ : List ℕ)
-    (spill′ : List Float) (recv′ queue′ : List ℕ) : Type 0 where
+-- Cell c has reached all its neighbours, whatever cells are base level and whatever the distances: the slices held
+-- `before` and hold `after`, for any order so far; with `after`, len and queue are as `Queued` states.
+pub record ReachedAll (w h : ℕ) (hs : List Float) (limit c : ℕ) (before : FloodSlices) (len : ℕ) (after : FloodSlices) (queue : List ℕ) : Type 0 where
   pub state :
       (ds : Distances) (base : ℕ → Bool) (order : List ℕ)
-      → stateOf status′ spill′ recv′ order ≡ pushAll floats (groundBy w h ds base) hs c (stateOf status spill recv order)
-  pub queued : Queued hs limit status′ spill′ len queue′
+      → stateWith after order ≡ pushAll floats (groundBy w h ds base) hs c (stateWith before order)
+  pub queued : Queued hs limit (after .status) (after .spill) len queue
 
 -- the cells among near 1, … near d that have not been pushed
 unfoldable pub unpushedTo : (ℕ → ℕ) → List ℕ → ℕ → List ℕ

@@ -42,8 +42,10 @@ fn reach(
     requires { ⌜ c < length (now h) ⌝ }
     requires { ⌜ getD (now status) c 0 ≡ 2 ⌝ }
     requires { ⌜ Level (now h) limit (getD (now spill) c nan) ⌝ }
-    ensures { λ r. ⌜ Reached (now (h .entry)) limit c m (now (status .entry)) (now (spill .entry)) (now (recv .entry)) r
-        (now (status .exit)) (now (spill .exit)) (now (recv .exit)) (now (queue .exit)) ⌝ }
+    ensures { λ r. ⌜ Reached (now (h .entry)) limit c m
+        (record { status = now (status .entry); spill = now (spill .entry); recv = now (recv .entry) }) r
+        (record { status = now (status .exit); spill = now (spill .exit); recv = now (recv .exit) })
+        (now (queue .exit)) ⌝ }
 {
     if status.len() <= m {
         return len;
@@ -125,8 +127,9 @@ fn reach_found(
     requires { ⌜ c < length (now h) ⌝ }
     requires { ⌜ getD (now status) c 0 ≡ 2 ⌝ }
     requires { ⌜ Level (now h) limit (getD (now spill) c nan) ⌝ }
-    ensures { λ r. ⌜ ReachedBy (now (h .entry)) limit c (take some (now (found .entry))) (now (status .entry))
-        (now (spill .entry)) (now (recv .entry)) r (now (status .exit)) (now (spill .exit)) (now (recv .exit))
+    ensures { λ r. ⌜ ReachedBy (now (h .entry)) limit c (take some (now (found .entry)))
+        (record { status = now (status .entry); spill = now (spill .entry); recv = now (recv .entry) }) r
+        (record { status = now (status .exit); spill = now (spill .exit); recv = now (recv .exit) })
         (now (queue .exit)) ⌝ }
 {
     let mut waiting = len;
@@ -157,8 +160,10 @@ pub fn reach_all(
     requires { ⌜ c < g .w * g .h ⌝ }
     requires { ⌜ getD (now status) c 0 ≡ 2 ⌝ }
     requires { ⌜ Level (now h) limit (getD (now spill) c nan) ⌝ }
-    ensures { λ r. ⌜ ReachedAll (g .w) (g .h) (now (h .entry)) limit c (now (status .entry)) (now (spill .entry))
-        (now (recv .entry)) r (now (status .exit)) (now (spill .exit)) (now (recv .exit)) (now (queue .exit)) ⌝ }
+    ensures { λ r. ⌜ ReachedAll (g .w) (g .h) (now (h .entry)) limit c
+        (record { status = now (status .entry); spill = now (spill .entry); recv = now (recv .entry) }) r
+        (record { status = now (status .exit); spill = now (spill .exit); recv = now (recv .exit) })
+        (now (queue .exit)) ⌝ }
 {
     let mut found: [usize; 8] = [0; 8];
     if is_inner(g, c) {

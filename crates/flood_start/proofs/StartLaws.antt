@@ -11,7 +11,7 @@ use Rattle.loops.proofs.TableLaws.{length-tabulate, getD-tabulate}
 use Rattle.grid.specs.Sides.{cellOf}
 use Rattle.grid.specs.Base.{baseOn}
 use Rattle.grid.proofs.BaseLaws.{base-cell}
-use Rattle.drainage.specs.Flood.{Flood, start}
+use Rattle.drainage.specs.Flood.{Flood, floodStart}
 use Rattle.drainage.specs.declared.Land.{Land}
 use Rattle.flood_start.specs.Slices.{stateOf, markOf, Started}
 
@@ -29,14 +29,14 @@ module _ (w h : ℕ) (hs : List Float) (land : Land) where
 pub started :
     (w h : ℕ) (land : Land) (hs : List Float) (status : List ℕ) (spill : List Float) (recv : List ℕ) → status ≡ tabulate (w * h) (marks w h hs land)
     → spill ≡ hs → recv ≡ tabulate (w * h) (λ c. c) → Started w h land hs status spill recv
-unfolding start
+unfolding floodStart
 started w h land hs status spill recv a b c = record { state = λ i. stateOf (a i) (b i) (c i) [] }
 
 -- at the start no cell has left
 pub started-fresh :
     (w h : ℕ) (land : Land) (hs : List Float) (status : List ℕ) (spill : List Float) (recv : List ℕ) → Started w h land hs status spill recv
     → (c : ℕ) → getD status c 0 ≡ 2 → ⊥
-unfolding start
+unfolding floodStart
 started-fresh w h land hs status spill recv s c e = elim (native.Mathlib.Decide.decLt c (w * h)) [
   | yes l ↦ marked (baseOn w h (land .sides) (land .«water_level») hs c) (sym (at ∙ getD-tabulate (marks w h hs land) (w * h) c 0 l) ∙ e)
   | no l ↦ unlike (sym (at ∙ List·getD-eq-default (tabulate (w * h) (marks w h hs land)) 0 {n = c} (omega (arith, length-tabulate (marks w h hs land) (w * h)))) ∙ e)
@@ -54,5 +54,5 @@ started-fresh w h land hs status spill recv s c e = elim (native.Mathlib.Decide.
 
 pub started-spill :
     (w h : ℕ) (land : Land) (hs : List Float) (status : List ℕ) (spill : List Float) (recv : List ℕ) → Started w h land hs status spill recv → spill ≡ hs
-unfolding start
+unfolding floodStart
 started-spill w h land hs status spill recv s = ap (λ (t : Flood Float). t .spill) (s .state)

@@ -10,11 +10,25 @@ use Rattle.loops.specs.Loops.{turns}
 use Rattle.grid.specs.Sides.{cellOf}
 use Rattle.grid.specs.Base.{baseAt}
 use Rattle.drainage.specs.Ground.{floats, gridGround}
-use Rattle.drainage.specs.Flood.{Flood, start}
+use Rattle.drainage.specs.Flood.{Flood, floodStart}
 use Rattle.drainage.specs.declared.Land.{Land}
 
 abbrev pub stateOf : List ℕ → List Float → List ℕ → List ℕ → Flood Float
 stateOf status spill recv order = record { status = status; spill = spill; discoverer = recv; order = order }
+
+-- What the slices status, spill and recv hold: the state of a flood without its order.
+pub record FloodSlices : Type 0 where
+  pub status : List ℕ
+  pub spill : List Float
+  pub recv : List ℕ
+
+-- the state of these slices and an order
+abbrev pub stateWith : FloodSlices → List ℕ → Flood Float
+stateWith slices order = stateOf (slices .status) (slices .spill) (slices .recv) order
+
+-- the slices of a state, without its order
+abbrev pub slicesOf : Flood Float → FloodSlices
+slicesOf s = record { status = s .status; spill = s .spill; recv = s .discoverer }
 
 -- hs, status, spill and recv have n entries, at most 2 ^ 24, and the queue has at least n.
 pub record Sizes (n : ℕ) (hs : List Float) (status : List ℕ) (spill : List Float) (recv queue : List ℕ) : Type 0 where
@@ -39,4 +53,4 @@ rowMarked w h hs land y = rowBy w (λ x y l. markOf w h land x y (getD hs (cellO
 
 -- The slices hold the first state of the flood.
 pub record Started (w h : ℕ) (land : Land) (hs : List Float) (status : List ℕ) (spill : List Float) (recv : List ℕ) : Type 0 where
-  pub state : stateOf status spill recv [] ≡ start floats (gridGround w h land hs) hs
+  pub state : stateOf status spill recv [] ≡ floodStart floats (gridGround w h land hs) hs

@@ -7,7 +7,7 @@ use Rattle.grid.specs.Directions.{neighbourOf}
 use Rattle.grid.specs.Heights.{firstNotFinite, allFinite}
 use Rattle.square_root.specs.Root.{rootOf, nearestRoot, wholeRoot, digits}
 use Rattle.generators.specs.Marks.{reportOf}
-use Rattle.drainage.specs.Flood.{start, step, leastWaiting, pushAll, floodAfter}
+use Rattle.drainage.specs.Flood.{floodStart, floodStep, leastWaiting, pushAll, floodAfter}
 use Rattle.drainage.specs.Receivers.{receivers, receiverOf, steepestOf, directionTo}
 use Rattle.loops.specs.Counts.{times}
 use Rattle.drainage.specs.Ways.{areasAlong}
@@ -24,5 +24,5 @@ use Rattle.upsample.specs.Samples.{addedOf}
 use Rattle.plates.specs.Plates.{AllPlates}
 
 pub all-plates : AllPlates
-unfolding ofBits toBits ofInt round add sub mul div lt le toUnsigned turns tabulate wholeBy neighbourOf firstNotFinite allFinite rootOf nearestRoot wholeRoot digits reportOf start step leastWaiting pushAll floodAfter receivers receiverOf steepestOf directionTo areasAlong times firstFailing goodReceiver goodEntry incisedBy inciseAlong shedTo shedStep shedOf gainTo gainStep gainsOf slideCell slideRow rowsOf workSize scaledSide rowSum blockSum averageOf downsampled bilinearOf addedOf
+unfolding ofBits toBits ofInt round add sub mul div lt le toUnsigned turns tabulate wholeBy neighbourOf firstNotFinite allFinite rootOf nearestRoot wholeRoot digits reportOf floodStart floodStep leastWaiting pushAll floodAfter receivers receiverOf steepestOf directionTo areasAlong times firstFailing goodReceiver goodEntry incisedBy inciseAlong shedTo shedStep shedOf gainTo gainStep gainsOf slideCell slideRow rowsOf workSize scaledSide rowSum blockSum averageOf downsampled bilinearOf addedOf
 all-plates = (refl, (refl, (refl, (refl, (refl, (refl, (refl, (refl, (refl, (refl, (refl, (refl, (refl, tt)))))))))))))

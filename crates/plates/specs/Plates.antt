@@ -33,8 +33,8 @@ AllHold [] = Unit
 AllHold (p ∷ ps) = Holds p × AllHold ps
 
 -- the numbers of the table: whole ones, and those with a fraction by their bits
-abbrev pub floats : List ℕ → List Float
-floats = map whole
+abbrev pub wholes : List ℕ → List Float
+wholes = map whole
 
 abbrev pub ¼ : Float
 ¼ = ofBits binary32 0x3e80_0000
@@ -56,50 +56,50 @@ abbrev pub Left : Type 0
 Left = Outcome (Unit {0}) × List Float
 
 -- a slice of n values as it is lent to a call: every value is a NaN
-abbrev pub lent : ℕ → List Float
-lent n = replicate n nan
+abbrev pub lentSlice : ℕ → List Float
+lentSlice n = replicate n nan
 
 -- 3 × 3 heights, water 0: the answer and the order, with the receiver of a cell
 abbrev pub routed : List ℕ → ℕ → (Outcome (Unit {0}) × List ℕ) × ℕ
 routed heights cell =
-    let hs : List Float = floats heights in
+    let hs : List Float = wholes heights in
     let zeros : List ℕ = replicate 9 0 in (
-      (routeAnswer 3 3 hs (whole 0) (lentOf hs zeros zeros (lent 9) (lent 9) zeros zeros), orderOn (gridGround 3 3 (squareLand (whole 0))) hs),
+      (routeAnswer 3 3 hs (whole 0) (lentOf hs zeros zeros (lentSlice 9) (lentSlice 9) zeros zeros), orderOn (gridGround 3 3 (squareLand (whole 0))) hs),
       getD (receiversOn (gridGround 3 3 (squareLand (whole 0))) hs) cell 0,
     )
 
 -- the same as `routed`, with the cell's spill height and another cell's area besides
 abbrev pub drained : List ℕ → ℕ → ℕ → ((Outcome (Unit {0}) × List ℕ) × ℕ) × (Float × Float)
 drained heights cell other =
-    let hs : List Float = floats heights in
+    let hs : List Float = wholes heights in
     (routed heights cell, (getD (spillOn (gridGround 3 3 (squareLand (whole 0))) hs) cell nan, getD (areasOn (gridGround 3 3 (squareLand (whole 0))) hs) other nan))
 
 -- 1 × 1: a height, water 0, k 1, an uplift
 abbrev pub incise : ℕ → Float → Left
 incise height uplift =
-    let hs : List Float = floats (height ∷ []) in
+    let hs : List Float = wholes (height ∷ []) in
     let p : FluvialParams = record { k = whole 1; uplift = uplift; «water_level» = whole 0 } in
     let own : List ℕ = 0 ∷ [] in
-    (inciseAnswer 1 1 hs p own own 1 1, inciseRefusal 1 1 hs p own own 1 1 (λ _. lent 1) (λ _ _. lent 1) (incised 1 1 hs p own own))
+    (inciseAnswer 1 1 hs p own own 1 1, inciseRefusal 1 1 hs p own own 1 1 (λ _. lentSlice 1) (λ _ _. lentSlice 1) (incised 1 1 hs p own own))
 
 -- 1 0 (2 × 1): a threshold, strength 0.5, a water level; reported from 0 to 1 from the fresh record, and never stopped
 abbrev pub slide : Float → ℕ → Left
 slide threshold water =
-    let hs : List Float = floats (1 ∷ 0 ∷ []) in
+    let hs : List Float = wholes (1 ∷ 0 ∷ []) in
     let p : ThermalParams = record { threshold = threshold; strength = ½; «water_level» = whole water } in (
       slideRefusal 2 1 hs 2 p (whole 0) (whole 1) fresh refused refusedAt (passAnswer (passOf 2 1 p hs (whole 0) (whole 1) 0 fresh)),
-      slideRefusal 2 1 hs 2 p (whole 0) (whole 1) fresh (λ _. lent 2) (λ _ _. lent 2) (passOf 2 1 p hs (whole 0) (whole 1) 0 fresh .out),
+      slideRefusal 2 1 hs 2 p (whole 0) (whole 1) fresh (λ _. lentSlice 2) (λ _ _. lentSlice 2) (passOf 2 1 p hs (whole 0) (whole 1) 0 fresh .out),
     )
 
 -- 1 3 5 (3 × 1) to 2 × 1
 abbrev pub downsample : Left
-downsample = (downsampleAnswer (floats (1 ∷ 3 ∷ 5 ∷ [])) 3 1 2 2 1, downsampleResult (floats (1 ∷ 3 ∷ 5 ∷ [])) 3 1 (lent 2) 2 1)
+downsample = (downsampleAnswer (wholes (1 ∷ 3 ∷ 5 ∷ [])) 3 1 2 2 1, downsampleResult (wholes (1 ∷ 3 ∷ 5 ∷ [])) 3 1 (lentSlice 2) 2 1)
 
 -- 0 4 (2 × 1) to 0 0 0 0 (4 × 1)
 abbrev pub add : Left
 add =
-    let map : List Float = floats (0 ∷ 0 ∷ 0 ∷ 0 ∷ []) in
-    let delta : List Float = floats (0 ∷ 4 ∷ []) in
+    let map : List Float = wholes (0 ∷ 0 ∷ 0 ∷ 0 ∷ []) in
+    let delta : List Float = wholes (0 ∷ 4 ∷ []) in
     (addAnswer map 4 1 delta 2 1, addHeights map 4 1 delta 2 1)
 
 -- the table, line by line
@@ -115,9 +115,9 @@ plates =
     ∷ (slide ½ 2 ⇒ (gives tt, whole 1 ∷ whole 0 ∷ []))
     ∷ (workAnswer 4 3 2 ⇒ gives (record { w = 2; h = 2 }))
     ∷ (workAnswer 513 513 512 ⇒ gives (record { w = 512; h = 512 }))
-    ∷ (downsample ⇒ (gives tt, floats (2 ∷ 5 ∷ [])))
-    ∷ (add ⇒ (gives tt, floats (0 ∷ 1 ∷ 3 ∷ 4 ∷ [])))
-    ∷ (bilinearAnswer (floats (1 ∷ 2 ∷ 3 ∷ 4 ∷ [])) 1½ ½ 2 2 ⇒ gives 2½)
+    ∷ (downsample ⇒ (gives tt, wholes (2 ∷ 5 ∷ [])))
+    ∷ (add ⇒ (gives tt, wholes (0 ∷ 1 ∷ 3 ∷ 4 ∷ [])))
+    ∷ (bilinearAnswer (wholes (1 ∷ 2 ∷ 3 ∷ 4 ∷ [])) 1½ ½ 2 2 ⇒ gives 2½)
     ∷ []
 
 -- All 13 hold. Proved in proofs/PlateLaws.antt.

@@ -21,6 +21,9 @@ ghost use Rattle.grid_spacing.specs.Distances.{nineOf};
 ghost use Rattle.receiver_blocks.specs.Runs.{offsetFrom, discovererAs, steepestFrom, steepestAt, NearDiscoverers};
 ghost use Rattle.receiver_blocks.specs.Runs.{Begun, Leads, Stored, RunReceived};
 
+// The cells of a block: their offsets and slopes, 512 bytes, stay in the nearest cache while all directions are done.
+pub const BLOCK: usize = 64;
+
 // The offset of cell m for an inner cell c on a grid of that width: m minus the north-west neighbour of c. It has as
 // many bits as a slope, so that as many offsets as slopes are selected at a time.
 fn offset(width: usize, c: usize, m: usize) -> u32
@@ -62,8 +65,8 @@ fn discoverer_block(
     recv: &[u32],
     c: usize,
     n: usize,
-    cells: &mut [u32; 64],
-    slopes: &mut [f32; 64],
+    cells: &mut [u32; BLOCK],
+    slopes: &mut [f32; BLOCK],
 )
     requires { ⌜ InnerRun (size .w) (size .h) c n ⌝ }
     requires { ⌜ NearDiscoverers (size .w) (size .h) c (c + n) (now recv) ⌝ }
@@ -114,8 +117,8 @@ fn steepest_block(
     spill: &[f32],
     c: usize,
     n: usize,
-    cells: &mut [u32; 64],
-    slopes: &[f32; 64],
+    cells: &mut [u32; BLOCK],
+    slopes: &[f32; BLOCK],
 )
     requires { ⌜ InnerRun (size .w) (size .h) c n ⌝ }
     requires { ⌜ length (now spill) ≡ size .w * size .h ⌝ }
@@ -148,7 +151,7 @@ fn receiver_inside(size: Sides, c: usize, f: u32, offset: u32) -> u32
 }
 
 // The receivers of n inner cells from cell c on in the place of their discoverers, by the offsets in `cells`.
-fn store_block(size: Sides, recv: &mut [u32], c: usize, n: usize, cells: &[u32; 64])
+fn store_block(size: Sides, recv: &mut [u32], c: usize, n: usize, cells: &[u32; BLOCK])
     requires { ⌜ InnerRun (size .w) (size .h) c n ⌝ }
     requires { ⌜ length (now recv) ≡ size .w * size .h ⌝ }
     requires { ⌜ n ≤ 64 ⌝ }
@@ -183,8 +186,8 @@ pub fn receive_block(
     ensures { λ _. ⌜ RunReceived ds (size .w) (size .h) (now (spill .entry)) c (c + n) (now (recv .entry))
         (now (recv .exit)) ⌝ }
 {
-    let mut cells: [u32; 64] = [0; 64];
-    let mut slopes: [f32; 64] = [0.0; 64];
+    let mut cells: [u32; BLOCK] = [0; BLOCK];
+    let mut slopes: [f32; BLOCK] = [0.0; BLOCK];
     discoverer_block(
         size,
         ds,

@@ -5,6 +5,7 @@ use grid_inner::inner_cells;
 use grid_spacing::Distances;
 use grid_spacing::direction_distances;
 use receiver::receiver;
+use receiver_blocks::BLOCK;
 use receiver_blocks::receive_block;
 use receiver_steps::place_distances;
 ghost use Prim.Native.Nat.{ℕ, _+_, _*_, _≤_, _<_};
@@ -41,9 +42,9 @@ fn receive_inner_cells(
         (now (recv .exit)) ⌝ }
 {
     let mut i: usize = 0;
-    while 64 <= n - i {
-        receive_block(size, ds, by_place, by_direction, spill, recv, c + i, 64);
-        i += 64;
+    while BLOCK <= n - i {
+        receive_block(size, ds, by_place, by_direction, spill, recv, c + i, BLOCK);
+        i += BLOCK;
     }
     receive_block(size, ds, by_place, by_direction, spill, recv, c + i, n - i);
 }

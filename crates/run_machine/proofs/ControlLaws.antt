@@ -23,7 +23,7 @@ use Rattle.drainage.specs.declared.Land.{Land}
 use Rattle.drainage.proofs.GroundLaws.{north-based, grid-networks}
 use Rattle.loops.proofs.CountLaws.{bit, times-append, times-here}
 use Rattle.drainage.proofs.WorkListLaws.{below-of}
-use Rattle.drainage.specs.Flood.{start, step, leastWaiting, pushAll, floodAfter}
+use Rattle.drainage.specs.Flood.{floodStart, floodStep, leastWaiting, pushAll, floodAfter}
 use Rattle.drainage.specs.Receivers.{receivers, receiverOf, steepestOf, directionTo}
 use Rattle.loops.specs.Counts.{times}
 use Rattle.drainage.specs.Ways.{WorkList, areasAlong}
@@ -81,7 +81,7 @@ own-receivers routed long fit all c h = go c h
     go (suc (suc c)) h = let v : ⊥ = omega arith in absurd v
 
 accepted-map : AcceptedMap 2 1 map
-unfolding ofBits toBits ofInt round add sub mul div lt le toUnsigned turns tabulate ceilOf wholeBy neighbourOf firstNotFinite allFinite rootOf nearestRoot wholeRoot digits reportOf start step leastWaiting pushAll floodAfter receivers receiverOf steepestOf directionTo areasAlong incisedBy inciseAlong incisionBy shedTo shedOf gainTo gainsOf slideCell slideRow workSize scaledSide downsampled averageOf after Machine.step
+unfolding ofBits toBits ofInt round add sub mul div lt le toUnsigned turns tabulate ceilOf wholeBy neighbourOf firstNotFinite allFinite rootOf nearestRoot wholeRoot digits reportOf floodStart floodStep leastWaiting pushAll floodAfter receivers receiverOf steepestOf directionTo areasAlong incisedBy inciseAlong incisionBy shedTo shedOf gainTo gainsOf slideCell slideRow workSize scaledSide downsampled averageOf after Machine.step
 accepted-map = record { sides = refl; long = refl; finite = refl }
 
 premise : (it : ℕ) (routed : List Float) → RunRoutes 2 1 settings 0 map (lent lists) it routed → WorkList 2 (receiversOn (groundOf 2 1 settings 0 map) routed) (lists it)
@@ -91,7 +91,7 @@ premise it routed r =
     own-work-list 2 (receiversOn (gridGround 2 1 land) routed) (1 ∷ 0 ∷ []) (own-receivers routed (z .0 .long) (z .0 .fit) (z .1)) each-once no-other
 
 pub other-lists : OtherLists
-unfolding ofBits toBits ofInt round add sub mul div lt le toUnsigned turns tabulate ceilOf wholeBy neighbourOf firstNotFinite allFinite rootOf nearestRoot wholeRoot digits reportOf start step leastWaiting pushAll floodAfter receivers receiverOf steepestOf directionTo areasAlong incisedBy inciseAlong incisionBy shedTo shedOf gainTo gainsOf slideCell slideRow workSize scaledSide downsampled averageOf after Machine.step runBy
+unfolding ofBits toBits ofInt round add sub mul div lt le toUnsigned turns tabulate ceilOf wholeBy neighbourOf firstNotFinite allFinite rootOf nearestRoot wholeRoot digits reportOf floodStart floodStep leastWaiting pushAll floodAfter receivers receiverOf steepestOf directionTo areasAlong incisedBy inciseAlong incisionBy shedTo shedOf gainTo gainsOf slideCell slideRow workSize scaledSide downsampled averageOf after Machine.step runBy
 other-lists = record {
   first-routes = record { started = refl; routes = record { done = 0; goes-on = refl; due = omega arith; entered = refl; unopened = refl; unstopped = refl; heights = refl } };
   second-routes = record { started = refl; routes = record { done = 2; goes-on = refl; due = omega arith; entered = refl; unopened = refl; unstopped = refl; heights = refl } };

@@ -54,7 +54,7 @@ module _ (c : Course) (s : State) where
   -- row r, its copy and its question, after p
   abbrev next : ℕ → Pass → Pass
   next r p =
-      SlidePass.rowStep (c .w) (c .h) (c .thresholds) (c .strength) (c .water) (s .heights) (c .begins (s .iteration) (s .pass))
+      SlidePass.passRow (c .w) (c .h) (c .thresholds) (c .strength) (c .water) (s .heights) (c .begins (s .iteration) (s .pass))
       (c .begins (s .iteration) (suc (s .pass))) (c .stop) r p
 
   abbrev made : ℕ → Pass → List Float

@@ -9,7 +9,7 @@ use Rattle.grid.specs.Directions.{neighbourOf}
 use Rattle.grid.specs.Heights.{firstNotFinite, allFinite}
 use Rattle.square_root.specs.Root.{rootOf, nearestRoot, wholeRoot, digits}
 use Rattle.generators.specs.Marks.{reportOf}
-use Rattle.drainage.specs.Flood.{start, step, leastWaiting, pushAll, floodAfter}
+use Rattle.drainage.specs.Flood.{floodStart, floodStep, leastWaiting, pushAll, floodAfter}
 use Rattle.drainage.specs.Receivers.{receivers, receiverOf, steepestOf, directionTo}
 use Rattle.drainage.specs.Ways.{areasAlong}
 use Rattle.fluvial_erosion.specs.Incision.{incisedBy, inciseAlong}
@@ -28,13 +28,13 @@ abbrev sample : ℕ → Ran
 sample stop = runBy 1 1 settings stop ours (ofBits binary32 0x3f80_0000 ∷ [])
 
 sample-0 : sample 0 ≡ record { number = 0; incisions = 1; passes = 1; questions = 2; map = ofBits binary32 0x3f7c_0fc1 ∷ [] }
-unfolding runBy ofBits toBits ofInt round add sub mul div lt le toUnsigned turns tabulate ceilOf wholeBy neighbourOf firstNotFinite allFinite rootOf nearestRoot wholeRoot digits reportOf start step leastWaiting pushAll floodAfter receivers receiverOf steepestOf directionTo areasAlong incisedBy inciseAlong incisionBy shedTo shedOf gainTo gainsOf slideCell slideRow workSize scaledSide downsampled averageOf after Machine.step
+unfolding runBy ofBits toBits ofInt round add sub mul div lt le toUnsigned turns tabulate ceilOf wholeBy neighbourOf firstNotFinite allFinite rootOf nearestRoot wholeRoot digits reportOf floodStart floodStep leastWaiting pushAll floodAfter receivers receiverOf steepestOf directionTo areasAlong incisedBy inciseAlong incisionBy shedTo shedOf gainTo gainsOf slideCell slideRow workSize scaledSide downsampled averageOf after Machine.step
 sample-0 = refl
 
 sample-1 : sample 1 ≡ record { number = 21; incisions = 0; passes = 0; questions = 1; map = ofBits binary32 0x3f80_0000 ∷ [] }
-unfolding runBy ofBits toBits ofInt round add sub mul div lt le toUnsigned turns tabulate ceilOf wholeBy neighbourOf firstNotFinite allFinite rootOf nearestRoot wholeRoot digits reportOf start step leastWaiting pushAll floodAfter receivers receiverOf steepestOf directionTo areasAlong incisedBy inciseAlong incisionBy shedTo shedOf gainTo gainsOf slideCell slideRow workSize scaledSide downsampled averageOf after Machine.step
+unfolding runBy ofBits toBits ofInt round add sub mul div lt le toUnsigned turns tabulate ceilOf wholeBy neighbourOf firstNotFinite allFinite rootOf nearestRoot wholeRoot digits reportOf floodStart floodStep leastWaiting pushAll floodAfter receivers receiverOf steepestOf directionTo areasAlong incisedBy inciseAlong incisionBy shedTo shedOf gainTo gainsOf slideCell slideRow workSize scaledSide downsampled averageOf after Machine.step
 sample-1 = refl
 
 sample-2 : sample 2 ≡ record { number = 21; incisions = 1; passes = 0; questions = 2; map = ofBits binary32 0x3f7c_0fc1 ∷ [] }
-unfolding runBy ofBits toBits ofInt round add sub mul div lt le toUnsigned turns tabulate ceilOf wholeBy neighbourOf firstNotFinite allFinite rootOf nearestRoot wholeRoot digits reportOf start step leastWaiting pushAll floodAfter receivers receiverOf steepestOf directionTo areasAlong incisedBy inciseAlong incisionBy shedTo shedOf gainTo gainsOf slideCell slideRow workSize scaledSide downsampled averageOf after Machine.step
+unfolding runBy ofBits toBits ofInt round add sub mul div lt le toUnsigned turns tabulate ceilOf wholeBy neighbourOf firstNotFinite allFinite rootOf nearestRoot wholeRoot digits reportOf floodStart floodStep leastWaiting pushAll floodAfter receivers receiverOf steepestOf directionTo areasAlong incisedBy inciseAlong incisionBy shedTo shedOf gainTo gainsOf slideCell slideRow workSize scaledSide downsampled averageOf after Machine.step
 sample-2 = refl

@@ -20,7 +20,7 @@ use Rattle.grid.proofs.SidesLaws.{column-cell, row-cell, cell-lt, cells-bound, 
 use Rattle.grid.proofs.HeightsLaws.{all-at}
 use Rattle.grid.proofs.WalkLaws.{Sought}
 use Rattle.stream_rows.proofs.RowLaws.{rows-end}
-use Rattle.stream_rows.specs.Rows.{heightAt, rowHeights, cellAt, heightsAt, Framed}
+use Rattle.stream_rows.specs.Rows.{heightAt, rowHeights, cellHeight, heightsAt, Framed}
 
 module _ {s : List ℕ} {rows w h : ℕ} (f : Framed s rows w h) where
   pub cells-few : w * h ≤ 2 ^ 24
@@ -36,11 +36,11 @@ module _ {s : List ℕ} {rows w h : ℕ} (f : Framed s rows w h) where
 module _ (s : List ℕ) (rows w : ℕ) where
   pub heights-length : (h : ℕ) → length (heightsAt s rows w h) ≡ w * h
   unfolding heightsAt
-  heights-length h = length-tabulate (cellAt s rows w) (w * h)
+  heights-length h = length-tabulate (cellHeight s rows w) (w * h)
 
   -- one row more of the map
-  pub rows-more : (y : ℕ) {old now row : List Float} → Filling (cellAt s rows w) (y * w) old now → y * w + w ≤ length old → row ≡ rowHeights s rows w y
-      → Filling (cellAt s rows w) ((y + 1) * w) old (putMid (y * w) (y * w + w - y * w) now row)
+  pub rows-more : (y : ℕ) {old now row : List Float} → Filling (cellHeight s rows w) (y * w) old now → y * w + w ≤ length old → row ≡ rowHeights s rows w y
+      → Filling (cellHeight s rows w) ((y + 1) * w) old (putMid (y * w) (y * w + w - y * w) now row)
   unfolding rowHeights
   rows-more y p inside e = stored-row-at (heightAt s rows w) w y p inside e
 
@@ -53,7 +53,7 @@ module _ (s : List ℕ) (rows w : ℕ) where
       ∙ ap finite
       (e
       ∙ sym (ap₂ (heightAt s rows w) (column-cell w x y hx) (row-cell w x y hx))
-      ∙ sym (getD-tabulate (cellAt s rows w) (w * h) (cellOf w x y) nan (cell-lt w x y hx h hy)))
+      ∙ sym (getD-tabulate (cellHeight s rows w) (w * h) (cellOf w x y) nan (cell-lt w x y hx h hy)))
 
   -- a row whose heights are all finite is behind the search
   pub row-sought : (h : ℕ) {y : ℕ} → y < h → Sought w (heightsAt s rows w h) 0 y → {b : Bool} → b ≡ allFinite (rowHeights s rows w y) → b ≡ true

@@ -32,13 +32,13 @@ unfolding number4 tabulate
 rowHeights s rows w y = tabulate w (λ x. heightAt s rows w x y)
 
 -- the height of cell i
-abbrev pub cellAt : List ℕ → ℕ → ℕ → ℕ → Float
-cellAt s rows w i = heightAt s rows w (columnOf w i) (rowOf w i)
+abbrev pub cellHeight : List ℕ → ℕ → ℕ → ℕ → Float
+cellHeight s rows w i = heightAt s rows w (columnOf w i) (rowOf w i)
 
 -- the heights of all cells, row by row
 unfoldable pub heightsAt : List ℕ → ℕ → ℕ → ℕ → List Float
 unfolding number4 tabulate
-heightsAt s rows w h = tabulate (w * h) (cellAt s rows w)
+heightsAt s rows w h = tabulate (w * h) (cellHeight s rows w)
 
 -- the rows of a w × h grid in range begin at byte `rows` and fill the stream s to its end
 pub record Framed (s : List ℕ) (rows w h : ℕ) : Type 0 where

@@ -8,14 +8,14 @@ use lib.ListN.{length, length-append}
 use lib.Seq.{sets, length-sets, length-take-le}
 use Rattle.stream_bytes.specs.Bytes.{number4, bytes4}
 use Rattle.stream_bytes.proofs.PutLaws.{Putting, putting-none, putting-more}
-use Rattle.stream_words.specs.Words.{Part, wordAt, wordBytes, fitting}
+use Rattle.stream_words.specs.Words.{HasFront, wordAt, wordBytes, fitting}
 
 -- a length within a list
-pub part : {A : Type 0} (n : ℕ) (l : List A) → n ≤ length l → Part n l
+pub part : {A : Type 0} (n : ℕ) (l : List A) → n ≤ length l → HasFront n l
 part n l h = (h, sym (length-take-le n l h))
 
 -- a length cut to that of a buffer, whatever the buffer holds
-pub held : {A : Type 0} (n : ℕ) (buffer : List A) {r : ℕ} → r ≡ min n (length buffer) → Part r buffer × (r ≡ min n (length buffer))
+pub held : {A : Type 0} (n : ℕ) (buffer : List A) {r : ℕ} → r ≡ min n (length buffer) → HasFront r buffer × (r ≡ min n (length buffer))
 held n buffer {r} e = (part r buffer (omega arith), e)
 
 -- a word that has ended, and one that has not
@@ -45,7 +45,7 @@ module _ (f : ℕ → ℕ) {old : List ℕ} {at n : ℕ} where
 
 -- the words that fit, written to the front, whatever they are the words of
 pub into : {A : Type 0} (v : List A) (old : List ℕ) (f : ℕ → ℕ) {r : ℕ} {new : List ℕ} → r ≡ fitting v old → new ≡ sets old 0 (wordBytes r f)
-    → Part (4 * r) new × ((4 * r ≡ 4 * fitting v old) × (new ≡ sets old 0 (wordBytes (fitting v old) f)))
+    → HasFront (4 * r) new × ((4 * r ≡ 4 * fitting v old) × (new ≡ sets old 0 (wordBytes (fitting v old) f)))
 into v old f {r} {new} e g =
     let s : length new ≡ length old = ap length g ∙ length-sets old 0 (wordBytes r f) in
     (part (4 * r) new (omega arith), (ap (λ (z : ℕ). 4 * z) e, g ∙ ap (λ (z : ℕ). sets old 0 (wordBytes z f)) e))

@@ -10,8 +10,8 @@ use Rattle.stream_bytes.specs.Bytes.{number4, bytes4}
 
 -- a list has n values at its front. The second fact follows from the first; taking the first n values of a slice
 -- requires both
-abbrev pub Part : {A : Type 0} → ℕ → List A → Type 0
-Part n l = (n ≤ length l) × (n ≡ length (take n l))
+abbrev pub HasFront : {A : Type 0} → ℕ → List A → Type 0
+HasFront n l = (n ≤ length l) × (n ≡ length (take n l))
 
 -- the word at a place, 0 where the bytes have ended
 abbrev pub wordAt : List ℕ → ℕ → ℕ

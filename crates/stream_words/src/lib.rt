@@ -10,7 +10,7 @@ ghost use Prim.Native.Nat.{_+_, _*_, _≤_, min};
 ghost use lib.ListN.{length, replicate};
 ghost use lib.Seq.{sets};
 ghost use Rattle.loops.specs.Loops.{tabulate};
-ghost use Rattle.stream_words.specs.Words.{wordAt, floatAt, bitsAt, cellAt, wordBytes, fitting, Part};
+ghost use Rattle.stream_words.specs.Words.{wordAt, floatAt, bitsAt, cellAt, wordBytes, fitting, HasFront};
 
 // The values of the longest slice of the replay list.
 const LONGEST: usize = 10500;
@@ -47,21 +47,21 @@ pub fn as_index(x: u32) -> usize
 // Returns n, or the length of the buffer if that is less. The first fact is what taking so many values of the buffer
 // requires.
 pub fn floats_held(n: u32, buffer: &[f32]) -> usize
-    ensures { λ r. ⌜ Part r (now (buffer .entry)) ⌝ }
+    ensures { λ r. ⌜ HasFront r (now (buffer .entry)) ⌝ }
     ensures { λ r. ⌜ r ≡ min n (length (now (buffer .entry))) ⌝ }
 {
     least(n as usize, buffer.len())
 }
 
 pub fn cells_held(n: u32, buffer: &[u32]) -> usize
-    ensures { λ r. ⌜ Part r (now (buffer .entry)) ⌝ }
+    ensures { λ r. ⌜ HasFront r (now (buffer .entry)) ⌝ }
     ensures { λ r. ⌜ r ≡ min n (length (now (buffer .entry))) ⌝ }
 {
     least(n as usize, buffer.len())
 }
 
 pub fn bytes_held(n: usize, buffer: &[u8]) -> usize
-    ensures { λ r. ⌜ Part r (now (buffer .entry)) ⌝ }
+    ensures { λ r. ⌜ HasFront r (now (buffer .entry)) ⌝ }
     ensures { λ r. ⌜ r ≡ min n (length (now (buffer .entry))) ⌝ }
 {
     least(n, buffer.len())
@@ -131,7 +131,7 @@ fn put_cells(out: &mut [u8], v: &[u32], n: usize)
 
 // Writes a slice's words to the front of the bytes, as many as fit. Returns how many bytes they take.
 pub fn floats_into(v: &[f32], out: &mut [u8]) -> usize
-    ensures { λ r. ⌜ Part r (now (out .exit)) ⌝ }
+    ensures { λ r. ⌜ HasFront r (now (out .exit)) ⌝ }
     ensures { λ r. ⌜ r ≡ 4 * fitting (now (v .entry)) (now (out .entry)) ⌝ }
     ensures { λ _. ⌜ now (out .exit) ≡ sets (now (out .entry)) 0
         (wordBytes (fitting (now (v .entry)) (now (out .entry))) (bitsAt (now (v .entry)) 0)) ⌝ }
@@ -142,7 +142,7 @@ pub fn floats_into(v: &[f32], out: &mut [u8]) -> usize
 }
 
 pub fn cells_into(v: &[u32], out: &mut [u8]) -> usize
-    ensures { λ r. ⌜ Part r (now (out .exit)) ⌝ }
+    ensures { λ r. ⌜ HasFront r (now (out .exit)) ⌝ }
     ensures { λ r. ⌜ r ≡ 4 * fitting (now (v .entry)) (now (out .entry)) ⌝ }
     ensures { λ _. ⌜ now (out .exit) ≡ sets (now (out .entry)) 0
         (wordBytes (fitting (now (v .entry)) (now (out .entry))) (cellAt (now (v .entry)))) ⌝ }

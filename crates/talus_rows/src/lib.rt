@@ -6,6 +6,7 @@ use grid_inner::inner_cells;
 use talus::gain_around;
 use talus::shed_around;
 use talus::slide_cells;
+use talus_directions::BLOCK;
 use talus_directions::slide_directions;
 ghost use mathlib.Core.Path.{_≡_};
 ghost use mathlib.Core.Bool.{cond};
@@ -69,8 +70,8 @@ fn shed_block(
     y: usize,
     x: usize,
     n: usize,
-    totals: &mut [f32; 64],
-    moved: &mut [f32; 64],
+    totals: &mut [f32; BLOCK],
+    moved: &mut [f32; BLOCK],
 )
     requires { ⌜ InnerRow (size .w) (size .h) (length (now hmap)) y x n ⌝ }
     requires { ⌜ n ≤ 64 ⌝ }
@@ -100,7 +101,7 @@ fn sheds(total: f32) -> u32
 }
 
 // How many of n cells shed.
-fn shedding(totals: &[f32; 64], n: usize) -> u32
+fn shedding(totals: &[f32; BLOCK], n: usize) -> u32
     requires { ⌜ n ≤ 64 ⌝ }
     ensures { λ r. ⌜ r ≡ shedders (now (totals .entry)) n ⌝ }
 {
@@ -124,8 +125,8 @@ fn slide_few(
     y: usize,
     x: usize,
     n: usize,
-    totals: &[f32; 64],
-    moved: &[f32; 64],
+    totals: &[f32; BLOCK],
+    moved: &[f32; BLOCK],
 )
     requires { ⌜ InnerRow (size .w) (size .h) (length (now hmap)) y x n ⌝ }
     requires { ⌜ length (now out) ≡ length (now hmap) ⌝ }
@@ -174,8 +175,8 @@ fn slide_block(
     ensures { λ _. ⌜ now (out .exit) ≡ slideCells (size .w) (size .h) (now (ts .entry)) (now (hmap .entry)) strength
         water y x n (now (out .entry)) ⌝ }
 {
-    let mut totals: [f32; 64] = [0.0; 64];
-    let mut moved: [f32; 64] = [0.0; 64];
+    let mut totals: [f32; BLOCK] = [0.0; BLOCK];
+    let mut moved: [f32; BLOCK] = [0.0; BLOCK];
     shed_block(
         size,
         ts,
@@ -215,7 +216,7 @@ fn slide_block(
 fn block_of(n: usize) -> usize
     ensures { λ r. ⌜ r ≡ min n 64 ⌝ }
 {
-    if n < 64 { n } else { 64 }
+    if n < BLOCK { n } else { BLOCK }
 }
 
 // The n inner cells of row y, block by block.

@@ -16,7 +16,7 @@ use Rattle.generators.specs.declared.Progress.{Progress}
 use Rattle.generators.proofs.MarksLaws.{report-asked-most}
 use Rattle.talus.specs.Talus.{slideRow}
 use Rattle.talus.proofs.TalusLaws.{row-length, row-fit}
-use Rattle.thermal_erosion.specs.SlidePass.{Pass, fractionOf, rowStep, rowsOf}
+use Rattle.thermal_erosion.specs.SlidePass.{Pass, fractionOf, passRow, rowsOf}
 
 abbrev reached : List Float → Progress → Pass
 reached out m = record { out = out; marks = m }
@@ -26,12 +26,12 @@ module _ (w h : ℕ) (ts : List Float) (strength water : Float) (hs : List Float
   unfolding rowsOf
   rows-none out e =
       ap (λ (l : List Float). reached l m) e
-      ∙ sym (turns-none (rowStep w h ts strength water hs from to stop) (record { out = hs; marks = m }))
+      ∙ sym (turns-none (passRow w h ts strength water hs from to stop) (record { out = hs; marks = m }))
 
   -- the rows below n + 1 are those below n and then row n
-  pub rows-step : (n : ℕ) → rowsOf w h ts strength water hs from to stop (n + 1) m ≡ rowStep w h ts strength water hs from to stop n (rowsOf w h ts strength water hs from to stop n m)
+  pub rows-step : (n : ℕ) → rowsOf w h ts strength water hs from to stop (n + 1) m ≡ passRow w h ts strength water hs from to stop n (rowsOf w h ts strength water hs from to stop n m)
   unfolding rowsOf
-  rows-step n = turns-more (rowStep w h ts strength water hs from to stop) n (record { out = hs; marks = m })
+  rows-step n = turns-more (passRow w h ts strength water hs from to stop) n (record { out = hs; marks = m })
 
   module _ (y : ℕ) (s : Pass) (e : s ≡ rowsOf w h ts strength water hs from to stop y m) where
     pub rows-more : (r : List Float) (q : Progress)
@@ -41,7 +41,7 @@ module _ (w h : ℕ) (ts : List Float) (strength water : Float) (hs : List Float
         → record { out = r; marks = q } ≡ rowsOf w h ts strength water hs from to stop (y + 1) m
     rows-more r q on f g =
         ap₂ reached f g ∙ sym (ap (λ (b : Bool). cond b s (reached (slideRow w h ts hs strength water y (s .out)) (reportOf (s .marks) (fractionOf from to h y) stop))) on)
-        ∙ ap (rowStep w h ts strength water hs from to stop y) e
+        ∙ ap (passRow w h ts strength water hs from to stop y) e
         ∙ sym (rows-step y)
 
     -- a stopped pass goes no further
@@ -52,7 +52,7 @@ module _ (w h : ℕ) (ts : List Float) (strength water : Float) (hs : List Float
         e ∙ sym (turns-stay f start y (n - y) (λ j. subst (λ (p : Pass). f j p ≡ p) e (still j))) ∙ ap (λ (i : ℕ). turns i f start) k
       where
         f : ℕ → Pass → Pass
-        f = rowStep w h ts strength water hs from to stop
+        f = passRow w h ts strength water hs from to stop
 
         start : Pass
         start = record { out = hs; marks = m }
@@ -63,13 +63,13 @@ module _ (w h : ℕ) (ts : List Float) (strength water : Float) (hs : List Float
   pub rows-length : (n : ℕ) → length (rowsOf w h ts strength water hs from to stop n m .out) ≡ length hs
   unfolding rowsOf
   rows-length n =
-      turns-keep (rowStep w h ts strength water hs from to stop) (λ s. length (s .out) ≡ length hs) (record { out = hs; marks = m }) n refl
+      turns-keep (passRow w h ts strength water hs from to stop) (λ s. length (s .out) ≡ length hs) (record { out = hs; marks = m }) n refl
       (λ i s l e. either (λ (s : Pass). length (s .out) ≡ length hs) (s .marks .stopped) _ _ e (row-length w h ts hs strength water i (s .out) ∙ e))
 
   pub rows-fit : (n : ℕ) → Fit hs → Fit (rowsOf w h ts strength water hs from to stop n m .out)
   unfolding rowsOf
   rows-fit n fit =
-      turns-keep (rowStep w h ts strength water hs from to stop) (λ s. Fit (s .out)) (record { out = hs; marks = m }) n fit
+      turns-keep (passRow w h ts strength water hs from to stop) (λ s. Fit (s .out)) (record { out = hs; marks = m }) n fit
       (λ i s l e. either (λ (s : Pass). Fit (s .out)) (s .marks .stopped) _ _ e (row-fit w h ts hs strength water i (s .out) e))
 
   -- each row asks at most one question

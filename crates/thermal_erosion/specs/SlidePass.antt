@@ -31,15 +31,15 @@ pub record Pass : Type 0 where
 
 module _ (w h : ℕ) (ts : List Float) (strength water : Float) (hs : List Float) (from to : Float) (stop : ℕ) where
   -- one row and the question after it; a stopped pass goes no further
-  abbrev pub rowStep : ℕ → Pass → Pass
-  rowStep y s =
+  abbrev pub passRow : ℕ → Pass → Pass
+  passRow y s =
       cond (s .marks .stopped) s
       (record { out = slideRow w h ts hs strength water y (s .out); marks = reportOf (s .marks) (fractionOf from to h y) stop })
 
   -- the first n rows
   unfoldable pub rowsOf : ℕ → Progress → Pass
   unfolding turns slideRow
-  rowsOf n m = turns n rowStep (record { out = hs; marks = m })
+  rowsOf n m = turns n passRow (record { out = hs; marks = m })
 
 -- what a pass requires of its w × h grid, of the lengths of the map and the copy, and of the number of questions asked
 -- before it: each row may ask one more

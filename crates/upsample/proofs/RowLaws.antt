@@ -18,7 +18,7 @@ use Rattle.resample.proofs.FillLaws.{table-values}
 use Rattle.loops.proofs.RowFillLaws.{filling-drop, stored-row}
 use Rattle.resample.specs.Blocks.{Values}
 use Rattle.bilinear.specs.Samples.{asSource, between, bilinearAt, bilinearOf}
-use Rattle.upsample_rows.specs.Rows.{centreOf, columnOf, wayOf, Mixes}
+use Rattle.upsample_rows.specs.Rows.{centreOf, reducedColumn, wayOf, Mixes}
 use Rattle.upsample.specs.Samples.{summedRow, addedAt, addedOf}
 
 -- the sum at column x of a row
@@ -41,13 +41,13 @@ module _ (map : List Float) (w h : ℕ) (delta : List Float) (dw dh y : ℕ) (in
   part-at : (x : ℕ) → x < w → getD part x nan ≡ getD map (y * w + x) nan
   part-at x l = getD-take (y * w + w - y * w) (drop (y * w) map) x nan (omega arith) ∙ getD-drop (y * w) map x nan
 
-  module _ {j : ℕ} {dy : Float} {north south : List Float} (m : Mixes delta dw dh w j north south) (p : j ≡ columnOf h dh y) (q : dy ≡ wayOf h dh y) where
+  module _ {j : ℕ} {dy : Float} {north south : List Float} (m : Mixes delta dw dh w j north south) (p : j ≡ reducedColumn h dh y) (q : dy ≡ wayOf h dh y) where
     -- the sample at column x lies between the reduced rows
     sample-at : (x : ℕ) → x < w → between dy (getD north x nan) (getD south x nan) ≡ bilinearOf asSource delta dw dh (centreOf w dw x) (centreOf h dh y)
     unfolding bilinearOf
     sample-at x l =
         ap₂ (between dy) (m .northern .at x l) (m .southern .at x l)
-        ∙ ap₂ (λ (k : ℕ) (d : Float). bilinearAt asSource delta dw dh (columnOf w dw x) (wayOf w dw x) k d) p q
+        ∙ ap₂ (λ (k : ℕ) (d : Float). bilinearAt asSource delta dw dh (reducedColumn w dw x) (wayOf w dw x) k d) p q
 
     -- the row's sums are those of the whole map
     pub row-sums : summedRow part north south dy ≡ tabulate w (λ x. addedAt asSource map w h delta dw dh (y * w + x))
@@ -64,7 +64,7 @@ module _ (map : List Float) (w h : ℕ) (delta : List Float) (dw dh y : ℕ) (in
 module _ (map : List Float) (w h : ℕ) (delta : List Float) (dw dh y : ℕ) (inside : y * w + w ≤ length map) {now row : List Float} where
   -- one row more of the sum
   pub rows-more : {j : ℕ} {dy : Float} {north south : List Float} → Filling (addedAt asSource map w h delta dw dh) (y * w) map now
-      → Mixes delta dw dh w j north south → j ≡ columnOf h dh y → dy ≡ wayOf h dh y
+      → Mixes delta dw dh w j north south → j ≡ reducedColumn h dh y → dy ≡ wayOf h dh y
       → row ≡ summedRow (take (y * w + w - y * w) (drop (y * w) now)) north south dy
       → Filling (addedAt asSource map w h delta dw dh) ((y + 1) * w) map (putMid (y * w) (y * w + w - y * w) now row)
   rows-more {j} {dy} {north} {south} f m p q r =

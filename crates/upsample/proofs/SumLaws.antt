@@ -11,7 +11,7 @@ use Rattle.loops.proofs.TestLaws.{clash}
 use Rattle.loops.proofs.FillLaws.{Filling, filling-length, filling-start, filling-rows}
 use Rattle.grid.specs.Heights.{allFinite}
 use Rattle.bilinear.specs.Samples.{asSource}
-use Rattle.upsample_rows.specs.Rows.{columnOf, wayOf, Mixes}
+use Rattle.upsample_rows.specs.Rows.{reducedColumn, wayOf, Mixes}
 use Rattle.upsample.specs.Samples.{summedRow, Summed, addedAt, addedOf, AddedFinite}
 use Rattle.upsample.proofs.FiniteLaws.{Finites, finites-start, row-more, row-not, rows-all}
 use Rattle.upsample.proofs.RowLaws.{row-tested, rows-more}
@@ -38,7 +38,7 @@ kept : (a k : ℕ) {map now row : List Float} → now ≡ map → row ≡ take k
 kept a k {now = now} e r = ap (putMid a k now) r ∙ put-same a k now ∙ e
 
 module _ (map : List Float) (w h : ℕ) (delta : List Float) (dw dh y : ℕ) (inside : y * w + w ≤ length map) {now : List Float} {j : ℕ} {dy : Float} {north south : List Float}
-    (m : Mixes delta dw dh w j north south) (p : j ≡ columnOf h dh y) (q : dy ≡ wayOf h dh y) (l : y < h) where
+    (m : Mixes delta dw dh w j north south) (p : j ≡ reducedColumn h dh y) (q : dy ≡ wayOf h dh y) (l : y < h) where
   -- the test of a row is that of the map's sums
   row-test : {t : Bool} → now ≡ map → t ≡ allFinite (summedRow (take (y * w + w - y * w) (drop (y * w) now)) north south dy)
       → t ≡ allFinite (tabulate w (λ x. addedAt asSource map w h delta dw dh (y * w + x)))

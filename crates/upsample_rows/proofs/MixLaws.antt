@@ -11,7 +11,7 @@ use Rattle.grid.specs.Directions.{Place}
 use Rattle.bilinear.specs.Places.{Grid}
 use Rattle.bilinear.specs.Samples.{asSource, acrossOf}
 use Rattle.bilinear.proofs.CornerLaws.{place-in}
-use Rattle.upsample_rows.specs.Rows.{Sampled, centreOf, columnOf, wayOf, Columns, ColumnsPut, mixAt, mixPut, Mix, Mixes, MixesPut}
+use Rattle.upsample_rows.specs.Rows.{Sampled, centreOf, reducedColumn, wayOf, Columns, ColumnsPut, mixAt, mixPut, Mix, Mixes, MixesPut}
 
 -- the columns of a grid and its rows, on a reduced grid
 pub all-columns : {w h len dw dh dlen : ℕ} → Grid w h len → Grid dw dh dlen → Sampled w dw w
@@ -23,7 +23,7 @@ row-in g d y l = record { full = g .h-high; small = d .h-high; inside = omega ar
 module _ (w dw : ℕ) where
   -- as the code works them out
   module _ (x : ℕ) {u : Float} (e : u ≡ centreOf w dw x) where
-    pub column-is : {i : ℕ} → i ≡ indexOf dw u → i ≡ columnOf w dw x
+    pub column-is : {i : ℕ} → i ≡ indexOf dw u → i ≡ reducedColumn w dw x
     column-is f = f ∙ ap (indexOf dw) e
 
     pub way-is : {d : Float} → d ≡ fractOf u → d ≡ wayOf w dw x
@@ -32,7 +32,7 @@ module _ (w dw : ℕ) where
   -- the arrays that both were put into hold them
   pub columns-put : {cs cs′ : List ℕ} {ds ds′ : List Float} → ColumnsPut w dw cs ds cs′ ds′ → Columns w dw cs′ ds′
   columns-put {cs} {ds = ds} p = record {
-    column = λ x l. filled-read (columnOf w dw) w cs (p .columns) x 0 l;
+    column = λ x l. filled-read (reducedColumn w dw) w cs (p .columns) x 0 l;
     way = λ x l. filled-read (wayOf w dw) w ds (p .ways) x nan l;
   }
 

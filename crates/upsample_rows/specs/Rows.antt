@@ -23,26 +23,26 @@ centreOf side reduced x =
 
 -- the reduced column (or row) that the centre of column x lies in; `wayOf`: how far it lies on the way to the next one,
 -- as a fraction
-abbrev pub columnOf : ℕ → ℕ → ℕ → ℕ
-columnOf side reduced x = indexOf reduced (centreOf side reduced x)
+abbrev pub reducedColumn : ℕ → ℕ → ℕ → ℕ
+reducedColumn side reduced x = indexOf reduced (centreOf side reduced x)
 
 abbrev pub wayOf : ℕ → ℕ → ℕ → Float
 wayOf side reduced x = fractOf (centreOf side reduced x)
 
 -- cs holds the reduced column of each of w columns, ds its way to the next one
 pub record Columns (w dw : ℕ) (cs : List ℕ) (ds : List Float) : Type 0 where
-  pub column : (x : ℕ) → x < w → getD cs x 0 ≡ columnOf w dw x
+  pub column : (x : ℕ) → x < w → getD cs x 0 ≡ reducedColumn w dw x
   pub way : (x : ℕ) → x < w → getD ds x nan ≡ wayOf w dw x
 
 -- cs′ and ds′ are cs and ds with the reduced columns and the ways of w columns stored at the front; the rest is as it
 -- was
 pub record ColumnsPut (w dw : ℕ) (cs : List ℕ) (ds : List Float) (cs′ : List ℕ) (ds′ : List Float) : Type 0 where
-  pub columns : cs′ ≡ tabulate w (columnOf w dw) ++ drop w cs
+  pub columns : cs′ ≡ tabulate w (reducedColumn w dw) ++ drop w cs
   pub ways : ds′ ≡ tabulate w (wayOf w dw) ++ drop w ds
 
 -- the value of the reduced grid `delta` at column x of the map, `south` rows south of row y of the reduced grid
 abbrev pub mixAt : List Float → ℕ → ℕ → ℕ → ℕ → ℕ → ℕ → Float
-mixAt delta dw dh w y south x = acrossOf asSource delta dw dh (columnOf w dw x) (wayOf w dw x) y south
+mixAt delta dw dh w y south x = acrossOf asSource delta dw dh (reducedColumn w dw x) (wayOf w dw x) y south
 
 -- `row` has 4,096 entries and holds `mixAt` of each of w columns
 pub record Mix (delta : List Float) (dw dh w y south : ℕ) (row : List Float) : Type 0 where

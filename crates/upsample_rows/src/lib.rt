@@ -12,7 +12,7 @@ ghost use mathlib.Core.Path.{_≡_};
 ghost use Prim.Native.Nat.{_<_, _≤_};
 ghost use lib.ListN.{length};
 ghost use Rattle.bilinear.specs.Places.{Grid};
-ghost use Rattle.upsample_rows.specs.Rows.{Sampled, centreOf, columnOf, wayOf, Columns, ColumnsPut, mixPut};
+ghost use Rattle.upsample_rows.specs.Rows.{Sampled, centreOf, reducedColumn, wayOf, Columns, ColumnsPut, mixPut};
 ghost use Rattle.upsample_rows.specs.Rows.{Mixes, MixesPut};
 
 // Where the centre of column (or row) x of a side lies on the reduced one.
@@ -27,7 +27,7 @@ fn centre(side: usize, reduced: usize, x: usize) -> f32
 // The reduced column (or row) that the centre of column (or row) x lies in.
 fn column(side: usize, reduced: usize, x: usize) -> usize
     requires { ⌜ Sampled side reduced x ⌝ }
-    ensures { λ r. ⌜ r ≡ columnOf side reduced x ⌝ }
+    ensures { λ r. ⌜ r ≡ reducedColumn side reduced x ⌝ }
 {
     index(centre(side, reduced, x), reduced)
 }
@@ -125,7 +125,7 @@ pub fn prepare(
     requires { ⌜ size .w ≤ 4096 ⌝ }
     requires { ⌜ Sampled (size .h) (dsize .h) y ⌝ }
     requires { ⌜ Mixes (now delta) (dsize .w) (dsize .h) (size .w) held (now north) (now south) ⌝ }
-    ensures { λ r. ⌜ r ≡ columnOf (size .h) (dsize .h) y ⌝ }
+    ensures { λ r. ⌜ r ≡ reducedColumn (size .h) (dsize .h) y ⌝ }
     ensures { λ r. ⌜ MixesPut (now (delta .entry)) (dsize .w) (dsize .h) (size .w) r (now (north .entry))
         (now (south .entry)) (now (north .exit)) (now (south .exit)) ⌝ }
 {

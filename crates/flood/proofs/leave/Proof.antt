@@ -6,7 +6,9 @@ use Rattle.flood.proofs.leave.Statement.{statement}
 use Rattle.flood.proofs.leave.Tie as tie
 
 returns : tie.Need-returns
-returns c = onward-none _ _ _ _ _ _ _ _ _ _ (c .if1 .taken) (c .before .before .before .before .before .before .before .pre .1 .1 .0)
+returns c =
+    let p = c .before .before .before .before .before .before .before .pre in
+    onward-none _ _ _ _ _ _ _ (c .if1 .taken) (p .1 .1 .0)
 
 cast-order : tie.Need-cast-order
 cast-order c = omega (arith, c .if1 .left, c .before .before .before .before .before .before .before .pre .1 .0 .few, c .before .before .before .before .before .before .before .pre .1 .0 .heights)
@@ -38,7 +40,9 @@ same-length-5 : tie.Need-same-length-5
 same-length-5 c = search needs
 
 returns-2 : tie.Need-returns-2
-returns-2 c = onward-some _ _ _ _ _ _ _ _ _ (c .before .before .before .before .before .before .before .before .before .before .before .before .before .before .before .before .before .before .before .before .args .queue .now) (c .before .before .before .before .before .before .before .before .before .before .before .before .before .if1 .left) _ _ _ _ _ _ refl (c .before .before .before .before .before .before .before .before .reach-all .ensures)
+returns-2 c =
+    let r = c .before .before .before .before .before .before .before .before in
+    onward-some _ _ _ _ _ _ (r .before .before .before .before .before .if1 .left) _ _ _ refl (r .reach-all .ensures)
 
 pub leave-spec : {M : Type 1} → statement M
 leave-spec =

@@ -38,7 +38,10 @@ same-length-4 : tie.Need-same-length-4
 same-length-4 c = c .before .before .before .before .before .before .before .before .reach-found .kept .1 .1 .1 .1 .1 .1 .1 .1 .1 .0
 
 returns : tie.Need-returns
-returns c = found-reached _ _ _ _ _ _ _ _ _ _ _ _ (c .before .before .before .before .before .before .before .before .reach-found .ensures) _ _ _ _ (c .before .before .before .before .before .before .before .before .before .before .before .before .before .before .find-unpushed .ensures) refl
+returns c =
+    let r = c .before .before .before .before .before .before .before .before .reach-found .ensures in
+    let f = c .before .before .before .before .before .before .before .before .before .before .before .before .before .before .find-unpushed .ensures in
+    found-reached _ _ _ _ _ _ _ _ r _ _ _ _ f refl
 
 find-all-requires : tie.Need-find-all-requires
 find-all-requires c κs = search needs
@@ -62,7 +65,10 @@ same-length-8 : tie.Need-same-length-8
 same-length-8 c = c .before .before .before .before .before .before .before .before .reach-found2 .kept .1 .1 .1 .1 .1 .1 .1 .1 .1 .0
 
 returns-2 : tie.Need-returns-2
-returns-2 c = all-near _ _ _ _ _ _ _ _ _ _ _ _ (c .before .before .before .before .before .before .before .before .reach-found2 .ensures) _ _ _ (c .before .before .before .before .before .before .before .before .before .before .before .before .before .before .find-all .ensures) refl
+returns-2 c =
+    let r = c .before .before .before .before .before .before .before .before .reach-found2 .ensures in
+    let f = c .before .before .before .before .before .before .before .before .before .before .before .before .before .before .find-all .ensures in
+    all-near _ _ _ _ _ _ _ _ r _ _ _ f refl
 
 pub reach-all-spec : {M : Type 1} → statement M
 reach-all-spec =

@@ -12,7 +12,7 @@ use Rattle.flood_reach.proofs.reach_found.Tie as tie
 
 abbrev Inv-loop : tie.InvT-loop
 Inv-loop h limit c found some len status₀ spill₀ recv₀ queue₀ waiting₀ i₀ status spill recv queue waiting i =
-    (i ≤ some) × (length queue ≡ length queue₀) × Sizes (length h) h status spill recv queue × ReachedBy h limit c (take i found) status₀ spill₀ recv₀ waiting status spill recv queue
+    (i ≤ some) × (length queue ≡ length queue₀) × Sizes (length h) h status spill recv queue × ReachedBy h limit c (take i found) (record { status = status₀; spill = spill₀; recv = recv₀ }) waiting (record { status = status; spill = spill; recv = recv }) queue
 
 abbrev μ-loop : tie.MeasureT-loop
 μ-loop h limit c found some len status₀ spill₀ recv₀ queue₀ waiting₀ i₀ status spill recv queue waiting i = some - i
@@ -20,7 +20,7 @@ abbrev μ-loop : tie.MeasureT-loop
 loop-holds : tie.Need-loop-holds Inv-loop μ-loop
 loop-holds c =
     let p = c .before .before .before .before .before .pre .1 .1 in
-    (omega arith, refl, p .0, reached-start _ _ _ _ _ _ _ _ (p .1 .0) (p .1 .1 .1 .0))
+    (omega arith, refl, p .0, reached-start _ _ _ _ _ _ (p .1 .0) (p .1 .1 .1 .0))
 
 mul-reach : tie.Need-mul-reach Inv-loop μ-loop
 mul-reach c = omega (arith, c .before .before .before .before .before .before .before .pre .1 .0)
@@ -44,12 +44,14 @@ loop-again : tie.Need-loop-again Inv-loop μ-loop
 loop-again c =
     let r = c .before .before .before .before .before .before .before .before .reach in
     let k = r .kept .1 .1 .1 .1 .1 in
-    let i = c .before .before .before .before .before .before .before .before .before .before .before .before .before .before .before .loop .inv in
-    let p = c .before .before .before .before .before .before .before .before .before .before .before .before .before .before .before .before .before .before .before .before .before .pre in (
-      omega (arith, c .before .before .before .before .before .before .before .before .before .before .before .before .before .before .loop-test .taken),
+    let t = c .before .before .before .before .before .before .before .before .before .before .before .before .before .before in
+    let i = t .before .loop .inv in
+    let start = t .before .before .before .before .before .before .before in
+    let p = start .pre in (
+      omega (arith, t .loop-test .taken),
       k .1 .1 .1 .0 ∙ i .1,
       sizes-kept (i .2) (k .0) (k .1 .0) (k .1 .1 .0) (k .1 .1 .1 .0),
-      reached-next _ _ _ _ _ _ _ _ _ _ _ _ (i .3) (c .before .before .before .before .before .before .before .before .before .before .before .before .before .before .before .before .before .before .before .before .before .args .found .now) _ _ _ _ _ _ refl (omega (arith, p .0, p .1 .0, c .before .before .before .before .before .before .before .before .before .before .before .before .before .before .loop-test .taken)) (r .ensures),
+      reached-next _ _ _ _ _ _ _ _ (i .3) (start .args .found .now) _ _ _ _ refl (omega (arith, p .0, p .1 .0, t .loop-test .taken)) (r .ensures),
     )
 
 same-length : tie.Need-same-length Inv-loop μ-loop
@@ -65,7 +67,7 @@ same-length-4 : tie.Need-same-length-4 Inv-loop μ-loop
 same-length-4 c = c .before .loop .inv .1
 
 returns : tie.Need-returns Inv-loop μ-loop
-returns c = reached-end _ _ _ _ _ _ _ _ _ _ _ _ (c .before .loop .inv .3) _ _ _ (c .before .loop .inv .0) (c .loop-test .left) refl
+returns c = reached-end _ _ _ _ _ _ _ _ (c .before .loop .inv .3) _ _ _ (c .before .loop .inv .0) (c .loop-test .left) refl
 
 pub reach-found-spec : {M : Type 1} → statement M
 reach-found-spec =

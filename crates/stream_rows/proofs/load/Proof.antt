@@ -2,13 +2,13 @@ use Prim.Native.Nat.{_-_, _*_, _≤_}
 use native.Mathlib.Omega.{arith}
 use lib.ListN.{length-take, length-drop}
 use Rattle.loops.proofs.FillLaws.{Filling, filling-length, filling-start, filling-rows}
-use Rattle.stream_rows.specs.Rows.{cellAt, heightsAt}
+use Rattle.stream_rows.specs.Rows.{cellHeight, heightsAt}
 use Rattle.stream_rows.proofs.CellLaws.{row-inside, rows-more}
 use Rattle.stream_rows.proofs.load.Statement.{statement}
 use Rattle.stream_rows.proofs.load.Tie as tie
 
 abbrev Inv-loop : tie.InvT-loop
-Inv-loop bytes rows size map₀ w h y₀ map y = Filling (cellAt bytes rows w) (y * w) map₀ map × (y ≤ h)
+Inv-loop bytes rows size map₀ w h y₀ map y = Filling (cellHeight bytes rows w) (y * w) map₀ map × (y ≤ h)
 
 abbrev μ-loop : tie.MeasureT-loop
 μ-loop bytes rows size map₀ w h y₀ map y = h - y

@@ -1,12 +1,12 @@
 use Prim.Native.Nat.{_-_, _≤_}
 use native.Mathlib.Omega.{arith}
 use Rattle.loops.proofs.FillLaws.{Filling, filling-none, filling-more, stored}
-use Rattle.upsample_rows.specs.Rows.{columnOf, wayOf}
+use Rattle.upsample_rows.specs.Rows.{reducedColumn, wayOf}
 use Rattle.upsample_rows.proofs.columns.Statement.{statement}
 use Rattle.upsample_rows.proofs.columns.Tie as tie
 
 abbrev Inv-loop : tie.InvT-loop
-Inv-loop w dw cs₀ ds₀ x₀ cs ds x = (x ≤ w) × (Filling (columnOf w dw) x cs₀ cs × Filling (wayOf w dw) x ds₀ ds)
+Inv-loop w dw cs₀ ds₀ x₀ cs ds x = (x ≤ w) × (Filling (reducedColumn w dw) x cs₀ cs × Filling (wayOf w dw) x ds₀ ds)
 
 abbrev μ-loop : tie.MeasureT-loop
 μ-loop w dw cs₀ ds₀ x₀ cs ds x = w - x
