@@ -7,8 +7,7 @@ use lib.Dec.{eqb, ltb}
 use lib.Ieee.{Float, nan, binary32, ofBits, add, sub, mul, lt, le}
 use lib.Ieee.Scale.{finite}
 use Rattle.answers.specs.Outcome.{Outcome, gives, refused, refusedAt}
-use Rattle.floats.specs.Stand.{fractOf, indexOf}
-use Rattle.floats.specs.Stand.{whole}
+use Rattle.floats.specs.Stand.{fractOf, indexOf, whole}
 use Rattle.grid.specs.Sides.{badSides}
 use Rattle.grid.specs.Heights.{firstNotFinite, allFinite}
 

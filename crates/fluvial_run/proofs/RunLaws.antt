@@ -24,9 +24,8 @@ use Rattle.run_settings.specs.declared.FluvialSettings.{FluvialSettings}
 use Rattle.run_machine.proofs.BoundLaws.{fluvial-bounded}
 use Rattle.run_settings.specs.Accepted as Input
 use Rattle.run_settings.specs.Accepted.{refusalOn}
-use Rattle.run_settings.proofs.RefusalLaws.{accepted-by}
+use Rattle.run_settings.proofs.RefusalLaws.{accepted-by, decided-by, fluvial-iterations}
 use Rattle.run_plans.proofs.InputLaws.{within-range, within-cells, accepted-within}
-use Rattle.run_settings.proofs.RefusalLaws.{decided-by, fluvial-iterations}
 use Rattle.run_parts.specs.Reached.{wholeRun}
 use Rattle.run_parts.specs.Ending.{refusedTo, Answered}
 use Rattle.run_parts.specs.declared.Reached.{Reached}

@@ -6,9 +6,8 @@ use lib.ListN.{getD, replicate}
 use lib.Ieee.{Float, nan, binary32, ofBits, mul, div}
 use Rattle.loops.proofs.TableLaws.{filled-at}
 use Rattle.loops.proofs.FillLaws.{Filling, stored}
-use Rattle.floats.specs.Stand.{maxOf}
+use Rattle.floats.specs.Stand.{maxOf, whole}
 use Rattle.square_root.specs.Root.{rootOf}
-use Rattle.floats.specs.Stand.{whole}
 use Rattle.incision_rates.specs.Rate.{rateOf, ratesOf}
 
 -- the rate as the code works it out

@@ -4,13 +4,16 @@ use mathlib.Core.List.{List, _++_}
 use lib.ListN.{drop, replicate}
 use lib.Ieee.{Float, binary32, ofBits, mul, div}
 use Rattle.loops.specs.Loops.{tabulate}
-use Rattle.floats.specs.Stand.{maxOf}
-use Rattle.floats.specs.Stand.{whole}
+use Rattle.floats.specs.Stand.{maxOf, whole}
 use Rattle.square_root.specs.Root.{rootOf}
+
+-- the source's HILLSLOPE_AREA, 1e-4: the share of the map below which an area counts as that share
+abbrev pub hillslopeArea : Float
+hillslopeArea = ofBits binary32 0x38d1_b717
 
 -- k × root(max(area, 1e-4 × n) / n)
 abbrev pub rateOf : Float → Float → Float → Float
-rateOf area n k = mul binary32 k (rootOf (div binary32 (maxOf area (mul binary32 (ofBits binary32 0x38d1_b717) n)) n))
+rateOf area n k = mul binary32 k (rootOf (div binary32 (maxOf area (mul binary32 hillslopeArea n)) n))
 
 -- a table of 1,024 places: the rates of the whole areas below m, and 0 from there on
 unfoldable pub ratesOf : ℕ → Float → Float → List Float

@@ -12,9 +12,8 @@ use lib.Ieee.Exact.{HasValue, odd-sign}
 use lib.Ieee.Order.{round-mono, drop, kept}
 use lib.Ieee.Back.{round-whole, unsigned-back}
 use borrow.Author.Tests.{leb-false, le-leb, lt-leb}
-use Rattle.floats.specs.Stand.{wholeBy, roundOf}
+use Rattle.floats.specs.Stand.{wholeBy, roundOf, whole}
 use Rattle.floats.proofs.ValueLaws.{one-leb}
-use Rattle.floats.specs.Stand.{whole}
 use Rattle.resample.specs.WorkSize.{scaledSide, workSize, Within, WorkWithin}
 use Rattle.grid.specs.Sides.{InRange}
 use Rattle.grid.specs.declared.Sides.{Sides}

@@ -5,8 +5,7 @@ use mathlib.Core.Bool.{false, cond}
 use lib.Dec.{leb}
 use lib.Ieee.{Float, binary32, mul, div, toUnsigned}
 use Rattle.answers.specs.Outcome.{Outcome, gives, refused, refusalOf}
-use Rattle.floats.specs.Stand.{roundOf}
-use Rattle.floats.specs.Stand.{whole}
+use Rattle.floats.specs.Stand.{roundOf, whole}
 use Rattle.grid.specs.Sides.{badSides}
 use Rattle.grid.specs.declared.Sides.{Sides}
 use Rattle.resample.specs.declared.Work.{Work}

@@ -10,19 +10,33 @@ use Rattle.thermal_erosion.specs.declared.ThermalParams.{ThermalParams}
 use Rattle.run_settings.specs.declared.FluvialSettings.{FluvialSettings}
 use Rattle.run_settings.specs.declared.ThermalSettings.{ThermalSettings}
 
+-- The source's REFERENCE_RES, 512: the longest side of the map that settings refer to. STRENGTH_MAX, 8, and TALUS_MAX,
+-- 0.03: k of strength 1 and the threshold of talus 0 on that map. TALUS_STRENGTH, 0.5: the talus strength of fluvial runs.
+abbrev pub referenceRes : Float
+referenceRes = ofBits binary32 0x4400_0000
+
+abbrev pub strengthMax : Float
+strengthMax = ofBits binary32 0x4100_0000
+
+abbrev pub talusMax : Float
+talusMax = ofBits binary32 0x3cf5_c28f
+
+abbrev pub talusStrength : Float
+talusStrength = ofBits binary32 0x3f00_0000
+
 -- scale = longest working side / 512
 abbrev pub scaleOf : ℕ → ℕ → Float
-scaleOf w h = div binary32 (whole (max w h)) (ofBits binary32 0x4400_0000)
+scaleOf w h = div binary32 (whole (max w h)) referenceRes
 
 -- k = 8 × strength × scale
 abbrev pub kOf : Float → Float → Float
-kOf strength scale = mul binary32 (mul binary32 (ofBits binary32 0x4100_0000) strength) scale
+kOf strength scale = mul binary32 (mul binary32 strengthMax strength) scale
 
 -- threshold = 0.03 × (1 - talus)² / scale
 abbrev pub thresholdOf : Float → Float → Float
 thresholdOf talus scale =
     let steep = sub binary32 (ofBits binary32 0x3f80_0000) talus in
-    div binary32 (mul binary32 (ofBits binary32 0x3cf5_c28f) (mul binary32 steep steep)) scale
+    div binary32 (mul binary32 talusMax (mul binary32 steep steep)) scale
 
 -- passes: ceil(iterations × scale), at least 1
 abbrev pub passesOf : ℕ → Float → ℕ
@@ -54,7 +68,7 @@ fluvialPlan w h s =
       iterations = max (s .iterations) 1;
       passes = passesOf 1 scale;
       cuts = record { k = kOf (s .strength) scale; uplift = s .uplift; «water_level» = s .«water_level» };
-      slides = slidesOf w h (s .talus) (ofBits binary32 0x3f00_0000) (s .«water_level»);
+      slides = slidesOf w h (s .talus) talusStrength (s .«water_level»);
       land = landOf s;
     }
 

@@ -20,9 +20,8 @@ use Rattle.run_settings.specs.Refusals.{badThermal}
 use Rattle.run_settings.specs.declared.ThermalSettings.{ThermalSettings}
 use Rattle.run_machine.proofs.PlanLaws.{Counted, thermal-passes}
 use Rattle.run_settings.specs.Accepted.{refusalOn, AcceptedRun}
-use Rattle.run_settings.proofs.RefusalLaws.{accepted-by}
+use Rattle.run_settings.proofs.RefusalLaws.{accepted-by, decided-by, thermal-iterations}
 use Rattle.run_plans.proofs.InputLaws.{within-range, within-cells, own-cells, accepted-within}
-use Rattle.run_settings.proofs.RefusalLaws.{decided-by, thermal-iterations}
 use Rattle.run_parts.specs.Reached.{wholeRun}
 use Rattle.run_parts.specs.Ending.{refusedTo, Answered}
 use Rattle.run_parts.specs.declared.Reached.{Reached}

@@ -4,8 +4,7 @@ use mathlib.Core.Path.{_≡_}
 use mathlib.Core.List.{List, _++_}
 use lib.ListN.{length, getD, drop}
 use lib.Ieee.{Float, nan, binary32, ofBits, add, sub, mul, div}
-use Rattle.floats.specs.Stand.{maxOf, fractOf, indexOf}
-use Rattle.floats.specs.Stand.{whole}
+use Rattle.floats.specs.Stand.{maxOf, fractOf, indexOf, whole}
 use Rattle.loops.specs.Loops.{tabulate}
 use Rattle.bilinear.specs.Samples.{asSource, acrossOf}
 

@@ -26,11 +26,17 @@ square-land-requires c κs = search needs
 
 route-grid-requires : tie.Need-route-grid-requires
 route-grid-requires c κs =
-    let a = c .before .before .before .before .before .before .before .before .before .before .before .before .before .before .before .before .before .args in
+    let landed = c .before .before .before .before .before .before in
+    let told = landed .before in
+    let decided = told .before .before in
+    let a = decided .before .before .before .before .before .before .before .before .args in
     let l = lentOf (a .h .now) (a .order .now) (a .recv .now) (a .spill .now) (a .area .now) (a .queue .now) (a .status .now) in
-    let e = answered (a .size .w) (a .size .h) (a .h .now) (a .water-level) l (c .before .before .before .before .before .before .before .before .before .refusal .result) (c .before .before .before .before .before .before .before .before .before .refusal .ensures) ∙ ap (λ r. given (answerOf r)) (c .before .before .before .before .before .before .before .enum-told .given .1) in
+    let e =
+    answered (a .size .w) (a .size .h) (a .h .now) (a .water-level) l (decided .refusal .result) (decided .refusal .ensures)
+    ∙ ap (λ r. given (answerOf r)) (told .enum-told .given .1) in
     let g = accepted-grid _ _ (a .h .now) (a .water-level) l e refl in
-    (g, (accepted-enough _ _ (a .h .now) (a .water-level) l e, north-based _ _ (c .before .before .before .before .before .before .square-land .result) (a .h .now) (g .sides) (ap (λ (d : Land). d .sides .north) (c .before .before .before .before .before .before .square-land .ensures))))
+    let north = ap (λ (d : Land). d .sides .north) (landed .square-land .ensures) in
+    (g, (accepted-enough _ _ (a .h .now) (a .water-level) l e, north-based _ _ (landed .square-land .result) (a .h .now) (g .sides) north))
 
 same-length : tie.Need-same-length
 same-length c = search needs
@@ -52,7 +58,11 @@ same-length-6 c = search needs
 
 returns-2 : tie.Need-returns-2
 returns-2 c =
-    routed-done _ _ _ _ _ (ap answerOf (sym (c .before .before .before .before .before .before .before .before .before .before .before .before .before .before .before .before .before .before .before .before .enum-told .given .1)) ∙ c .before .before .before .before .before .before .before .before .before .before .before .before .before .before .before .before .before .before .before .before .before .before .refusal .ensures) _ (c .before .before .before .before .before .before .before .before .before .before .before .before .before .before .before .before .before .before .before .square-land .ensures) (c .before .before .before .before .before .before .before .before .before .before .before .before .route-grid .ensures)
+    let routed = c .before .before .before .before .before .before .before .before .before .before .before .before in
+    let landed = routed .before .before .before .before .before .before .before in
+    let told = landed .before in
+    let decided = told .before .before in
+    routed-done _ _ _ _ _ (ap answerOf (sym (told .enum-told .given .1)) ∙ decided .refusal .ensures) _ (landed .square-land .ensures) (routed .route-grid .ensures)
 
 pub route-spec : {M : Type 1} → statement M
 route-spec =

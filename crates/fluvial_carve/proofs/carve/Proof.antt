@@ -32,18 +32,25 @@ same-length-6 : tie.Need-same-length-6
 same-length-6 c = search needs
 
 returns : tie.Need-returns
-returns c = let a = c .before .before .before .before .before .before .before .before .before .before .before .before .before .before .before .before .before .before .before .before .before .before .before .before .before .before .before .before .args in carve-refused _ _ _ (a .params) _ _ (c .before .before .before .before .before .before .before .before .before .before .before .before .before .before .route .ensures) (refused-given (c .enum-told2 .given .1))
+returns c =
+    let routed = c .before .before .before .before .before .before .before .before .before .before .before .before .before .before in
+    let a = routed .before .before .before .before .before .before .before .before .before .before .before .before .before .before .args in
+    carve-refused _ _ _ (a .params) _ _ (routed .route .ensures) (refused-given (c .enum-told2 .given .1))
 
 square-distances-requires : tie.Need-square-distances-requires
 square-distances-requires c κs = search needs
 
 incise-into-requires : tie.Need-incise-into-requires
 incise-into-requires c κs =
-    let a = c .before .before .before .before .before .before .before .before .before .before .before .before .before .before .before .before .before .before .before .before .before .before .before .before .before .before .before .before .before .before .before .before .before .args in
-    let route = c .before .before .before .before .before .before .before .before .before .before .before .before .before .before .before .before .before .before .before .route in
-    let told = c .before .before .before .before .before .enum-told .given .1 in
-    let k = route .kept .1 .1 .1 .1 in
-    (network-found _ _ _ (a .params) _ _ (route .ensures) told (c .before .before .before .before .before .before .before .before .before .before .before .before .before .before .before .before .before .before .before .before .before .before .before .before .before .before .before .before .before .before .before .before .shared-slice-known .given) (k .0), lengths-found _ _ _ (a .params) _ _ (route .ensures) told (k .1 .0) (k .1 .1 .0))
+    let told = c .before .before .before .before .before in
+    let routed = told .before .before .before .before .before .before .before .before .before .before .before .before .before .before in
+    let known = routed .before .before .before .before .before .before .before .before .before .before .before .before .before in
+    let a = known .before .args in
+    let done = told .enum-told .given .1 in
+    let k = routed .route .kept .1 .1 .1 .1 in (
+      network-found _ _ _ (a .params) _ _ (routed .route .ensures) done (known .shared-slice-known .given) (k .0),
+      lengths-found _ _ _ (a .params) _ _ (routed .route .ensures) done (k .1 .0) (k .1 .1 .0),
+    )
 
 same-length-7 : tie.Need-same-length-7
 same-length-7 c = search needs
@@ -65,8 +72,12 @@ same-length-12 c = search needs
 
 returns-2 : tie.Need-returns-2
 returns-2 c =
-    let a = c .before .before .before .before .before .before .before .before .before .before .before .before .before .before .before .before .before .before .before .before .before .before .before .before .before .before .before .before .before .before .before .before .before .before .before .before .before .before .args in
-    carve-done _ _ _ (a .params) _ _ (c .before .before .before .before .before .before .before .before .before .before .before .before .before .before .before .before .before .before .before .before .before .before .before .before .route .ensures) (c .before .before .before .before .before .before .before .before .before .before .enum-told .given .1) (c .before .before .before .before .before .before .before .before .before .square-distances .ensures) (c .before .before .before .before .incise-into .ensures)
+    let incised = c .before .before .before .before in
+    let apart = incised .before .before .before .before .before in
+    let told = apart .before in
+    let routed = told .before .before .before .before .before .before .before .before .before .before .before .before .before .before in
+    let a = routed .before .before .before .before .before .before .before .before .before .before .before .before .before .before .args in
+    carve-done _ _ _ (a .params) _ _ (routed .route .ensures) (told .enum-told .given .1) (apart .square-distances .ensures) (incised .incise-into .ensures)
 
 pub carve-spec : {M : Type 1} → statement M
 carve-spec =

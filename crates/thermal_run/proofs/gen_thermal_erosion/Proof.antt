@@ -13,7 +13,13 @@ use Rattle.thermal_run.proofs.gen_thermal_erosion.Tie as tie
 
 -- what was decided of an input that is accepted
 told : (c : tie.After-enum-told) → let a = c .before .before .before .before .before .before .before .before .before .before .before .args in answerOf (c .before .before .refusal .result) ≡ inputRefusal (a .size .w) (a .size .h) (a .conf) (a .hmap .now) (record { small = a .small .now; eroded = a .eroded .now; copy = a .copy .now })
-told c = let a = c .before .before .before .before .before .before .before .before .before .before .before .args in decided (a .size .w) (a .size .h) (a .conf) (a .stop) (a .hmap .now) (a .small .now) (a .eroded .now) (a .copy .now) (c .before .before .refusal .ensures) (c .before .before .before .bad-thermal .ensures) (c .before .before .before .before .before .least2 .ensures) (c .before .before .before .before .before .before .least .ensures)
+told c =
+    let decision = c .before .before in
+    let tested = decision .before in
+    let shortest = tested .before .before in
+    let a = shortest .before .before .before .before .before .before .args in
+    decided (a .size .w) (a .size .h) (a .conf) (a .stop) (a .hmap .now) (a .small .now) (a .eroded .now) (a .copy .now) (decision .refusal .ensures)
+    (tested .bad-thermal .ensures) (shortest .least2 .ensures) (shortest .before .least .ensures)
 
 -- the working sides
 within : (c : tie.After-work-sides) → let a = c .before .before .before .before .before .before .before .before .before .before .before .before .args in Within (a .size .w) (a .size .h) (c .work-sides .result .w) (c .work-sides .result .h)
