@@ -3,7 +3,7 @@
 ghost use mathlib.Core.Path.{_≡_};
 ghost use Rattle.answers.specs.Outcome.{outsideOf, numberIn, placeIn, numberOf, placeOf, answerOf};
 
-// The numbers by which a run ends before its last pass: a question was answered with stop, or a height was not finite.
+// The numbers by which a run ends: a question was answered with stop, or a height was not finite.
 pub const STOPPED: u32 = 21;
 
 pub const RUN_OFF: u32 = 22;

@@ -1,5 +1,5 @@
--- Chains to base level and their crests. A chain starts with the cell, steps from neighbour to neighbour and ends with a base-level cell; a
--- base-level cell alone is a chain.
+-- Chains to base level and their crests. A chain starts with the cell, steps from neighbour to neighbour and ends with
+-- a base-level cell; a base-level cell alone is a chain.
 use Prim.Native.Nat.{ℕ, _≤_, _<_, max}
 use mathlib.Core.Path.{_≡_}
 use mathlib.Core.Bool.{true}

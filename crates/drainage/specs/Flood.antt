@@ -1,6 +1,7 @@
--- The flood of document 01, 'Network'. Base cells are pushed with their own height and are their own receiver. The lowest key leaves first, ties
--- by lower cell number. A cell leaving gives each neighbour not yet pushed the spill height max(its height, spill of the leaver) and becomes its
--- receiver; that first receiver is called its discoverer here.
+-- The flood of document 01, 'Network'. Base cells are pushed with their own height and are their own receiver. The
+-- lowest key leaves first, ties by lower cell number. A cell leaving gives each neighbour not yet pushed the spill
+-- height max(its height, spill of the leaver) and becomes its receiver; that first receiver is called its discoverer
+-- here.
 use Prim.Native.Nat.{ℕ, suc, _+_, _*_, _^_}
 use mathlib.Core.Bool.{Bool, not, _&&_, _||_, cond}
 use mathlib.Core.List.{List, [], _∷_, _++_}

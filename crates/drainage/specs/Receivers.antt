@@ -1,5 +1,6 @@
--- Receivers, document 01, 'Network': each non-base cell takes the neighbour of strictly lower spill and greatest slope (spill difference /
--- distance) if that slope is strictly greater than the present receiver's; the first in scan order wins.
+-- Receivers, document 01, 'Network': each non-base cell takes the neighbour of strictly lower spill and greatest slope
+-- (spill difference / distance) if that slope is strictly greater than the present receiver's; the first in scan order
+-- wins.
 use Prim.Native.Nat.{ℕ, suc}
 use mathlib.Core.Bool.{_&&_, cond}
 use mathlib.Core.List.{List}
@@ -9,7 +10,8 @@ use lib.Ieee.{Float, lt}
 use Rattle.loops.specs.Loops.{turns, tabulate}
 use Rattle.drainage.specs.Ground.{Ground, Kind}
 
--- the direction from cell c to its neighbour r: the last of 1 to 8 that leads there; 0 where none does, as from a cell to itself
+-- the direction from cell c to its neighbour r: the last of 1 to 8 that leads there; 0 where none does, as from a cell
+-- to itself
 unfoldable pub directionTo : Ground → ℕ → ℕ → ℕ
 unfolding turns
 directionTo g c r = turns 8 (λ i d. cond (eqb (g .near c (suc i)) r) (suc i) d) 0

@@ -1,12 +1,12 @@
--- What is proved of every routing, in plain words. Premises: the ground is connected and has a base cell, and heights of the kind compare as
--- numbers do. Sides 1 to 4,096 with finite binary32 heights are one case.
+-- What is proved of every routing. Premises: the ground is connected and has a base cell, and heights of the kind
+-- compare as numbers do. Sides 1 to 4,096 with finite binary32 heights are one case.
 use Prim.Native.Nat.{ℕ, _^_, _≤_, _<_, max}
 use mathlib.Core.Path.{_≡_}
 use mathlib.Core.Bool.{true}
 use mathlib.Core.List.{List}
 use lib.ListN.{getD}
 use lib.Dec.{eqb, ltb}
-use lib.Ieee.{nan, binary32}
+use lib.Ieee.{nan}
 use Rattle.floats.specs.Stand.{whole}
 use Rattle.drainage.specs.Ground.{Ground, Kind}
 use Rattle.drainage.specs.Routing.{orderOf, spillOf, receiversOf}
@@ -34,9 +34,9 @@ pub record Numbers {H : Type 0} (k : Kind H) (Good : H → Type 0) (number : H �
   pub key-narrow : (a : H) → Good a → k .key a < 2 ^ 32
 
 module _ {H : Type 0} (k : Kind H) (g : Ground) (hs : List H) (number : H → ℕ) where
-  -- One routing: the order holds every cell exactly once, each after any other cell it drains into; a cell is its own receiver exactly if it is
-  -- base level, and every other receiver is a neighbour; a cell's spill height is the least, over all chains from it to base level, of the
-  -- greatest height on the chain, as numbers.
+  -- One routing: the order holds every cell exactly once, each after any other cell it drains into; a cell is its own
+  -- receiver exactly if it is base level, and every other receiver is a neighbour; a cell's spill height is the least,
+  -- over all chains from it to base level, of the greatest height on the chain, as numbers.
   pub record Network : Type 0 where
     pub work-list : WorkList (g .cells) (receiversOf k g hs) (orderOf k g hs)
     pub base-own : (c : ℕ) → c < g .cells → g .base c ≡ true → getD (receiversOf k g hs) c 0 ≡ c
@@ -44,8 +44,9 @@ module _ {H : Type 0} (k : Kind H) (g : Ground) (hs : List H) (number : H → �
     pub adjacent : (c : ℕ) → c < g .cells → (getD (receiversOf k g hs) c 0 ≡ c → ⊥) → Neighbours g c (getD (receiversOf k g hs) c 0)
     pub least : (c : ℕ) → c < g .cells → LeastCrest g (λ i. number (getD hs i (k .absent))) c (number (getD (spillOf k g hs) c (k .absent)))
 
--- Along any work list of any receivers, with at most 2^24 cells, the areas added as floats are the numbers of cells whose way down passes through
--- the cell, and the areas of the cells that are their own receiver total the cells of the grid.
+-- Along any work list of any receivers, with at most 2^24 cells, the areas added as floats are the numbers of cells
+-- whose way down passes through the cell, and the areas of the cells that are their own receiver total the cells of the
+-- grid.
 pub record Areas (n : ℕ) (recv : List ℕ) (list : List ℕ) : Type 0 where
   pub area : (c : ℕ) → c < n → getD (areasAlong n recv list) c nan ≡ whole (areaOf n recv c)
   pub total : sumBelow n (λ c. eqb (getD recv c 0) c) (areaOf n recv) ≡ n

@@ -24,7 +24,7 @@ quotientOf a d = a / d
 abbrev pub nearestOf : ℕ → ℕ → ℕ
 nearestOf a d = (2 * a + d) / (2 * d)
 
--- `nearestOf` for true, `cutOf` for false
+-- `nearestOf` for true, `quotientOf` for false
 abbrev pub ruleOf : Bool → ℕ → ℕ → ℕ
 ruleOf false = quotientOf
 ruleOf true = nearestOf

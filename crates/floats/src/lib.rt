@@ -90,7 +90,7 @@ fn whole_above(x: f32, nearest: bool) -> f32
 
 // Any x as a whole number, with x's sign: the nearest, half away from zero, if `nearest`, else x without its fraction.
 // Infinities and NaN stay as they are.
-fn whole(x: f32, nearest: bool) -> f32
+fn to_whole(x: f32, nearest: bool) -> f32
     ensures { λ r. ⌜ r ≡ wholeBy (ruleOf nearest) x ⌝ }
 {
     if x > 0.0 {
@@ -106,7 +106,7 @@ fn whole(x: f32, nearest: bool) -> f32
 fn trunc(x: f32) -> f32
     ensures { λ r. ⌜ r ≡ truncOf x ⌝ }
 {
-    whole(x, false)
+    to_whole(x, false)
 }
 
 // x's fraction, with x's sign.
@@ -128,7 +128,7 @@ pub fn ceil(x: f32) -> f32
 pub fn round(x: f32) -> f32
     ensures { λ r. ⌜ r ≡ roundOf x ⌝ }
 {
-    whole(x, true)
+    to_whole(x, true)
 }
 
 // The float of a bit pattern. Every NaN's pattern gives the one NaN.

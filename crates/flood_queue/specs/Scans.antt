@@ -1,4 +1,5 @@
--- The queue of the flood: a scan of the cells in the order of their own heights, and a heap of the waiting cells that it has passed.
+-- The queue of the flood: a scan of the cells in the order of their own heights, and a heap of the waiting cells that
+-- it has passed.
 use Prim.Native.Nat.{ℕ, _+_, _^_, _≤_, _<_}
 use mathlib.Core.Path.{_≡_}
 use mathlib.Core.Bool.{Bool, _&&_, cond}
@@ -20,8 +21,9 @@ endless = 0xffff_ffff_ffff_ffff
 abbrev pub limitOf : List Float → List ℕ → ℕ → ℕ
 limitOf hs list head = cond (ltb head (length list)) (queuePlace hs (getD list head 0)) endless
 
--- The queue holds, each once, the waiting cells whose own heights lie below the limit of the scan. Every cell at the limit or above it, and every
--- cell not pushed yet, has its own height as its spill height. All cells that have left lie below the limit.
+-- The queue holds, each once, the waiting cells whose own heights lie below the limit of the scan. Every cell at the
+-- limit or above it, and every cell not pushed yet, has its own height as its spill height. All cells that have left
+-- lie below the limit.
 pub record Queued (hs : List Float) (limit : ℕ) (status : List ℕ) (spill : List Float) (len : ℕ) (queue : List ℕ) : Type 0 where
   pub heap : Heap (queuePlace spill) (length spill) len queue
   pub below : (c : ℕ) → queuePlace hs c < limit → within c len queue ≡ oneIf (getD status c 0) 1
@@ -96,7 +98,7 @@ pub record Leaves (hs : List Float) (limit c : ℕ) (status : List ℕ) (spill :
   pub marked : status′ ≡ set status c 2
   pub low : queuePlace spill c < limit
 
--- A turn of the scan: the least waiting cell leaves, or the list's first cell, which does not wait, is passed.
+-- A turn of the scan: the least waiting cell leaves, or the cell at entry head, which does not wait, is passed.
 pub record Turned (hs : List Float) (list : List ℕ) (head : ℕ) (status : List ℕ) (spill : List Float) (r : Scan) (status′ queue′ : List ℕ) : Type 0 where
   pub listed : Remaining hs (r .head) (r .limit) list
   pub queued : Queued hs (r .limit) status′ spill (r .len) queue′

@@ -18,7 +18,7 @@ use Rattle.drainage.specs.Flood.{push, pushAll}
 use Rattle.drainage.proofs.KeptLaws.{pushedTo}
 use Rattle.flood_start.specs.Slices.{FloodSlices, stateWith}
 use Rattle.flood_queue.specs.Scans.{Queued}
-use Rattle.flood_reach.specs.Reaches.{pushedBy, Reached, ReachedBy, ReachedAll, Found}
+use Rattle.flood_reach.specs.Reaches.{pushedBy, ReachedOne, ReachedBy, ReachedAll, Found}
 use Rattle.flood_reach.proofs.FoundLaws.{pushedBy-more, pushedBy-near, unpushed-all}
 
 -- the neighbour in the direction after the first d
@@ -35,7 +35,7 @@ module _ (hs : List Float) (limit c : ℕ) (lent : FloodSlices) where
   module _ (cells : List ℕ) (len₁ : ℕ) (lent₁ : FloodSlices) (queue₁ : List ℕ) (r : ReachedBy hs limit c cells lent len₁ lent₁ queue₁) where
     -- one cell more
     reached-cell :
-        (m len₂ : ℕ) (lent₂ : FloodSlices) (queue₂ : List ℕ) → Reached hs limit c m lent₁ len₂ lent₂ queue₂
+        (m len₂ : ℕ) (lent₂ : FloodSlices) (queue₂ : List ℕ) → ReachedOne hs limit c m lent₁ len₂ lent₂ queue₂
         → ReachedBy hs limit c (cells ++ (m ∷ [])) lent len₂ lent₂ queue₂
     unfolding pushedBy
     reached-cell m len₂ lent₂ queue₂ s = record {
@@ -51,7 +51,7 @@ module _ (hs : List Float) (limit c : ℕ) (lent : FloodSlices) where
     -- the next of a list
     pub reached-next :
         (found : List ℕ) (i len₂ : ℕ) (lent₂ : FloodSlices) (queue₂ : List ℕ) → cells ≡ take i found → i < length found
-        → Reached hs limit c (getD found i 0) lent₁ len₂ lent₂ queue₂ → ReachedBy hs limit c (take (i + 1) found) lent len₂ lent₂ queue₂
+        → ReachedOne hs limit c (getD found i 0) lent₁ len₂ lent₂ queue₂ → ReachedBy hs limit c (take (i + 1) found) lent len₂ lent₂ queue₂
     reached-next found i len₂ lent₂ queue₂ e l s =
         subst (λ l. ReachedBy hs limit c l lent len₂ lent₂ queue₂)
         (ap (λ l. l ++ (getD found i 0 ∷ [])) e ∙ sym (take-suc found i 0 l) ∙ ap (λ i. take i found) (sym (add-one i)))

@@ -13,7 +13,6 @@ use borrow.Author.Tests.{eq-eqb, ne-eqb}
 use Rattle.floats.specs.Key.{keyOf}
 use Rattle.floats.specs.Stand.{maxOf}
 use Rattle.drainage.specs.Ground.{floats}
-use Rattle.drainage.specs.Flood.{Flood}
 use Rattle.loops.specs.Counts.{oneIf}
 use Rattle.loops.proofs.TestLaws.{same-or-not}
 use Rattle.loops.proofs.CountLaws.{one-same, one-other, one-bound}
@@ -23,7 +22,7 @@ use Rattle.flood_heap.proofs.RoomLaws.{heap-same, heap-room}
 use Rattle.flood_start.specs.Slices.{stateOf, FloodSlices, Sizes}
 use Rattle.flood_queue.specs.Scans.{Queued, Level}
 use Rattle.flood_queue.proofs.ScanLaws.{unlike-zero}
-use Rattle.flood_reach.specs.Reaches.{pushedBy, Reached}
+use Rattle.flood_reach.specs.Reaches.{pushedBy, ReachedOne}
 
 -- lists of the same lengths
 pub sizes-kept :
@@ -73,7 +72,7 @@ module _ (hs : List Float) (limit c m : ℕ) (status : List ℕ) (spill : List F
   abbrev lent : FloodSlices
   lent = record { status = status; spill = spill; recv = recv }
 
-  stays : (getD status m 1 ≡ 0 → ⊥) → Reached hs limit c m lent len lent queue
+  stays : (getD status m 1 ≡ 0 → ⊥) → ReachedOne hs limit c m lent len lent queue
   unfolding pushedBy
   stays d = record {
     left = left;
@@ -84,13 +83,13 @@ module _ (hs : List Float) (limit c m : ℕ) (status : List ℕ) (spill : List F
   }
 
   -- outside the grid, or pushed already
-  pub reached-none : length status ≤ m → Reached hs limit c m lent len lent queue
+  pub reached-none : length status ≤ m → ReachedOne hs limit c m lent len lent queue
   reached-none l = stays unlike
     where
       unlike : getD status m 1 ≡ 0 → ⊥
       unlike z = omega (arith, List·getD-eq-default status 1 {n = m} l)
 
-  pub reached-old : m < length status → (getD status m 0 ≡ 0 → ⊥) → Reached hs limit c m lent len lent queue
+  pub reached-old : m < length status → (getD status m 0 ≡ 0 → ⊥) → ReachedOne hs limit c m lent len lent queue
   reached-old l d = stays (λ z. d (getD-inside status m 0 1 l ∙ z))
 
   -- a cell not pushed yet: t and y are the statuses and the spill heights after it
@@ -130,7 +129,7 @@ module _ (hs : List Float) (limit c m : ℕ) (status : List ℕ) (spill : List F
       | inr z ↦ other-spill j z ∙ q .unraised j (sym (other j z) ∙ w)
     ]
 
-    reached : (len′ : ℕ) (queue′ : List ℕ) → Queued hs limit status′ spill′ len′ queue′ → Reached hs limit c m lent len′ lent′ queue′
+    reached : (len′ : ℕ) (queue′ : List ℕ) → Queued hs limit status′ spill′ len′ queue′ → ReachedOne hs limit c m lent len′ lent′ queue′
     unfolding pushedBy
     reached len′ queue′ q′ = record {
       left = other c apart ∙ left;
@@ -144,7 +143,7 @@ module _ (hs : List Float) (limit c m : ℕ) (status : List ℕ) (spill : List F
     -- one that the scan has not passed waits in the list
     pub reached-listed :
         m < length spill → m < length hs → Level hs limit (getD spill c nan) → limit ≤ queuePlace spill m
-        → Reached hs limit c m lent len lent′ queue
+        → ReachedOne hs limit c m lent len lent′ queue
     reached-listed b i v o = reached len queue (record {
       heap = respilled hs limit status spill len queue q m e spill′ x s;
       below = λ j k. q .below j k ∙ ap (λ t. oneIf t 1) (sym (other j (under j k)));
@@ -168,7 +167,7 @@ module _ (hs : List Float) (limit c m : ℕ) (status : List ℕ) (spill : List F
     -- another joins the heap
     pub reached-heaped :
         (queue′ : List ℕ) → queuePlace spill m < limit → Pushed (queuePlace spill′) (length spill′) len queue m queue′
-        → Reached hs limit c m lent (len + 1) lent′ queue′
+        → ReachedOne hs limit c m lent (len + 1) lent′ queue′
     reached-heaped queue′ h p = reached (len + 1) queue′ (record {
       heap = p .heap;
       below = λ j k. p .cells j ∙ elim (same-or-not m j) [

@@ -28,8 +28,8 @@ pub record ReachedBy (hs : List Float) (limit c : ℕ) (cells : List ℕ) (befor
   pub queued : Queued hs limit (after .status) (after .spill) len queue
 
 -- Cell c has reached cell m.
-abbrev pub Reached : List Float → ℕ → ℕ → ℕ → FloodSlices → ℕ → FloodSlices → List ℕ → Type 0
-Reached hs limit c m = ReachedBy hs limit c (m ∷ [])
+abbrev pub ReachedOne : List Float → ℕ → ℕ → ℕ → FloodSlices → ℕ → FloodSlices → List ℕ → Type 0
+ReachedOne hs limit c m = ReachedBy hs limit c (m ∷ [])
 
 -- Cell c has reached all its neighbours, whatever cells are base level and whatever the distances: the slices held
 -- `before` and hold `after`, for any order so far; with `after`, len and queue are as `Queued` states.

@@ -21,7 +21,7 @@ ghost use Rattle.grid.specs.Directions.{neighbourAt};
 ghost use Rattle.grid_inner.specs.Inner.{Inner};
 ghost use Rattle.flood_queue.specs.Scans.{Queued, Level};
 ghost use Rattle.flood_start.specs.Slices.{Sizes};
-ghost use Rattle.flood_reach.specs.Reaches.{Reached, ReachedBy, ReachedAll, Found};
+ghost use Rattle.flood_reach.specs.Reaches.{ReachedOne, ReachedBy, ReachedAll, Found};
 
 // Cell c, which has left, reaches cell m: if m was not pushed yet (its spill height so far is its own height), it gets
 // its spill height and its discoverer and waits from now on, in the heap if the scan has passed it, else where it
@@ -42,7 +42,7 @@ fn reach(
     requires { ⌜ c < length (now h) ⌝ }
     requires { ⌜ getD (now status) c 0 ≡ 2 ⌝ }
     requires { ⌜ Level (now h) limit (getD (now spill) c nan) ⌝ }
-    ensures { λ r. ⌜ Reached (now (h .entry)) limit c m
+    ensures { λ r. ⌜ ReachedOne (now (h .entry)) limit c m
         (record { status = now (status .entry); spill = now (spill .entry); recv = now (recv .entry) }) r
         (record { status = now (status .exit); spill = now (spill .exit); recv = now (recv .exit) })
         (now (queue .exit)) ⌝ }

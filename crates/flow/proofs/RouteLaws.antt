@@ -17,7 +17,7 @@ use Rattle.drainage.specs.Ground.{squareLand}
 use Rattle.drainage.specs.declared.Land.{Land}
 use Rattle.flood.specs.Slices.{AcceptedGrid}
 use Rattle.flow.specs.declared.Lent.{Lent}
-use Rattle.flow.specs.Route.{lentBy, badLengths, routeAnswer, accepted, Enough, Holding, NetSlices, Routed}
+use Rattle.flow.specs.Route.{lentBy, badNetLengths, routeAnswer, accepted, Enough, Holding, NetSlices, Routed}
 
 abbrev byTests : Bool → Bool → Bool → Bool → ℕ → Outcome (Unit {0})
 byTests s l f a k = cond s (refused 1) (cond l (refused 3) (cond f (cond a (gives tt) (refusedAt 5 k)) (refused 4)))
@@ -29,7 +29,7 @@ given-is false false true true k = refl
 given-is false false true false k = refl
 given-is false false false a k = refl
 
-pub enough : (w h : ℕ) (l : Lent) → badLengths (w * h) l ≡ false → Enough (w * h) l
+pub enough : (w h : ℕ) (l : Lent) → badNetLengths (w * h) l ≡ false → Enough (w * h) l
 enough w h l e =
     let a = neither _ _ e in
     let b = neither _ _ (a .1) in
@@ -49,7 +49,7 @@ enough w h l e =
 
 module _ (w h : ℕ) (hs : List Float) (water : Float) (l : Lent) where
   -- the answer, once the tests are known
-  module _ (s b f a : Bool) (p : badSides w h ≡ s) (q : badLengths (w * h) l ≡ b) (r : finite water ≡ f) (t : allFinite hs ≡ a) where
+  module _ (s b f a : Bool) (p : badSides w h ≡ s) (q : badNetLengths (w * h) l ≡ b) (r : finite water ≡ f) (t : allFinite hs ≡ a) where
     pub answer-is : byTests s b f a (firstNotFinite hs) ≡ routeAnswer w h hs water l
     answer-is = λ i. byTests (sym p i) (sym q i) (sym r i) (sym t i) (firstNotFinite hs)
 
@@ -59,17 +59,17 @@ module _ (w h : ℕ) (hs : List Float) (water : Float) (l : Lent) where
 
 -- what is accepted
 module _ (w h : ℕ) (hs : List Float) (water : Float) (l : Lent) (e : accepted w h hs water l ≡ true) where
-  tests : (not (badSides w h) && (not (badLengths (w * h) l) && (finite water && allFinite hs))) ≡ true
-  tests = sym (given-is (badSides w h) (badLengths (w * h) l) (finite water) (allFinite hs) (firstNotFinite hs)) ∙ e
+  tests : (not (badSides w h) && (not (badNetLengths (w * h) l) && (finite water && allFinite hs))) ≡ true
+  tests = sym (given-is (badSides w h) (badNetLengths (w * h) l) (finite water) (allFinite hs) (firstNotFinite hs)) ∙ e
 
-  past-sides : (not (badSides w h) ≡ true) × ((not (badLengths (w * h) l) && (finite water && allFinite hs)) ≡ true)
-  past-sides = both (not (badSides w h)) (not (badLengths (w * h) l) && (finite water && allFinite hs)) tests
+  past-sides : (not (badSides w h) ≡ true) × ((not (badNetLengths (w * h) l) && (finite water && allFinite hs)) ≡ true)
+  past-sides = both (not (badSides w h)) (not (badNetLengths (w * h) l) && (finite water && allFinite hs)) tests
 
-  past-lengths : (not (badLengths (w * h) l) ≡ true) × ((finite water && allFinite hs) ≡ true)
-  past-lengths = both (not (badLengths (w * h) l)) (finite water && allFinite hs) (past-sides .1)
+  past-lengths : (not (badNetLengths (w * h) l) ≡ true) × ((finite water && allFinite hs) ≡ true)
+  past-lengths = both (not (badNetLengths (w * h) l)) (finite water && allFinite hs) (past-sides .1)
 
   pub accepted-enough : Enough (w * h) l
-  accepted-enough = enough w h l (not-true (badLengths (w * h) l) (past-lengths .0))
+  accepted-enough = enough w h l (not-true (badNetLengths (w * h) l) (past-lengths .0))
 
   pub accepted-grid : l .heights ≡ length hs → AcceptedGrid w h hs
   accepted-grid n = record {

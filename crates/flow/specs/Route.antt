@@ -14,10 +14,10 @@ use Rattle.grid.specs.Sides.{badSides}
 use Rattle.grid.specs.Heights.{firstNotFinite, allFinite}
 use Rattle.drainage.specs.Ground.{gridGround, squareLand}
 use Rattle.drainage.specs.declared.Land.{Land}
-use Rattle.drainage.specs.Receivers as R
 use Rattle.flow.specs.declared.Lent.{Lent}
 
--- The lengths of the slices lent to `route`: heights and results hold exactly the grid's cells, scratch at least as many.
+-- The lengths of the slices lent to `route`: heights and results hold exactly the grid's cells, scratch at least as
+-- many.
 abbrev pub lentOf : List Float → List ℕ → List ℕ → List Float → List Float → List ℕ → List ℕ → Lent
 lentOf hs order recv spill area queue status =
     record {
@@ -30,8 +30,8 @@ lentOf hs order recv spill area queue status =
       status = length status;
     }
 
-abbrev pub badLengths : ℕ → Lent → Bool
-badLengths n l =
+abbrev pub badNetLengths : ℕ → Lent → Bool
+badNetLengths n l =
     not (eqb (l .heights) n)
     || (not (eqb (l .order) n) || (not (eqb (l .receivers) n) || (not (eqb (l .spill) n) || (not (eqb (l .areas) n) || (ltb (l .queue) n || ltb (l .status) n)))))
 
@@ -40,7 +40,7 @@ badLengths n l =
 abbrev pub routeAnswer : ℕ → ℕ → List Float → Float → Lent → Outcome (Unit {0})
 routeAnswer w h hs water l =
     cond (badSides w h) (refused 1)
-    (cond (badLengths (w * h) l) (refused 3) (cond (finite water) (cond (allFinite hs) (gives tt) (refusedAt 5 (firstNotFinite hs))) (refused 4)))
+    (cond (badNetLengths (w * h) l) (refused 3) (cond (finite water) (cond (allFinite hs) (gives tt) (refusedAt 5 (firstNotFinite hs))) (refused 4)))
 
 -- whether the call is accepted
 abbrev pub accepted : ℕ → ℕ → List Float → Float → Lent → Bool

@@ -18,7 +18,7 @@ ghost use lib.ListN.{length};
 ghost use Rattle.answers.specs.Outcome.{answerOf};
 ghost use Rattle.drainage.specs.Ground.{gridGround, noBase};
 ghost use Rattle.flood.specs.Slices.{AcceptedGrid};
-ghost use Rattle.flow.specs.Route.{badLengths, routeAnswer, lentOf, Enough, Holding, Routed};
+ghost use Rattle.flow.specs.Route.{badNetLengths, routeAnswer, lentOf, Enough, Holding, Routed};
 
 // The lengths of the slices lent to `route`.
 pub struct Lent {
@@ -33,7 +33,7 @@ pub struct Lent {
 
 // Refusal 3: whether a length is wrong. Heights and results must hold exactly n cells, scratch at least n.
 fn bad_lengths(n: usize, l: Lent) -> bool
-    ensures { λ r. ⌜ r ≡ badLengths n l ⌝ }
+    ensures { λ r. ⌜ r ≡ badNetLengths n l ⌝ }
 {
     if l.heights != n {
         return true;

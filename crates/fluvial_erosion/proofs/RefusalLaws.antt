@@ -29,7 +29,7 @@ use Rattle.lent_list.proofs.ListLaws.{good-at, good-work}
 use Rattle.lent_receivers.proofs.ReceiverLaws.{good-cell, good-is}
 use Rattle.receiver_steps.proofs.PlaceLaws.{near-of}
 use Rattle.fluvial_erosion.specs.Incision.{incisedBy}
-use Rattle.fluvial_erosion.specs.Incise.{badLengths, badIncision, inciseRefusal, incised, InciseMade}
+use Rattle.fluvial_erosion.specs.Incise.{badInciseLengths, badIncision, inciseRefusal, incised, InciseMade}
 use Rattle.fluvial_erosion.specs.Along.{Drains, Carved}
 use Rattle.fluvial_erosion.specs.declared.FluvialParams.{FluvialParams}
 
@@ -41,7 +41,7 @@ pub record Sized (n heights recv list result scratch : ℕ) : Type 0 where
   pub out : result ≡ n
   pub areas : n ≤ scratch
 
-pub sized : (n heights recv list result scratch : ℕ) → badLengths n heights recv list result scratch ≡ false → Sized n heights recv list result scratch
+pub sized : (n heights recv list result scratch : ℕ) → badInciseLengths n heights recv list result scratch ≡ false → Sized n heights recv list result scratch
 sized n heights recv list result scratch e =
     let a = neither (not (eqb heights n)) _ e in
     let b = neither (not (eqb recv n)) _ (a .1) in
@@ -118,7 +118,7 @@ module _ (w h : ℕ) (hs : List Float) (p : FluvialParams) (recv list : List ℕ
   -- what the tests let pass
   pub record AcceptedIncision : Type 0 where
     pub sides : badSides w h ≡ false
-    pub lengths : badLengths (w * h) (length hs) (length recv) (length list) result scratch ≡ false
+    pub lengths : badInciseLengths (w * h) (length hs) (length recv) (length list) result scratch ≡ false
     pub setting : badIncision p ≡ false
     pub heights : not (allFinite hs) ≡ false
     pub receivers : ltb (firstBadReceiver w h recv) (w * h) ≡ false
@@ -128,10 +128,10 @@ module _ (w h : ℕ) (hs : List Float) (p : FluvialParams) (recv list : List ℕ
   ends-done a = rw (a .sides, a .lengths, a .setting, a .heights, a .receivers, a .entries)
 
   module _ (sides : badSides w h ≡ false) where
-    pub ends-length : {t : Bool} → t ≡ badLengths (w * h) (length hs) (length recv) (length list) result scratch → t ≡ true → refused 3 ≡ decided
+    pub ends-length : {t : Bool} → t ≡ badInciseLengths (w * h) (length hs) (length recv) (length list) result scratch → t ≡ true → refused 3 ≡ decided
     ends-length a e = rw (sides, sym a ∙ e)
 
-    module _ (lengths : badLengths (w * h) (length hs) (length recv) (length list) result scratch ≡ false) where
+    module _ (lengths : badInciseLengths (w * h) (length hs) (length recv) (length list) result scratch ≡ false) where
       pub ends-setting : {t : Bool} → t ≡ badIncision p → t ≡ true → refused 4 ≡ decided
       ends-setting a e = rw (sides, lengths, sym a ∙ e)
 
@@ -150,7 +150,7 @@ module _ (w h : ℕ) (hs : List Float) (p : FluvialParams) (recv list : List ℕ
   pub accepted : gives tt ≡ decided → AcceptedIncision
   accepted e =
       let a = not-refused (badSides w h) (refused 1) _ tt refl (sym e) in
-      let b = not-refused (badLengths (w * h) (length hs) (length recv) (length list) result scratch) (refused 3) _ tt refl (a .1) in
+      let b = not-refused (badInciseLengths (w * h) (length hs) (length recv) (length list) result scratch) (refused 3) _ tt refl (a .1) in
       let c = not-refused (badIncision p) (refused 4) _ tt refl (b .1) in
       let d = not-refused (not (allFinite hs)) (refusedAt 5 (firstNotFinite hs)) _ tt refl (c .1) in
       let f = not-refused (ltb (firstBadReceiver w h recv) (w * h)) (refusedAt 6 (firstBadReceiver w h recv)) _ tt refl (d .1) in

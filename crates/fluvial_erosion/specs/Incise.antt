@@ -27,8 +27,8 @@ badIncision p =
     outsideOf (p .k) (ofBits binary32 0) (ofBits binary32 0x4280_0000) || (outsideOf (p .uplift) (neg one) one || not (finite (p .«water_level»)))
 
 -- refusal 3: heights, receivers, list and result exactly n, scratch at least n
-abbrev pub badLengths : ℕ → ℕ → ℕ → ℕ → ℕ → ℕ → Bool
-badLengths n heights recv list result scratch =
+abbrev pub badInciseLengths : ℕ → ℕ → ℕ → ℕ → ℕ → ℕ → Bool
+badInciseLengths n heights recv list result scratch =
     not (eqb heights n) || (not (eqb recv n) || (not (eqb list n) || (not (eqb result n) || ltb scratch n)))
 
 -- the first refusal that applies, else `then`: 1: a side; 3: a length; 4: a setting; 5: a height; 6: a receiver; 7: the
@@ -37,7 +37,7 @@ abbrev pub inciseRefusal : {A : Type 0} → ℕ → ℕ → List Float → Fluvi
 inciseRefusal w h hs p recv list result scratch number at then =
     let n = w * h in
     cond (badSides w h) (number 1)
-    (cond (badLengths n (length hs) (length recv) (length list) result scratch) (number 3)
+    (cond (badInciseLengths n (length hs) (length recv) (length list) result scratch) (number 3)
     (cond (badIncision p) (number 4)
     (cond (not (allFinite hs)) (at 5 (firstNotFinite hs))
     (cond (ltb (firstBadReceiver w h recv) n) (at 6 (firstBadReceiver w h recv)) (cond (ltb (firstBadEntry n recv list) n) (at 7 (firstBadEntry n recv list)) then)))))

@@ -1,6 +1,7 @@
--- Document 01, 'Incision': along the list, from the heights as they then stand. A cell with height ≤ water level is skipped. Else
--- c = k × root(max(area, 1e-4 × n) / n) / d, and the new height is (height + uplift + c × H) / (1 + c). For a cell that is its own receiver H is the
--- water level and d is 1; otherwise H is max(receiver's new height, water level) and d the distance.
+-- Document 01, 'Incision': along the list, from the heights as they then stand. A cell with height ≤ water level is
+-- skipped. Else c = k × root(max(area, 1e-4 × n) / n) / d, and the new height is (height + uplift + c × H) / (1 + c).
+-- For a cell that is its own receiver H is the water level and d is 1; otherwise H is max(receiver's new height, water
+-- level) and d the distance.
 use Prim.Native.Nat.{ℕ}
 use mathlib.Core.List.{List, [], _∷_}
 use lib.ListN.{getD, set}
@@ -13,7 +14,8 @@ use Rattle.drainage.specs.Receivers.{distanceTo}
 use Rattle.drainage.specs.Ways.{areasAlong}
 use Rattle.fluvial_erosion.specs.declared.FluvialParams.{FluvialParams}
 
--- the height of a cell after its incision, from its own height, its area, the distance to its receiver and the height H to drain to
+-- the height of a cell after its incision, from its own height, its area, the distance to its receiver and the height H
+-- to drain to
 abbrev pub incisedHeight : FluvialParams → ℕ → Float → Float → Float → Float → Float
 incisedHeight p n area d height down = cutOf height (p .uplift) (p .«water_level») (incisionCoef area (whole n) (p .k) d) down
 

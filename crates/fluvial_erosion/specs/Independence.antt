@@ -1,4 +1,5 @@
--- What an incision leaves does not depend on the work list: any two work lists of the same receivers give the same areas and the same heights.
+-- What an incision leaves does not depend on the work list: any two work lists of the same receivers give the same
+-- areas and the same heights.
 use Prim.Native.Nat.{ℕ, _^_, _≤_}
 use mathlib.Core.Path.{_≡_}
 use mathlib.Core.List.{List}
@@ -14,8 +15,8 @@ pub record SameIncision (g : Ground) (p : FluvialParams) (recv first second : Li
   pub areas : areasAlong (g .cells) recv first ≡ areasAlong (g .cells) recv second
   pub heights : incisedBy g p recv first hs ≡ incisedBy g p recv second hs
 
--- For given heights and receivers, of at most 2^24 cells, any two work lists give the same areas and the same incised heights. Neither the ground
--- nor the heights need be a grid's, and the heights need not be finite.
+-- For given heights and receivers, of at most 2^24 cells, any two work lists give the same areas and the same incised
+-- heights. Neither the ground nor the heights need be a grid's, and the heights need not be finite.
 abbrev pub Independence : Type 0
 Independence =
     (g : Ground) (p : FluvialParams) (recv first second : List ℕ) (hs : List Float) → g .cells ≡ length hs → g .cells ≤ 2 ^ 24

@@ -38,7 +38,7 @@ ghost use Rattle.incision_cell.specs.Cut.{cutDown};
 ghost use Rattle.incision_paths.specs.Settled.{madeAlong};
 ghost use Rattle.fluvial_erosion.specs.Incision.{inciseAlong};
 ghost use Rattle.answers.specs.Outcome.{gives, refused, refusedAt, answerOf};
-ghost use Rattle.fluvial_erosion.specs.Incise.{badLengths, badIncision, inciseRefusal, InciseMade};
+ghost use Rattle.fluvial_erosion.specs.Incise.{badInciseLengths, badIncision, inciseRefusal, InciseMade};
 ghost use Rattle.fluvial_erosion.specs.Along.{onGrid, Drains, Lengths, Incised, Carved};
 
 // The most cells whose heights are incised along the list; those of larger grids are incised by ways down, which stay
@@ -84,7 +84,7 @@ fn incise_plain(by: Incision, area: &[f32], recv: &[u32], order: &[u32], out: &m
 }
 
 // Incises the heights in `out` along the list by the words of the cells. A list in order of height visits cells
-// scattered over memory; with words it reads two slices and not four.
+// scattered over memory; with words it goes to two slices, `words` and `out`, and without them to three.
 fn incise_listed(by: Incision, recv: &[u32], words: &[f32], order: &[u32], out: &mut [f32])
     requires { ⌜ Along (length (now out)) (now recv) (now order) ⌝ }
     requires { ⌜ SteppedNetwork (by .width) (now recv) (length (now out)) ⌝ }
@@ -217,7 +217,7 @@ fn bad_lengths(
     result: usize,
     scratch: usize,
 ) -> bool
-    ensures { λ r. ⌜ r ≡ badLengths n heights recv list result scratch ⌝ }
+    ensures { λ r. ⌜ r ≡ badInciseLengths n heights recv list result scratch ⌝ }
 {
     if heights != n {
         return true;

@@ -20,7 +20,7 @@ use Rattle.drainage.proofs.GroundLaws.{north-based}
 use Rattle.flood.specs.Slices.{AcceptedGrid}
 use Rattle.flow.specs.Route.{Enough}
 use Rattle.flow.specs.declared.Lent.{Lent}
-use Rattle.run_machine.specs.Machine.{Course, State, start, steps}
+use Rattle.run_machine.specs.Machine.{Course, State, start}
 use Rattle.run_machine.specs.Run.{ours}
 use Rattle.run_machine.specs.Nested.{oneOpening, oneIteration, iterated, nested, Due, Bounded}
 use Rattle.run_machine.proofs.SoundLaws.{Sound}

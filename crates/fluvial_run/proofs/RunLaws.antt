@@ -37,7 +37,7 @@ use Rattle.fluvial_loop.specs.Loops.{planOf, courseBy}
 use Rattle.fluvial_loop.specs.declared.FluvialPlan.{FluvialPlan}
 use Rattle.fluvial_grid.specs.Grids.{scratchOf, Erodes}
 use Rattle.fluvial_grid.specs.declared.Scratch.{Scratch}
-use Rattle.fluvial_run.specs.FluvialRun.{shortestOf, inputRefusal, FluvialScratch, lengthsOf, FluvialRun}
+use Rattle.fluvial_run.specs.FluvialRun.{shortestOf, fluvialInputRefusal, FluvialScratch, lengthsOf, FluvialRun}
 
 -- a plan by its parts
 pub plan-is : {p : FluvialPlan} (q : Plan) → p .iterations ≡ q .iterations → p .passes ≡ q .passes → p .cuts ≡ q .cuts → p .slides ≡ q .slides → p .land ≡ q .land → planOf p ≡ q
@@ -75,7 +75,7 @@ module _ (w h : ℕ) (conf : FluvialSettings) (stop : ℕ) (map small eroded cop
   lengths = lengthsOf scratch
 
   abbrev outcome : Outcome (Unit {0})
-  outcome = inputRefusal w h conf map lengths
+  outcome = fluvialInputRefusal w h conf map lengths
 
   -- by the test of the settings and the length of the shortest scratch slice
   pub decided : {o : Outcome (Unit {0})} {bad : Bool} {scratch : ℕ} → o ≡ refusalOn w h bad map scratch → bad ≡ badFluvial conf → scratch ≡ shortestOf lengths → o ≡ outcome

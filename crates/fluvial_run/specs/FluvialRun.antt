@@ -19,8 +19,8 @@ shortestOf s =
     min (min (min (s .small) (s .eroded)) (min (s .copy) (s .area))) (min (min (s .order) (s .recv)) (min (s .queue) (s .status)))
 
 -- the refusals of the input; of the scratch slices the shortest is tested
-abbrev pub inputRefusal : ℕ → ℕ → FluvialSettings → List Float → Scratch → Outcome (Unit {0})
-inputRefusal w h conf map s = refusalOn w h (badFluvial conf) map (shortestOf s)
+abbrev pub fluvialInputRefusal : ℕ → ℕ → FluvialSettings → List Float → Scratch → Outcome (Unit {0})
+fluvialInputRefusal w h conf map s = refusalOn w h (badFluvial conf) map (shortestOf s)
 
 -- the scratch slices lent to a fluvial run
 pub record FluvialScratch : Type 0 where
@@ -36,9 +36,9 @@ pub record FluvialScratch : Type 0 where
 abbrev pub lengthsOf : FluvialScratch → Scratch
 lengthsOf s = scratchOf (s .small) (s .eroded) (s .copy) (s .area) (s .order) (s .recv) (s .queue) (s .status)
 
--- The answer, the counts and the map are those of the run of document 01 along the flood's own order, or of the refusal;
--- a refused input leaves scratch as it was.
+-- The answer, the counts and the map are those of the run of document 01 along the flood's own order, or of the
+-- refusal; a refused input leaves scratch as it was.
 pub record FluvialRun (w h : ℕ) (conf : FluvialSettings) (stop : ℕ) (map : List Float) (scratch : FluvialScratch) (r : RunAnswer)
     (map′ : List Float) (scratch′ : FluvialScratch) : Type 0 where
-  pub ended : endedWith r map′ ≡ endingOf (inputRefusal w h conf map (lengthsOf scratch)) map (runBy w h conf stop ours map)
-  pub kept : given (inputRefusal w h conf map (lengthsOf scratch)) ≡ false → scratch′ ≡ scratch
+  pub ended : endedWith r map′ ≡ endingOf (fluvialInputRefusal w h conf map (lengthsOf scratch)) map (runBy w h conf stop ours map)
+  pub kept : given (fluvialInputRefusal w h conf map (lengthsOf scratch)) ≡ false → scratch′ ≡ scratch

@@ -1,5 +1,5 @@
--- Document 01, 'Stop marks': a question is asked when p - last ≥ 0.01; last then becomes p; the S-th question asked gets yes, 0 means never;
--- a stopped record asks none and stays stopped.
+-- Document 01, 'Stop marks': a question is asked when p - last ≥ 0.01; last then becomes p; the S-th question asked
+-- gets yes, 0 means never; a stopped record asks none and stays stopped.
 use Prim.Native.Nat.{ℕ, _+_, _^_}
 use mathlib.Core.Path.{_≡_}
 use mathlib.Core.Bool.{Bool, true, false, not, _||_, cond}

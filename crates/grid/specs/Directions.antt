@@ -1,4 +1,5 @@
--- Document 01, 'Directions': the eight neighbours are scanned NW, N, NE, W, E, SW, S, SE, as entries 1 to 8 of the source's tables have them.
+-- Document 01, 'Directions': the eight neighbours are scanned NW, N, NE, W, E, SW, S, SE, as entries 1 to 8 of the
+-- source's tables have them.
 use Prim.Native.Nat.{ℕ, suc, _+_, _-_, _*_, _≤_, _<_}
 use mathlib.Core.Path.{_≡_}
 use mathlib.Core.Bool.{_&&_, cond}

@@ -213,7 +213,7 @@ pub fn first_not_finite(g: Sides, hs: &[f32]) -> usize
     search_rows(g, hs)
 }
 
-// Copies the heights of a map, for a pass to change.
+// Copies the heights of `hmap` to `out`.
 pub fn copy_heights(hmap: &[f32], out: &mut [f32])
     requires { ⌜ length (now out) ≡ length (now hmap) ⌝ }
     ensures { λ _. ⌜ now (out .exit) ≡ now (hmap .entry) ⌝ }

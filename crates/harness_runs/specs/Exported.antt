@@ -14,7 +14,7 @@ endWord a incisions passes questions =
 
 -- `word` is that of the public call's answer. `Ran` is the call's own promise as a property of its answer; that promise
 -- fixes the answer by an equation, and so the word.
-pub record Exported (Ran : RunAnswer → Type 0) (word : ℕ) : Type 0 where
+pub record ExportedRun (Ran : RunAnswer → Type 0) (word : ℕ) : Type 0 where
   pub answer : RunAnswer
   pub ran : Ran answer
   pub worded : word ≡ endWord (answer .answer) (answer .incisions) (answer .passes) (answer .questions)

@@ -9,7 +9,7 @@ use run_settings::ThermalSettings;
 ghost use mathlib.Core.Path.{_≡_};
 ghost use Rattle.thermal_run.specs.ThermalRun.{ThermalRun};
 ghost use Rattle.fluvial_run.specs.FluvialRun.{FluvialRun};
-ghost use Rattle.harness_runs.specs.Exported.{Exported, endWord};
+ghost use Rattle.harness_runs.specs.Exported.{ExportedRun, endWord};
 
 // The end of a run in one word.
 fn ended(r: RunAnswer) -> u64
@@ -38,7 +38,7 @@ pub extern "C" fn harness_thermal_run(
     eroded: &mut [f32],
     copy: &mut [f32],
 ) -> u64
-    ensures { λ r. ⌜ Exported (λ a. ThermalRun w h (record {
+    ensures { λ r. ⌜ ExportedRun (λ a. ThermalRun w h (record {
       «water_level» = «water_level»;
       talus = talus;
       strength = strength;
@@ -82,7 +82,7 @@ pub extern "C" fn harness_fluvial_run(
     queue: &mut [u32],
     status: &mut [u8],
 ) -> u64
-    ensures { λ r. ⌜ Exported (λ a. FluvialRun w h (record {
+    ensures { λ r. ⌜ ExportedRun (λ a. FluvialRun w h (record {
       «water_level» = «water_level»;
       strength = strength;
       talus = talus;

@@ -1,4 +1,5 @@
--- Each call gives one u64: the refusal number × 2^32 plus, where that number is 0, the root's bits, width × 65,536 + height, or 0.
+-- Each call gives one u64: the refusal number × 2^32 plus, where that number is 0, the root's bits, width × 65,536 +
+-- height, or 0.
 use Prim.Native.Nat.{ℕ, _+_, _*_, _/_, _%_, _^_}
 use mathlib.Core.Path.{_≡_}
 use mathlib.Core.Bool.{true, false}
@@ -53,8 +54,8 @@ pub record WordsUnpack : Type 0 where
   pub sides : (w h res : ℕ) → Unpacks sidesValue (workAnswer w h res)
   pub check : (s : List ℕ) → Unpacks (λ _. 0) (readStream false s)
 
--- 9 is left out and nothing else: a stream that the program does not refuse by 9 is read alike, and the check refuses none by 9. Proved in
--- proofs/HostLaws.antt.
+-- 9 is left out and nothing else: a stream that the program does not refuse by 9 is read alike, and the check refuses
+-- none by 9. Proved in proofs/HostLaws.antt.
 pub record NineLeftOut (s : List ℕ) : Type 0 where
   pub alike : (readStream true s ≡ refused 9 → ⊥) → readStream true s ≡ readStream false s
   pub never : readStream false s ≡ refused 9 → ⊥

@@ -46,7 +46,8 @@ pub extern "C" fn milofavurn_square_root(x: f32) -> u64
     }
 }
 
-// The working sides of a w × h map, reduced so that the longest is at most max_res: width × 65,536 + height.
+// The working sides of a w × h map, reduced so that the longest is at most max_res, but each at least 1: width × 65,536
+// + height.
 #[no_mangle]
 pub extern "C" fn milofavurn_working_sides(w: usize, h: usize, max_res: u32) -> u64
     ensures { λ r. ⌜ r ≡ sidesWord w h «max_res» ⌝ }

@@ -1,5 +1,5 @@
 // Refusal 7: the check of a lent list. Nothing lent is written before it is decided.
-use lent_list_blocks::BLOCK;
+use lent_list_blocks::LIST_BLOCK;
 use lent_list_blocks::block_end;
 use lent_list_blocks::positions_in;
 use lent_list_blocks::receivers_of;
@@ -17,12 +17,12 @@ ghost use Rattle.lent_list_blocks.specs.Blocks.{CellsBefore, takenAt, Picked};
 ghost use Rattle.lent_list.specs.Entries.{everyCell, firstBadEntry};
 ghost use Rattle.lent_list.specs.Walks.{Walk, WalkEnded, Scanned, ListLengths, ReceiversIn, WithinOverlap};
 
-// The most cells whose marks are bytes in an array of 64 KB on the stack, which stays in a near cache.
-const FEW: usize = 65536;
+// The most cells whose marks are bytes in an array of 64 KB on the stack, so that a small grid need not clear 1 MB.
+const FEW_CELLS: usize = 65536;
 
-// The most cells whose marks are bytes in an array of 1 MB on the stack, which stays in a farther cache; for more cells
-// marks are bits.
-const MANY: usize = 1048576;
+// The most cells whose marks are bytes in an array of 1 MB on the stack, half of what a Rust thread has by default; for
+// more cells marks are bits.
+const MANY_CELLS: usize = 1048576;
 
 // Checks k entries of the block from `from` to before `to`: all of them where `whole` is true, else those at the
 // positions in `places`. Returns the position of the first one that is bad by the marks of the segment from lo, or
@@ -46,7 +46,7 @@ fn first_in_block(
     ensures { λ r. ⌜ WalkEnded (length (now (recv .entry))) (now (recv .entry)) (now (list .entry)) lo to
         (now (seen .exit)) r ⌝ }
 {
-    let mut below: [u32; BLOCK] = [0; BLOCK];
+    let mut below: [u32; LIST_BLOCK] = [0; LIST_BLOCK];
     receivers_of(recv, list, places, k, &mut below, whole, from);
     let mut i: usize = 0;
     while i < k {
@@ -60,8 +60,8 @@ fn first_in_block(
 }
 
 // Checks the entries of one block, at most 1,024 positions long, whose cells lie in the segment from lo. Returns the
-// position of the first bad one, or `to`. Where the segment from 0 holds every cell, the whole block is checked; else
-// the positions with cells of the segment are listed first.
+// position of the first bad one, or `to`. On at most `SEGMENT` cells, all of which the segment from 0 holds, the whole
+// block is checked; else the positions with cells of the segment are listed first.
 fn first_in_some(
     seen: &mut [u64],
     lo: usize,
@@ -83,7 +83,7 @@ fn first_in_some(
             return first_in_block(seen, 0, recv, list, from, to, list, to - from, true);
         }
     }
-    let mut places: [u32; BLOCK] = [0; BLOCK];
+    let mut places: [u32; LIST_BLOCK] = [0; LIST_BLOCK];
     let k = positions_in(list, lo, from, to, &mut places);
     first_in_block(seen, lo, recv, list, from, to, &places, k, false)
 }
@@ -183,7 +183,7 @@ fn first_of_few(n: usize, recv: &[u32], list: &[u32]) -> usize
     requires { ⌜ n ≤ 65536 ⌝ }
     ensures { λ r. ⌜ Scanned n (now (recv .entry)) (now (list .entry)) 0 (0 + n) n r ⌝ }
 {
-    let mut seen: [u8; FEW] = [0; FEW];
+    let mut seen: [u8; FEW_CELLS] = [0; FEW_CELLS];
     first_in_bytes(n, recv, list, &mut seen)
 }
 
@@ -193,7 +193,7 @@ fn first_of_many(n: usize, recv: &[u32], list: &[u32]) -> usize
     requires { ⌜ n ≤ 1048576 ⌝ }
     ensures { λ r. ⌜ Scanned n (now (recv .entry)) (now (list .entry)) 0 (0 + n) n r ⌝ }
 {
-    let mut seen: [u8; MANY] = [0; MANY];
+    let mut seen: [u8; MANY_CELLS] = [0; MANY_CELLS];
     first_in_bytes(n, recv, list, &mut seen)
 }
 
@@ -213,17 +213,17 @@ fn first_of_all(n: usize, recv: &[u32], list: &[u32]) -> usize
     bad
 }
 
-// Refusal 7: returns the first position with a bad entry, or n where the list is a work list. No receiver may be far
-// from its cell.
+// Refusal 7: returns the first position with a bad entry, or n where the list is a work list. No receiver may be
+// further from its cell than the 8,192 cells by which segments overlap.
 pub fn first_bad_entry(n: usize, recv: &[u32], list: &[u32]) -> usize
     requires { ⌜ ListLengths n (now recv) (now list) ⌝ }
     requires { ⌜ WithinOverlap n (now recv) ⌝ }
     ensures { λ r. ⌜ r ≡ firstBadEntry n (now (recv .entry)) (now (list .entry)) ⌝ }
 {
-    if n <= FEW {
+    if n <= FEW_CELLS {
         return first_of_few(n, recv, list);
     }
-    if n <= MANY {
+    if n <= MANY_CELLS {
         return first_of_many(n, recv, list);
     }
     first_of_all(n, recv, list)

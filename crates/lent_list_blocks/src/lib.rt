@@ -12,7 +12,7 @@ ghost use Rattle.lent_list_marks.specs.Seen.{span, inSegment};
 ghost use Rattle.lent_list_blocks.specs.Blocks.{takenAt, CellsAt, Picked, receiversAt};
 
 // The number of positions in a block: their receivers, 4 KB, stay in the nearest cache.
-pub const BLOCK: usize = 1024;
+pub const LIST_BLOCK: usize = 1024;
 
 // The number of cells of one segment that have a mark.
 const CELLS_MARKED: u32 = SPAN as u32;
@@ -22,10 +22,10 @@ pub fn block_end(p: usize, limit: usize) -> usize
     requires { ⌜ (p < limit) × (limit ≤ 2 ^ 24) ⌝ }
     ensures { λ r. ⌜ r ≡ min (p + 1024) limit ⌝ }
 {
-    if limit - p < BLOCK {
+    if limit - p < LIST_BLOCK {
         return limit;
     }
-    p + BLOCK
+    p + LIST_BLOCK
 }
 
 // Returns 1 where cell c lies in the segment from lo, else 0: a number to add, a select, not a branch.

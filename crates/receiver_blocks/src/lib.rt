@@ -21,8 +21,8 @@ ghost use Rattle.grid_spacing.specs.Distances.{nineOf};
 ghost use Rattle.receiver_blocks.specs.Runs.{offsetFrom, discovererAs, steepestFrom, steepestAt, NearDiscoverers};
 ghost use Rattle.receiver_blocks.specs.Runs.{Begun, Leads, Stored, RunReceived};
 
-// The cells of a block: their offsets and slopes, 512 bytes, stay in the nearest cache while all directions are done.
-pub const BLOCK: usize = 64;
+// The cells of a block: their offsets and slopes, 512 bytes, stay in the nearest cache from one loop to the next.
+pub const RECEIVER_BLOCK: usize = 64;
 
 // The offset of cell m for an inner cell c on a grid of that width: m minus the north-west neighbour of c. It has as
 // many bits as a slope, so that as many offsets as slopes are selected at a time.
@@ -65,8 +65,8 @@ fn discoverer_block(
     recv: &[u32],
     c: usize,
     n: usize,
-    cells: &mut [u32; BLOCK],
-    slopes: &mut [f32; BLOCK],
+    cells: &mut [u32; RECEIVER_BLOCK],
+    slopes: &mut [f32; RECEIVER_BLOCK],
 )
     requires { ⌜ InnerRun (size .w) (size .h) c n ⌝ }
     requires { ⌜ NearDiscoverers (size .w) (size .h) c (c + n) (now recv) ⌝ }
@@ -91,7 +91,7 @@ fn discoverer_block(
 }
 
 // Compares the neighbours of an inner cell with the receiver so far, by their offsets. Returns the offset of the
-// steepest.
+// steepest strictly lower one if it is steeper than the receiver so far, else that of the receiver so far.
 fn steepest_inside(size: Sides, by_direction: &[f32; 9], spill: &[f32], c: usize, best: Best) -> u32
     requires { ⌜ Inner (size .w) (size .h) c ⌝ }
     requires { ⌜ length (now spill) ≡ size .w * size .h ⌝ }
@@ -117,8 +117,8 @@ fn steepest_block(
     spill: &[f32],
     c: usize,
     n: usize,
-    cells: &mut [u32; BLOCK],
-    slopes: &[f32; BLOCK],
+    cells: &mut [u32; RECEIVER_BLOCK],
+    slopes: &[f32; RECEIVER_BLOCK],
 )
     requires { ⌜ InnerRun (size .w) (size .h) c n ⌝ }
     requires { ⌜ length (now spill) ≡ size .w * size .h ⌝ }
@@ -150,8 +150,8 @@ fn receiver_inside(size: Sides, c: usize, f: u32, offset: u32) -> u32
     (c + offset as usize - (size.w + 1)) as u32
 }
 
-// The receivers of n inner cells from cell c on in the place of their discoverers, by the offsets in `cells`.
-fn store_block(size: Sides, recv: &mut [u32], c: usize, n: usize, cells: &[u32; BLOCK])
+// Stores the receivers of n inner cells from cell c on in the place of their discoverers, by the offsets in `cells`.
+fn store_block(size: Sides, recv: &mut [u32], c: usize, n: usize, cells: &[u32; RECEIVER_BLOCK])
     requires { ⌜ InnerRun (size .w) (size .h) c n ⌝ }
     requires { ⌜ length (now recv) ≡ size .w * size .h ⌝ }
     requires { ⌜ n ≤ 64 ⌝ }
@@ -186,8 +186,8 @@ pub fn receive_block(
     ensures { λ _. ⌜ RunReceived ds (size .w) (size .h) (now (spill .entry)) c (c + n) (now (recv .entry))
         (now (recv .exit)) ⌝ }
 {
-    let mut cells: [u32; BLOCK] = [0; BLOCK];
-    let mut slopes: [f32; BLOCK] = [0.0; BLOCK];
+    let mut cells: [u32; RECEIVER_BLOCK] = [0; RECEIVER_BLOCK];
+    let mut slopes: [f32; RECEIVER_BLOCK] = [0.0; RECEIVER_BLOCK];
     discoverer_block(
         size,
         ds,

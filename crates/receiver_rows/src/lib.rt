@@ -5,7 +5,7 @@ use grid_inner::inner_cells;
 use grid_spacing::Distances;
 use grid_spacing::direction_distances;
 use receiver::receiver;
-use receiver_blocks::BLOCK;
+use receiver_blocks::RECEIVER_BLOCK;
 use receiver_blocks::receive_block;
 use receiver_steps::place_distances;
 ghost use Prim.Native.Nat.{ℕ, _+_, _*_, _≤_, _<_};
@@ -42,9 +42,18 @@ fn receive_inner_cells(
         (now (recv .exit)) ⌝ }
 {
     let mut i: usize = 0;
-    while BLOCK <= n - i {
-        receive_block(size, ds, by_place, by_direction, spill, recv, c + i, BLOCK);
-        i += BLOCK;
+    while RECEIVER_BLOCK <= n - i {
+        receive_block(
+            size,
+            ds,
+            by_place,
+            by_direction,
+            spill,
+            recv,
+            c + i,
+            RECEIVER_BLOCK,
+        );
+        i += RECEIVER_BLOCK;
     }
     receive_block(size, ds, by_place, by_direction, spill, recv, c + i, n - i);
 }
@@ -79,7 +88,8 @@ fn receive_cells(
     }
 }
 
-// The receivers of row y, from the west: its first cell, the inner ones, and the rest.
+// Stores the receivers of row y in the place of their discoverers, from the west: of its first cell, of the inner ones,
+// and of the rest.
 fn receive_row(
     size: Sides,
     ds: Distances,

@@ -7,8 +7,8 @@ ghost use mathlib.Core.Bool.{cond};
 ghost use Prim.Native.Nat.{_+_, _-_, _*_, _/_, _%_, _≤_, _<_};
 ghost use Rattle.grid_spacing.specs.Distances.{cellSide};
 ghost use Rattle.receiver_steps.specs.Distance.{apart};
-ghost use Rattle.receiver_steps.specs.Step.{placeDistances, stepDistances, stepOffsets, gap, distancePlace, stepOf};
-ghost use Rattle.receiver_steps.specs.Step.{steppedTo, Near};
+ghost use Rattle.receiver_steps.specs.Step.{placeDistances, stepDistances, stepOffsets, gap, distancePlace};
+ghost use Rattle.receiver_steps.specs.Step.{stepOf, steppedTo, Near};
 
 // The distance between two cells of one column: that of the rows, or 1 where they have the same row.
 fn along_column(same_row: bool, ds: Distances) -> f32
@@ -25,7 +25,8 @@ fn across_columns(same_row: bool, ds: Distances) -> f32
     if same_row { ds.column } else { ds.diagonal }
 }
 
-// Distance in cells between a cell and itself or one of its 8 neighbours.
+// Returns the distance from cell i to its receiver r, by the distances `ds`: 1 if r is i itself, else that to the
+// neighbour r.
 pub fn receiver_distance(i: usize, r: usize, width: usize, ds: Distances) -> f32
     requires { ⌜ 0 < width ⌝ }
     ensures { λ d. ⌜ d ≡ apart ds width i r ⌝ }
@@ -57,11 +58,11 @@ pub fn step_place(i: usize, r: usize, width: usize) -> usize
     requires { ⌜ 3 ≤ width ⌝ }
     ensures { λ p. ⌜ p ≡ distancePlace width i r ⌝ }
 {
-    let apart = difference(i, r);
-    if apart < 2 {
-        return apart;
+    let between = difference(i, r);
+    if between < 2 {
+        return between;
     }
-    apart + 3 - width
+    between + 3 - width
 }
 
 // The step from cell i to its receiver r, below 16: r's column counted from the one west of i, plus 4 times its row

@@ -1,6 +1,6 @@
 // Replays the oracle's list: reads tasks, makes the calls and writes the answers, which must be those in the file
-// stdout. oracle/README.md has the words of each task and answer. Scratch is a whole buffer, longer than any grid of
-// the list; whole runs are streams for `relief`.
+// stdout. oracle/README.md has the words of each task and answer. Scratch is a whole buffer, with at least as many
+// values as any grid of the list has cells; whole runs are streams for `relief`.
 use answers::Written;
 use floats::from_bits;
 use floats::to_bits;

@@ -1,4 +1,5 @@
--- The working grid of a map: the map's own sides where the longest fits, else both scaled by max_res / longest in binary32, never below 1.
+-- The working grid of a map: the map's own sides where the longest fits, else both scaled by max_res / longest in
+-- binary32, never below 1.
 use Prim.Native.Nat.{ℕ, max, _≤_}
 use mathlib.Core.Path.{_≡_}
 use mathlib.Core.Bool.{false, cond}

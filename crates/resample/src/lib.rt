@@ -1,5 +1,5 @@
 // The source's resample.rs: the sides of the reduced grid, and the refusals of a full map beside a reduced one. The
-// block average onto it is in the crate `downsample`, the way back in `bilinear` and `upsample`.
+// block average onto it is in the crate `downsample`, the way back in `bilinear`, `upsample_rows` and `upsample`.
 use answers::Answer;
 use answers::Refusal;
 use floats::ratio;

@@ -1,4 +1,5 @@
--- Demand 3 as one claim about the whole run with all its lists, in the words of document 01, 'The other run of demand 3'.
+-- Demand 3 as one claim about the whole run with all its lists, in the words of document 01, 'The other run of demand
+-- 3'.
 use Prim.Native.Nat.{ℕ, _<_}
 use mathlib.Core.Path.{_≡_}
 use mathlib.Core.Bool.{true, false, _&&_, cond}
@@ -24,8 +25,9 @@ use Rattle.run_machine.specs.Run.{Choice, ours, lent, fluvialCourse, run
 use Rattle.run_settings.specs.Refusals.{fluvialRefusal}
 use Rattle.run_settings.specs.declared.FluvialSettings.{FluvialSettings}
 
--- Iteration `it` of a course from the working heights hs routes the heights `routed`: after some steps the run has not ended, that iteration is
--- due and not opened yet, and its question does not stop it. An iteration that then ends in 22 routes too.
+-- Iteration `it` of a course from the working heights hs routes the heights `routed`: after some steps the run has not
+-- ended, that iteration is due and not opened yet, and its question does not stop it. An iteration that then ends in 22
+-- routes too.
 pub record Routes (c : Course) (hs : List Float) (it : ℕ) (routed : List Float) : Type 0 where
   pub done : ℕ
   pub goes-on : after c done hs .number ≡ 0
@@ -35,9 +37,10 @@ pub record Routes (c : Course) (hs : List Float) (it : ℕ) (routed : List Float
   pub unstopped : reportOf (after c done hs .marks) (c .opening it) (c .stop) .stopped ≡ false
   pub heights : after c done hs .heights ≡ routed
 
--- The network of heights hs with areas along a list: the list is a work list of the receivers; every spill height is the least, over all chains
--- to base level, of the greatest height on the chain, as numbers; a cell is its own receiver exactly if it is base level; the float areas along
--- the list are the numbers of cells whose way down passes through, and base-level areas total the cells of the grid.
+-- The network of heights hs with areas along a list: the list is a work list of the receivers; every spill height is
+-- the least, over all chains to base level, of the greatest height on the chain, as numbers; a cell is its own receiver
+-- exactly if it is base level; the float areas along the list are the numbers of cells whose way down passes through,
+-- and base-level areas total the cells of the grid.
 pub record Drained (ground : List Float → Ground) (hs : List Float) (list : List ℕ) : Type 0 where
   pub work-list : WorkList (ground hs .cells) (receiversOn ground hs) list
   pub spill : (c : ℕ) → c < ground hs .cells → LeastCrest (ground hs) (λ i. rank (getD hs i nan)) c (rank (getD (spillOn ground hs) c nan))
@@ -72,8 +75,8 @@ module _ (w h : ℕ) (s : FluvialSettings) (stop : ℕ) (map : List Float) where
     pub ours-drained : (it : ℕ) (routed : List Float) → RunRoutes ours it routed → Drained groundOf routed (orderOn groundOf routed)
     pub lent-drained : (it : ℕ) (routed : List Float) → RunRoutes (lent lists) it routed → Drained groundOf routed (lists it)
 
--- Demand 3: for every map, settings and stop number that the whole-run call accepts, and any lists of which each one that an iteration of the
--- other run goes along is a work list of that iteration's own routing.
+-- Demand 3: for every map, settings and stop number that the whole-run call accepts, and any lists of which each one
+-- that an iteration of the other run goes along is a work list of that iteration's own routing.
 abbrev pub Demand3 : Type 0
 Demand3 =
     (w h : ℕ) (s : FluvialSettings) (stop : ℕ) (map : List Float) (lists : ℕ → List ℕ) → Fit map → fluvialRefusal w h s map ≡ 0

@@ -52,7 +52,8 @@ pub record State : Type 0 where
   -- 0 while the run goes on; 21 or 22 once that ended it
   pub number : ℕ
 
--- a state with another copy and row of its pass, another record and another number; the completed heights and the counts stay
+-- a state with another copy and row of its pass, another record and another number; the completed heights and the
+-- counts stay
 abbrev pub passAt : List Float → ℕ → Progress → ℕ → State → State
 passAt copy row m number s =
     record {

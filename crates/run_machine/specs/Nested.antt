@@ -1,5 +1,6 @@
 -- The run of Machine.antt as nested loops: iterations; in each its opening and its passes; in each pass all its rows.
--- proofs/CourseLaws.antt shows that both forms end in the same state.
+-- proofs/CourseLaws.antt shows that both forms end in the same state but for the row in which 21 or 22 ended the run,
+-- which is 0 here (`dropped`).
 use Prim.Native.Nat.{ℕ, suc, _+_, _*_, _^_, _≤_, _<_}
 use mathlib.Core.Path.{_≡_}
 use mathlib.Core.Bool.{true, false, not, _&&_, cond}

@@ -11,7 +11,8 @@ use Rattle.run_settings.specs.declared.FluvialSettings.{FluvialSettings}
 use Rattle.run_settings.specs.declared.ThermalSettings.{ThermalSettings}
 
 -- The source's REFERENCE_RES, 512: the longest side of the map that settings refer to. STRENGTH_MAX, 8, and TALUS_MAX,
--- 0.03: k of strength 1 and the threshold of talus 0 on that map. TALUS_STRENGTH, 0.5: the talus strength of fluvial runs.
+-- 0.03: k of strength 1 and the threshold of talus 0 on that map. TALUS_STRENGTH, 0.5: the talus strength of fluvial
+-- runs.
 abbrev pub referenceRes : Float
 referenceRes = ofBits binary32 0x4400_0000
 

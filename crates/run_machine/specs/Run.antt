@@ -1,5 +1,5 @@
--- Whole runs of document 01 on a map: full-grid, or on a reduced grid with the difference added back. `runBy` takes the work list of each
--- iteration as an argument; ours is `runBy` with the flood's own order.
+-- Whole runs of document 01 on a map: full-grid, or on a reduced grid with the difference added back. `runBy` takes the
+-- work list of each iteration as an argument; ours is `runBy` with the flood's own order.
 use Prim.Native.Nat.{ℕ, _+_}
 use mathlib.Core.Bool.{true, false, _&&_, cond}
 use mathlib.Core.List.{List}

@@ -17,7 +17,7 @@ ghost use Rattle.run_machine.specs.Plan.{thermalPasses, thermalParams};
 // The longest side of the map that settings refer to.
 const REFERENCE_RES: f32 = 512.0;
 
-// The incision coefficient of strength 1 on that map.
+// k, the factor of the incision coefficient, of strength 1 on that map.
 const STRENGTH_MAX: f32 = 8.0;
 
 // The threshold of talus 0 on that map.

@@ -1,5 +1,5 @@
--- Document 01, 'The stream': the bytes that go out. The grid record, the rows, and 45 4E with the refusal number or 0 (two bytes), incisions, passes,
--- questions (four each). On 1 to 9 only 45 4E comes, counts 0.
+-- Document 01, 'The stream': the bytes that go out. The grid record, the rows, and 45 4E with the refusal number or 0
+-- (two bytes), incisions, passes, questions (four each). On 1 to 9 only 45 4E comes, counts 0.
 use Prim.Native.Nat.{ℕ, zero, suc, _+_, _*_}
 use mathlib.Core.Path.{_≡_}
 use mathlib.Core.Bool.{Bool, not, _&&_, _||_, cond}
@@ -55,8 +55,8 @@ outputBy w h r map = outputOf w h (runNumber r) (r .incisions) (r .passes) (r .q
 abbrev pub rowsLength : ℕ → ℕ → ℕ
 rowsLength w h = h * rowLength w
 
--- What the writer answers: the number of bytes that it wrote, or 1, a side of a map that is to be written, or 3, a map of another length or too
--- short a slice.
+-- What the writer answers: the number of bytes that it wrote, or 1, a side of a map that is to be written, or 3, a map
+-- of another length or too short a slice.
 unfoldable pub writtenOf : ℕ → ℕ → ℕ → ℕ → ℕ → Outcome ℕ
 writtenOf w h number cells room =
     cond (forInput number) (cond (ltb room 16) (refused 3) (gives 16))

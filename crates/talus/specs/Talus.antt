@@ -1,5 +1,5 @@
--- Document 01, 'Talus': heights are read from the map at entry and the gains added to a copy, cells in number order. The thresholds of the
--- directions are an argument, entry d that of direction d; entry 0 stands for no direction.
+-- Document 01, 'Talus': heights are read from the map at entry and the gains added to a copy, cells in number order.
+-- The thresholds of the directions are an argument, entry d that of direction d; entry 0 stands for no direction.
 use Prim.Native.Nat.{ℕ, suc, _+_, _*_}
 use mathlib.Core.Bool.{cond}
 use mathlib.Core.List.{List, [], _∷_}

@@ -12,7 +12,7 @@ ghost use Rattle.talus.specs.Places.{InRow};
 ghost use Rattle.talus_directions.specs.Parts.{InnerRow, lostFrom, gainedBy, losses, gainsToward, slideAll};
 
 // The cells of a block: their totals and losses, 512 bytes, stay in the nearest cache while all directions are done.
-pub const BLOCK: usize = 64;
+pub const TALUS_BLOCK: usize = 64;
 
 // Returns the height `old` less `moved` if its cell sheds, else `old`.
 fn lost(total: f32, moved: f32, old: f32) -> f32
@@ -41,8 +41,8 @@ fn lose_block(
     y: usize,
     x: usize,
     n: usize,
-    totals: &[f32; BLOCK],
-    moved: &[f32; BLOCK],
+    totals: &[f32; TALUS_BLOCK],
+    moved: &[f32; TALUS_BLOCK],
 )
     requires { ⌜ InRow (size .w) (size .h) (length (now out)) y x n ⌝ }
     requires { ⌜ n ≤ 64 ⌝ }
@@ -69,8 +69,8 @@ fn gain_block(
     x: usize,
     n: usize,
     d: usize,
-    totals: &[f32; BLOCK],
-    moved: &[f32; BLOCK],
+    totals: &[f32; TALUS_BLOCK],
+    moved: &[f32; TALUS_BLOCK],
 )
     requires { ⌜ InnerRow (size .w) (size .h) (length (now hmap)) y x n ⌝ }
     requires { ⌜ length (now out) ≡ length (now hmap) ⌝ }
@@ -105,8 +105,8 @@ pub fn slide_directions(
     y: usize,
     x: usize,
     n: usize,
-    totals: &[f32; BLOCK],
-    moved: &[f32; BLOCK],
+    totals: &[f32; TALUS_BLOCK],
+    moved: &[f32; TALUS_BLOCK],
 )
     requires { ⌜ InnerRow (size .w) (size .h) (length (now hmap)) y x n ⌝ }
     requires { ⌜ length (now out) ≡ length (now hmap) ⌝ }

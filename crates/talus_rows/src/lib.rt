@@ -6,7 +6,7 @@ use grid_inner::inner_cells;
 use talus::gain_around;
 use talus::shed_around;
 use talus::slide_cells;
-use talus_directions::BLOCK;
+use talus_directions::TALUS_BLOCK;
 use talus_directions::slide_directions;
 ghost use mathlib.Core.Path.{_≡_};
 ghost use mathlib.Core.Bool.{cond};
@@ -21,7 +21,7 @@ ghost use Rattle.talus_rows.specs.Blocks.{shedTotal, movedFrom, Sheds, S
 
 // A block in which fewer cells than this shed is slid cell by cell, which then takes less time than direction by
 // direction.
-const FEW: u32 = 12;
+const FEW_SHEDDING: u32 = 12;
 
 // Slides one inner cell, as `slide_cell` does, by its total and its loss, which are known.
 fn slide_inside(
@@ -70,8 +70,8 @@ fn shed_block(
     y: usize,
     x: usize,
     n: usize,
-    totals: &mut [f32; BLOCK],
-    moved: &mut [f32; BLOCK],
+    totals: &mut [f32; TALUS_BLOCK],
+    moved: &mut [f32; TALUS_BLOCK],
 )
     requires { ⌜ InnerRow (size .w) (size .h) (length (now hmap)) y x n ⌝ }
     requires { ⌜ n ≤ 64 ⌝ }
@@ -101,7 +101,7 @@ fn sheds(total: f32) -> u32
 }
 
 // How many of n cells shed.
-fn shedding(totals: &[f32; BLOCK], n: usize) -> u32
+fn shedding(totals: &[f32; TALUS_BLOCK], n: usize) -> u32
     requires { ⌜ n ≤ 64 ⌝ }
     ensures { λ r. ⌜ r ≡ shedders (now (totals .entry)) n ⌝ }
 {
@@ -125,8 +125,8 @@ fn slide_few(
     y: usize,
     x: usize,
     n: usize,
-    totals: &[f32; BLOCK],
-    moved: &[f32; BLOCK],
+    totals: &[f32; TALUS_BLOCK],
+    moved: &[f32; TALUS_BLOCK],
 )
     requires { ⌜ InnerRow (size .w) (size .h) (length (now hmap)) y x n ⌝ }
     requires { ⌜ length (now out) ≡ length (now hmap) ⌝ }
@@ -175,8 +175,8 @@ fn slide_block(
     ensures { λ _. ⌜ now (out .exit) ≡ slideCells (size .w) (size .h) (now (ts .entry)) (now (hmap .entry)) strength
         water y x n (now (out .entry)) ⌝ }
 {
-    let mut totals: [f32; BLOCK] = [0.0; BLOCK];
-    let mut moved: [f32; BLOCK] = [0.0; BLOCK];
+    let mut totals: [f32; TALUS_BLOCK] = [0.0; TALUS_BLOCK];
+    let mut moved: [f32; TALUS_BLOCK] = [0.0; TALUS_BLOCK];
     shed_block(
         size,
         ts,
@@ -193,7 +193,7 @@ fn slide_block(
     if k == 0 {
         return;
     }
-    if k < FEW {
+    if k < FEW_SHEDDING {
         slide_few(
             size,
             ts,
@@ -216,10 +216,10 @@ fn slide_block(
 fn block_of(n: usize) -> usize
     ensures { λ r. ⌜ r ≡ min n 64 ⌝ }
 {
-    if n < BLOCK { n } else { BLOCK }
+    if n < TALUS_BLOCK { n } else { TALUS_BLOCK }
 }
 
-// The n inner cells of row y, block by block.
+// Slides the n inner cells of row y, block by block.
 fn slide_inner_cells(
     size: Sides,
     ts: &[f32; 9],
@@ -243,7 +243,7 @@ fn slide_inner_cells(
     }
 }
 
-// One row, from the west: its first cell, the inner ones, and the rest.
+// Slides row y, from the west: its first cell, the inner ones, and the rest.
 pub fn slide_row(
     size: Sides,
     ts: &[f32; 9],

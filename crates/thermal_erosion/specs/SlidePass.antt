@@ -92,16 +92,16 @@ pub record PassMarks : Type 0 where
   pub marks : Progress
   pub stop : ℕ
 
--- What `slide_pass` promises of its answer r, of the record that it hands back, and of its result slice, `old` before and
--- `new` after it: on refusals 1 to 5 the record as given and the slice as it was, else those of the pass.
+-- What `slide_pass` promises of its answer r, of the record that it hands back, and of its result slice, `old` before
+-- and `new` after it: on refusals 1 to 5 the record as given and the slice as it was, else those of the pass.
 module _ (w h : ℕ) (hs : List Float) (p : ThermalParams) (by : PassMarks) (old : List Float) where
-  abbrev slid : Pass
-  slid = passOf w h p hs (by .from) (by .to) (by .stop) (by .marks)
+  abbrev wholePass : Pass
+  wholePass = passOf w h p hs (by .from) (by .to) (by .stop) (by .marks)
 
   abbrev unless : {A : Type 0} → (ℕ → A) → (ℕ → ℕ → A) → A → A
   unless = slideRefusal w h hs (length old) p (by .from) (by .to) (by .marks)
 
   pub record SlideMade (r : Slid) (new : List Float) : Type 0 where
-    pub answer : answerOf (r .answer) ≡ unless refused refusedAt (passAnswer slid)
-    pub handed : r .progress ≡ unless (λ _. by .marks) (λ _ _. by .marks) (slid .marks)
-    pub heights : new ≡ unless (λ _. old) (λ _ _. old) (slid .out)
+    pub answer : answerOf (r .answer) ≡ unless refused refusedAt (passAnswer wholePass)
+    pub handed : r .progress ≡ unless (λ _. by .marks) (λ _ _. by .marks) (wholePass .marks)
+    pub heights : new ≡ unless (λ _. old) (λ _ _. old) (wholePass .out)

@@ -29,10 +29,10 @@ use Rattle.answers.specs.declared.RunAnswer.{RunAnswer}
 use Rattle.run_parts.proofs.ReachedLaws.{worked}
 use Rattle.run_parts.proofs.EndingLaws.{done-accepts, done-keeps, ending-refused, ending-ran}
 use Rattle.run_parts.proofs.WholeLaws.{whole-run}
-use Rattle.thermal_run.specs.ThermalRun.{ThermalScratch, inputRefusal, ThermalRun, Slides, Reduces, Erodes}
+use Rattle.thermal_run.specs.ThermalRun.{ThermalScratch, thermalInputRefusal, ThermalRun, ThermalSlides, ThermalReduces, ThermalErodes}
 
 module _ {w h dw dh : ℕ} {passes map small eroded copy : ℕ} where
-  module _ (e : Erodes w h dw dh passes map small eroded copy) where
+  module _ (e : ThermalErodes w h dw dh passes map small eroded copy) where
     -- the first working cells of the scratch slices
     pub small-room : dw * dh ≤ small
     small-room = omega (arith, within-cells (e .sides), e .averages)
@@ -44,11 +44,11 @@ module _ {w h dw dh : ℕ} {passes map small eroded copy : ℕ} where
     copy-room = omega (arith, within-cells (e .sides), e .copied)
 
     -- on the map
-    pub erodes-slides : {t : Bool} {k : ℕ} → t ≡ (eqb dw w && eqb dh h) → t ≡ true → k ≡ dw * dh → Slides dw dh passes map k
+    pub erodes-slides : {t : Bool} {k : ℕ} → t ≡ (eqb dw w && eqb dh h) → t ≡ true → k ≡ dw * dh → ThermalSlides dw dh passes map k
     erodes-slides f t k = record { sides = within-range (e .sides); some = e .some; few = e .few; heights = own-cells (e .sides) f t (e .heights); copied = k }
 
     -- on the averages
-    pub erodes-reduces : {a b d : ℕ} → a ≡ dw * dh → b ≡ dw * dh → d ≡ dw * dh → Reduces w h dw dh passes map a b d
+    pub erodes-reduces : {a b d : ℕ} → a ≡ dw * dh → b ≡ dw * dh → d ≡ dw * dh → ThermalReduces w h dw dh passes map a b d
     erodes-reduces a b d =
         record { sides = e .sides; some = e .some; few = e .few; heights = e .heights; averages = a; changed = b; copied = d }
 
@@ -58,7 +58,7 @@ module _ (w h : ℕ) (conf : ThermalSettings) (stop : ℕ) (map small eroded cop
   scratch = record { small = small; eroded = eroded; copy = copy }
 
   abbrev outcome : Outcome (Unit {0})
-  outcome = inputRefusal w h conf map scratch
+  outcome = thermalInputRefusal w h conf map scratch
 
   -- by the test of the settings and the length of the shortest scratch slice
   pub decided : {o : Outcome (Unit {0})} {bad : Bool} {scratch k : ℕ} → o ≡ refusalOn w h bad map scratch → bad ≡ badThermal conf
@@ -86,7 +86,7 @@ module _ (w h : ℕ) (conf : ThermalSettings) (stop : ℕ) (map small eroded cop
             let s = within-range run-within in
             subst (Counted 32768) (sym i) (thermal-passes (work .w) (work .h) (s .wide) (s .high) (conf .iterations) (thermal-iterations conf (run-accepted .settings)))
 
-        pub run-erodes : Erodes w h (work .w) (work .h) passes (length map) (length small) (length eroded) (length copy)
+        pub run-erodes : ThermalErodes w h (work .w) (work .h) passes (length map) (length small) (length eroded) (length copy)
         run-erodes =
             let a = run-accepted in
             record {

@@ -18,7 +18,7 @@ use Rattle.run_parts.specs.Reached.{Worked, seen, begun, afterPass, PassReady}
 use Rattle.run_parts.specs.declared.Reached.{Reached}
 use Rattle.run_parts.proofs.ReachedLaws.{worked, rowsBy}
 use Rattle.run_parts.proofs.LoopLaws.{going-none, going-done, going-ended, Sliding, sliding-first, sliding-pass, sliding-done, sliding-ready}
-use Rattle.thermal_run.specs.ThermalRun.{Slides}
+use Rattle.thermal_run.specs.ThermalRun.{ThermalSlides}
 
 -- before pass `it`, or once the run has ended
 pub record Passing (c : Course) (hs : List Float) (copied it : ℕ) (map copy : List Float) (r : Reached) : Type 0 where
@@ -28,7 +28,7 @@ pub record Passing (c : Course) (hs : List Float) (copied it : ℕ) (map copy : 
   pub room : length copy ≡ copied
 
 -- the counts of the run fit
-slides-bounded : {w h passes map copy : ℕ} (params : ThermalParams) (stop : ℕ) → Slides w h passes map copy → Bounded (slideCourse w h params passes stop)
+slides-bounded : {w h passes map copy : ℕ} (params : ThermalParams) (stop : ℕ) → ThermalSlides w h passes map copy → Bounded (slideCourse w h params passes stop)
 slides-bounded {w} {h} {passes} params stop s = slide-bounded w h (s .sides) params passes stop (s .some) (s .few)
 
 module _ (w h : ℕ) (params : ThermalParams) (passes stop : ℕ) (hs : List Float) where
@@ -49,7 +49,7 @@ module _ (w h : ℕ) (params : ThermalParams) (passes stop : ℕ) (hs : List Flo
       sliding : Sliding course hs it 0 map r
       sliding = sliding-first course hs it refl (record { held = p .held; on = on })
 
-      pub passing-ready : Slides w h passes (length hs) copied → it < passes → PassReady w h (length map) (length copy) r
+      pub passing-ready : ThermalSlides w h passes (length hs) copied → it < passes → PassReady w h (length map) (length copy) r
       passing-ready s l =
           sliding-ready course hs it 0 (omega arith) sliding (slides-bounded params stop s) l (p .long ∙ s .heights)
           (p .room ∙ s .copied ∙ sym (s .heights) ∙ sym (p .long))

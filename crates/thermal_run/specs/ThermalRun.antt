@@ -22,18 +22,18 @@ pub record ThermalScratch : Type 0 where
   pub copy : List Float
 
 -- the refusals of the input; of the scratch slices the shortest is tested
-abbrev pub inputRefusal : ℕ → ℕ → ThermalSettings → List Float → ThermalScratch → Outcome (Unit {0})
-inputRefusal w h conf map s = refusalOn w h (badThermal conf) map (min (length (s .small)) (min (length (s .eroded)) (length (s .copy))))
+abbrev pub thermalInputRefusal : ℕ → ℕ → ThermalSettings → List Float → ThermalScratch → Outcome (Unit {0})
+thermalInputRefusal w h conf map s = refusalOn w h (badThermal conf) map (min (length (s .small)) (min (length (s .eroded)) (length (s .copy))))
 
 -- The answer, the counts and the map are those of the run of document 01, or of the refusal; a refused input leaves
 -- scratch as it was.
 pub record ThermalRun (w h : ℕ) (conf : ThermalSettings) (stop : ℕ) (map : List Float) (scratch : ThermalScratch) (r : RunAnswer)
     (map′ : List Float) (scratch′ : ThermalScratch) : Type 0 where
-  pub ended : endedWith r map′ ≡ endingOf (inputRefusal w h conf map scratch) map (thermalRun w h conf stop map)
-  pub kept : given (inputRefusal w h conf map scratch) ≡ false → scratch′ ≡ scratch
+  pub ended : endedWith r map′ ≡ endingOf (thermalInputRefusal w h conf map scratch) map (thermalRun w h conf stop map)
+  pub kept : given (thermalInputRefusal w h conf map scratch) ≡ false → scratch′ ≡ scratch
 
 -- what the passes require of their grid, their number and the lengths of the map and its copy
-pub record Slides (w h passes map copy : ℕ) : Type 0 where
+pub record ThermalSlides (w h passes map copy : ℕ) : Type 0 where
   pub sides : InRange w h
   pub some : 1 ≤ passes
   pub few : passes ≤ 32768
@@ -41,7 +41,7 @@ pub record Slides (w h passes map copy : ℕ) : Type 0 where
   pub copied : copy ≡ w * h
 
 -- what a run on the reduced dw × dh grid requires of its sides, the number of passes and the lengths of its slices
-pub record Reduces (w h dw dh passes map small eroded copy : ℕ) : Type 0 where
+pub record ThermalReduces (w h dw dh passes map small eroded copy : ℕ) : Type 0 where
   pub sides : Within w h dw dh
   pub some : 1 ≤ passes
   pub few : passes ≤ 32768
@@ -52,7 +52,7 @@ pub record Reduces (w h dw dh passes map small eroded copy : ℕ) : Type 0 where
 
 -- what a run requires of its sides, the number of passes and the lengths of its slices, on the map or on a reduced dw ×
 -- dh grid
-pub record Erodes (w h dw dh passes map small eroded copy : ℕ) : Type 0 where
+pub record ThermalErodes (w h dw dh passes map small eroded copy : ℕ) : Type 0 where
   pub sides : Within w h dw dh
   pub some : 1 ≤ passes
   pub few : passes ≤ 32768

@@ -31,7 +31,7 @@ ghost use lib.ListN.{length};
 ghost use Rattle.run_machine.specs.Run.{slideCourse};
 ghost use Rattle.run_machine.specs.Nested.{nested};
 ghost use Rattle.run_parts.specs.Reached.{Worked, seen, wholeRun};
-ghost use Rattle.thermal_run.specs.ThermalRun.{Slides, Reduces, Erodes, ThermalRun};
+ghost use Rattle.thermal_run.specs.ThermalRun.{ThermalSlides, ThermalReduces, ThermalErodes, ThermalRun};
 
 // Runs every pass on the working grid, until 21 or 22 ends the run.
 fn slide_passes(
@@ -42,7 +42,7 @@ fn slide_passes(
     stop: u32,
     copy: &mut [f32],
 ) -> Reached
-    requires { ⌜ Slides (work .w) (work .h) passes (length (now hmap)) (length (now copy)) ⌝ }
+    requires { ⌜ ThermalSlides (work .w) (work .h) passes (length (now hmap)) (length (now copy)) ⌝ }
     ensures { λ r. ⌜ _≡_ {A = Worked} (record { heights = now (hmap .exit); reached = r })
         (seen (nested (slideCourse (work .w) (work .h) params passes stop) (now (hmap .entry)))) ⌝ }
 {
@@ -74,7 +74,7 @@ fn erode_reduced(
     copy: &mut [f32],
 ) -> Reached
     requires { ⌜ (eqb (work .w) (size .w) && eqb (work .h) (size .h)) ≡ false ⌝ }
-    requires { ⌜ Reduces (size .w) (size .h) (work .w) (work .h) passes (length (now hmap)) (length (now small))
+    requires { ⌜ ThermalReduces (size .w) (size .h) (work .w) (work .h) passes (length (now hmap)) (length (now small))
         (length (now eroded)) (length (now copy)) ⌝ }
     ensures { λ r. ⌜ _≡_ {A = Worked} (record { heights = now (hmap .exit); reached = r })
         (wholeRun (size .w) (size .h) (slideCourse (work .w) (work .h) params passes stop) (now (hmap .entry))) ⌝ }
@@ -101,7 +101,7 @@ fn erode(
     eroded: &mut [f32],
     copy: &mut [f32],
 ) -> Reached
-    requires { ⌜ Erodes (size .w) (size .h) (work .w) (work .h) passes (length (now hmap)) (length (now small))
+    requires { ⌜ ThermalErodes (size .w) (size .h) (work .w) (work .h) passes (length (now hmap)) (length (now small))
         (length (now eroded)) (length (now copy)) ⌝ }
     ensures { λ r. ⌜ _≡_ {A = Worked} (record { heights = now (hmap .exit); reached = r })
         (wholeRun (size .w) (size .h) (slideCourse (work .w) (work .h) params passes stop) (now (hmap .entry))) ⌝ }

@@ -14,7 +14,8 @@ pub record Sampled (side reduced x : ℕ) : Type 0 where
   pub small : reduced ≤ 4096
   pub inside : x ≤ side
 
--- where the centre of column (or row) x lies on the reduced side: max((x + 0.5) × coef - 0.5, 0), where coef is reduced / side
+-- where the centre of column (or row) x lies on the reduced side: max((x + 0.5) × coef - 0.5, 0), where coef is reduced
+-- / side
 abbrev pub centreOf : ℕ → ℕ → ℕ → Float
 centreOf side reduced x =
     let coef = div binary32 (whole reduced) (whole side) in

@@ -7,7 +7,7 @@ use Rattle.grid.specs.Sides.{badSides}
 use Rattle.grid.specs.Heights.{allFinite}
 use Rattle.grid.proofs.SidesLaws.{sides-fit, good-sides}
 use Rattle.lent_receivers.specs.Receivers.{firstBadReceiver}
-use Rattle.fluvial_erosion.specs.Incise.{badLengths, badIncision}
+use Rattle.fluvial_erosion.specs.Incise.{badInciseLengths, badIncision}
 use Rattle.fluvial_erosion.proofs.RefusalLaws.{sized, network-of, near-network, found, found-none, height-found, height-none, ends-side, ends-length, ends-setting, ends-height, ends-receiver, ends-entry, ends-done}
 use borrow.Author.Needs.{needs}
 use Rattle.fluvial_erosion.proofs.refusal.Statement.{statement}
@@ -17,7 +17,7 @@ use Rattle.fluvial_erosion.proofs.refusal.Tie as tie
 sides : (c : tie.Else1) → badSides (c .before .before .before .before .before .args .size .w) (c .before .before .before .before .before .args .size .h) ≡ false
 sides c = sym (c .before .bad-sides .ensures) ∙ c .if1 .left
 
-lengths : (c : tie.Else2) → let a = c .before .before .before .before .before .before .before .before .args in badLengths (a .size .w * a .size .h) (length (a .hmap .now)) (length (a .recv .now)) (length (a .order .now)) (a .result) (a .scratch) ≡ false
+lengths : (c : tie.Else2) → let a = c .before .before .before .before .before .before .before .before .args in badInciseLengths (a .size .w * a .size .h) (length (a .hmap .now)) (length (a .recv .now)) (length (a .order .now)) (a .result) (a .scratch) ≡ false
 lengths c = sym (c .before .bad-lengths .ensures) ∙ c .if2 .left
 
 setting : (c : tie.Else3) → badIncision (c .before .before .before .before .before .before .before .before .before .before .args .params) ≡ false

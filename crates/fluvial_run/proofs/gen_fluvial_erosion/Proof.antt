@@ -8,14 +8,14 @@ use Rattle.resample.specs.WorkSize.{Within}
 use Rattle.run_plans.proofs.InputLaws.{within-range}
 use Rattle.run_parts.proofs.WholeLaws.{whole-numbered}
 use Rattle.fluvial_grid.specs.Grids.{scratchOf}
-use Rattle.fluvial_run.specs.FluvialRun.{inputRefusal}
+use Rattle.fluvial_run.specs.FluvialRun.{fluvialInputRefusal}
 use Rattle.fluvial_run.proofs.RunLaws.{Rooms, decided, run-refused, run-accepted, run-within, run-rooms, run-erodes, run-done}
 use borrow.Author.Needs.{needs}
 use Rattle.fluvial_run.proofs.gen_fluvial_erosion.Statement.{statement}
 use Rattle.fluvial_run.proofs.gen_fluvial_erosion.Tie as tie
 
 -- what was decided of an input that is accepted
-told : (c : tie.After-enum-told) → let a = c .before .before .before .before .before .before .before .before .before .before .before .before .before .before .before .args in answerOf (c .before .before .refusal .result) ≡ inputRefusal (a .size .w) (a .size .h) (a .conf) (a .hmap .now) (scratchOf (a .small .now) (a .eroded .now) (a .copy .now) (a .area .now) (a .order .now) (a .recv .now) (a .queue .now) (a .status .now))
+told : (c : tie.After-enum-told) → let a = c .before .before .before .before .before .before .before .before .before .before .before .before .before .before .before .args in answerOf (c .before .before .refusal .result) ≡ fluvialInputRefusal (a .size .w) (a .size .h) (a .conf) (a .hmap .now) (scratchOf (a .small .now) (a .eroded .now) (a .copy .now) (a .area .now) (a .order .now) (a .recv .now) (a .queue .now) (a .status .now))
 told c = let a = c .before .before .before .before .before .before .before .before .before .before .before .before .before .before .before .args in decided (a .size .w) (a .size .h) (a .conf) (a .stop) (a .hmap .now) (a .small .now) (a .eroded .now) (a .copy .now) (a .area .now) (a .order .now) (a .recv .now) (a .queue .now) (a .status .now) (c .before .before .refusal .ensures) (c .before .before .before .before .bad-fluvial .ensures) (c .before .before .before .shortest .ensures)
 
 -- the working cells of the scratch slices

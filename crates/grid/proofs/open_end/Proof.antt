@@ -1,4 +1,4 @@
-use mathlib.Core.Path.{sym, ap, _∙_}
+use mathlib.Core.Path.{sym, _∙_}
 use borrow.Author.Needs.{needs}
 use Rattle.grid.proofs.open_end.Statement.{statement}
 use Rattle.grid.proofs.open_end.Tie as tie

@@ -6,13 +6,13 @@ use Rattle.resample.specs.WorkSize.{Within}
 use Rattle.run_plans.proofs.InputLaws.{within-range}
 use Rattle.run_settings.proofs.RefusalLaws.{thermal-iterations}
 use Rattle.run_parts.proofs.WholeLaws.{whole-numbered}
-use Rattle.thermal_run.specs.ThermalRun.{inputRefusal}
+use Rattle.thermal_run.specs.ThermalRun.{thermalInputRefusal}
 use Rattle.thermal_run.proofs.RunLaws.{decided, run-refused, run-accepted, run-within, run-erodes, run-done}
 use Rattle.thermal_run.proofs.gen_thermal_erosion.Statement.{statement}
 use Rattle.thermal_run.proofs.gen_thermal_erosion.Tie as tie
 
 -- what was decided of an input that is accepted
-told : (c : tie.After-enum-told) → let a = c .before .before .before .before .before .before .before .before .before .before .before .args in answerOf (c .before .before .refusal .result) ≡ inputRefusal (a .size .w) (a .size .h) (a .conf) (a .hmap .now) (record { small = a .small .now; eroded = a .eroded .now; copy = a .copy .now })
+told : (c : tie.After-enum-told) → let a = c .before .before .before .before .before .before .before .before .before .before .before .args in answerOf (c .before .before .refusal .result) ≡ thermalInputRefusal (a .size .w) (a .size .h) (a .conf) (a .hmap .now) (record { small = a .small .now; eroded = a .eroded .now; copy = a .copy .now })
 told c =
     let decision = c .before .before in
     let tested = decision .before in
