@@ -109,7 +109,7 @@ plates =
     ∷ (routed (3 ∷ 4 ∷ 9 ∷ 9 ∷ 10 ∷ 9 ∷ 9 ∷ 9 ∷ 9 ∷ []) 4 ⇒ ((gives tt, 0 ∷ 1 ∷ 2 ∷ 3 ∷ 5 ∷ 6 ∷ 7 ∷ 8 ∷ 4 ∷ []), 1))
     ∷ (incise 1 (whole 0) ⇒ (gives tt, ½ ∷ []))
     ∷ (incise 1 ½ ⇒ (gives tt, ¾ ∷ []))
-    ∷ (incise 0 (whole 0) ⇒ (gives tt, whole 0 ∷ []))
+    ∷ (incise 0 ½ ⇒ (gives tt, whole 0 ∷ []))
     ∷ (slide ½ 1 ⇒ (gives tt, ¾ ∷ ¼ ∷ []))
     ∷ (slide (whole 1) 1 ⇒ (gives tt, whole 1 ∷ whole 0 ∷ []))
     ∷ (slide ½ 2 ⇒ (gives tt, whole 1 ∷ whole 0 ∷ []))
