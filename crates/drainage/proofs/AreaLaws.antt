@@ -120,7 +120,7 @@ pub work-areas : {n : ℕ} (small : n ≤ 2 ^ 24) {recv list : List ℕ} → Wor
 work-areas {n} small {recv} {list} w = areas-are n small recv list (downstream w) (λ b c t e. let l = entry-lt w b c t e in (l, receiver-lt w c l))
 
 -- ---- the theorem
-pub areas : (n : ℕ) → n ≤ 2 ^ 24 → (recv list : List ℕ) → WorkList n recv list → Areas n recv list
+pub areas : Areas
 unfolding areaOf countBelow
 areas n small recv list w = record { area = area; total = total }
   where

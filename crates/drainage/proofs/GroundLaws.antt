@@ -30,10 +30,10 @@ use Rattle.drainage.specs.declared.Land.{Land}
 use Rattle.drainage.specs.Flood.{floodAfter, flooded}
 use Rattle.drainage.specs.Chains.{Neighbours}
 use Rattle.drainage.specs.Theorems.{Joined, Numbers}
-use Rattle.drainage.specs.Grids.{Height, GridNetworks}
+use Rattle.drainage.specs.Grids.{Height, NorthBased, GridNetworks}
 use Rattle.drainage.proofs.StateLaws.{Stands, floodAfter-stands, flooded-left}
 use Rattle.drainage.proofs.FloodLaws.{Stage, floodAfter-stage}
-use Rattle.drainage.proofs.NetworkLaws.{network}
+use Rattle.drainage.proofs.NetworkLaws.{networks}
 
 -- a grid of at most 2^32 cells, with whatever base cells and distances, is joined if some cell is base
 module _ (w h : ℕ) (distances : Distances) (base : ℕ → Bool) where
@@ -86,8 +86,7 @@ some-at (suc n) p c l e = go (p n) refl (λ k. some-at n p c k e)
 pub some-base : (g : Ground) → noBase g ≡ false → (c : ℕ) × (c < g .cells) × (g .base c ≡ true)
 some-base g e = some-found (g .cells) (g .base) (not-false (someBelow (g .cells) (g .base)) e)
 
--- a map that is open to the north has a base cell
-pub north-based : (w h : ℕ) (land : Land) (hs : List Float) → InRange w h → land .sides .north ≡ true → noBase (gridGround w h land hs) ≡ false
+pub north-based : NorthBased
 north-based w h land hs r e = ap not (some-at (w * h) _ 0 (mul-le-mul (r .columns) (r .rows)) (base-first w h (land .sides) (land .«water_level») hs e))
 
 pub gridGround-joined : (w h : ℕ) (land : Land) (hs : List Float) → InRange w h → noBase (gridGround w h land hs) ≡ false → Joined (gridGround w h land hs)
@@ -112,7 +111,7 @@ grid-heights n hs e fit all c l = record { fit = fit c; real = subst T (sym (all
 
 pub grid-networks : GridNetworks
 grid-networks w h land hs r e fit all some =
-    network floats (gridGround w h land hs) hs Height rank (gridGround-joined w h land hs r some) finite-numbers e (grid-heights (w * h) hs e fit all)
+    networks Float floats (gridGround w h land hs) hs Height rank (gridGround-joined w h land hs r some) finite-numbers e (grid-heights (w * h) hs e fit all)
 
 -- every state of an accepted routing, and the last
 module _ (w h : ℕ) (land : Land) (hs : List Float) (r : InRange w h) (e : length hs ≡ w * h) (fit : Fit hs) (all : allFinite hs ≡ true) (some : noBase (gridGround w h land hs) ≡ false) where

@@ -16,7 +16,7 @@ use Rattle.drainage.specs.Flood.{flooded}
 use Rattle.drainage.specs.Receivers.{Steepest, compared, steepestOf, receiverOf, receivers}
 use Rattle.loops.specs.Counts.{times}
 use Rattle.drainage.specs.Chains.{Neighbours, Chain, ends, onward, crest}
-use Rattle.drainage.specs.Theorems.{Joined, Numbers, Network}
+use Rattle.drainage.specs.Theorems.{Joined, Numbers, Network, Networks}
 use Rattle.drainage.specs.Routing.{receiversOf}
 use Rattle.loops.proofs.CountLaws.{one-same}
 use Rattle.drainage.proofs.InvariantLaws.{View, Found, Reached, After, Flooding, in-order}
@@ -170,7 +170,5 @@ module _ {H : Type 0} (k : Kind H) (g : Ground) (hs : List H) (Good : H → Type
     };
   }
 
-pub network :
-    {H : Type 0} (k : Kind H) (g : Ground) (hs : List H) (Good : H → Type 0) (number : H → ℕ) → Joined g → Numbers k Good number
-    → length hs ≡ g .cells → ((c : ℕ) → c < g .cells → Good (getD hs c (k .absent))) → Network k g hs number
-network = network-of
+pub networks : Networks
+networks H k g hs Good number joined numbers many fine = network-of k g hs Good number joined numbers many fine

@@ -21,6 +21,10 @@ pub record Height (x : Float) : Type 0 where
   pub fit : T (fits binary32 x)
   pub real : T (finite x)
 
+-- A map in range that is open to the north has a base cell.
+abbrev pub NorthBased : Type 0
+NorthBased = (w h : ℕ) (land : Land) (hs : List Float) → InRange w h → land .sides .north ≡ true → noBase (gridGround w h land hs) ≡ false
+
 -- Every routing of a grid in range with a base cell, whatever its open sides and distances, is a network.
 abbrev pub GridNetworks : Type 0
 GridNetworks = (w h : ℕ) (land : Land) (hs : List Float) → InRange w h → length hs ≡ w * h → Fit hs → allFinite hs ≡ true → noBase (gridGround w h land hs) ≡ false

@@ -4,7 +4,7 @@ use Prim.Native.Nat.{ℕ, _^_, _≤_, _<_, max}
 use mathlib.Core.Path.{_≡_}
 use mathlib.Core.Bool.{true}
 use mathlib.Core.List.{List}
-use lib.ListN.{getD}
+use lib.ListN.{length, getD}
 use lib.Dec.{eqb, ltb}
 use lib.Ieee.{nan}
 use Rattle.floats.specs.Stand.{whole}
@@ -44,9 +44,19 @@ module _ {H : Type 0} (k : Kind H) (g : Ground) (hs : List H) (number : H → �
     pub adjacent : (c : ℕ) → c < g .cells → (getD (receiversOf k g hs) c 0 ≡ c → ⊥) → Neighbours g c (getD (receiversOf k g hs) c 0)
     pub least : (c : ℕ) → c < g .cells → LeastCrest g (λ i. number (getD hs i (k .absent))) c (number (getD (spillOf k g hs) c (k .absent)))
 
--- Along any work list of any receivers, with at most 2^24 cells, the areas added as floats are the numbers of cells
--- whose way down passes through the cell, and the areas of the cells that are their own receiver total the cells of the
--- grid.
-pub record Areas (n : ℕ) (recv : List ℕ) (list : List ℕ) : Type 0 where
+-- Every routing is a network: of heights of any kind that compare as numbers do, a good one for each cell, on any
+-- ground that is joined and has a base cell.
+abbrev pub Networks : Type 1
+Networks =
+    (H : Type 0) (k : Kind H) (g : Ground) (hs : List H) (Good : H → Type 0) (number : H → ℕ) → Joined g → Numbers k Good number
+    → length hs ≡ g .cells → ((c : ℕ) → c < g .cells → Good (getD hs c (k .absent))) → Network k g hs number
+
+-- The areas added as floats along a list are the numbers of cells whose way down passes through the cell, and the areas
+-- of the cells that are their own receiver total the cells of the grid.
+pub record CountedAreas (n : ℕ) (recv : List ℕ) (list : List ℕ) : Type 0 where
   pub area : (c : ℕ) → c < n → getD (areasAlong n recv list) c nan ≡ whole (areaOf n recv c)
   pub total : sumBelow n (λ c. eqb (getD recv c 0) c) (areaOf n recv) ≡ n
+
+-- Along any work list of any receivers, with at most 2^24 cells, areas are such counts.
+abbrev pub Areas : Type 0
+Areas = (n : ℕ) → n ≤ 2 ^ 24 → (recv list : List ℕ) → WorkList n recv list → CountedAreas n recv list

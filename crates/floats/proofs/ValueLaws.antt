@@ -16,7 +16,7 @@ use lib.Ieee.Back.{round-whole}
 use lib.Ieee.Nearest.{div-same}
 use lib.Ieee.Bits.{ofBits-toBits}
 use lib.Ieee.Scale.{round-same}
-use Rattle.floats.specs.Stand.{indexOf}
+use Rattle.floats.specs.Stand.{indexOf, IndexInside}
 
 -- a test that passed, as `good` has it of a parameter
 pub holds : {b : Bool} → b ≡ true → T b
@@ -264,7 +264,7 @@ cut-below w (inf false) n N h t = absurd (true≢false (sym t ∙ top-lt (ofInt 
 cut-below w (fin true m e) n N h t = N
 cut-below w (fin false m e) n N h t = lt-of-le-of-lt (min-le-left (m * up e / down e) (2 ^ w - 1)) (div-lt-iff-lt-mul (down-pos e) .1 (ltb-true (m * up e) (n * down e) (sym (lt-ofInt m e n h) ∙ t)))
 
-pub index-inside : (x : Float) (side : ℕ) → 0 < side → side ≤ 2 ^ 24 → lt x (ofInt binary32 (pos side)) ≡ true → indexOf side x ≡ toUnsigned 64 x
+pub index-inside : IndexInside
 index-inside x side S h t = uncapped (toUnsigned 64 x) (cut-below 64 x side S h t)
   where
     uncapped : (t : ℕ) → t < side → min t (side - 1) ≡ t

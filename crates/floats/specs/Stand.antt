@@ -1,10 +1,11 @@
 -- Document 01, 'Stand-ins': Rust's max, trunc, round, ceil, fract and the cast of a float to an index, defined for
 -- every float. A finite float `fin s m e` is ± m × up e / down e. Each whole number below is computed in ℕ; it is exact
 -- in binary32 where the float was not whole already.
-use Prim.Native.Nat.{ℕ, _+_, _-_, _*_, _/_, min}
+use Prim.Native.Nat.{ℕ, _+_, _-_, _*_, _/_, _^_, _≤_, _<_, min}
+use mathlib.Core.Path.{_≡_}
 use mathlib.Core.Bool.{Bool, true, false, cond}
 use lib.IntN.{pos}
-use lib.Ieee.{Float, nan, inf, fin, binary32, up, down, round, sub, le, ofInt, toUnsigned}
+use lib.Ieee.{Float, nan, inf, fin, binary32, up, down, round, sub, lt, le, ofInt, toUnsigned}
 
 -- max(a, b): a if a ≥ b, else b
 abbrev pub maxOf : Float → Float → Float
@@ -55,3 +56,7 @@ fractOf x = sub binary32 x (truncOf x)
 -- x as an index of a side, held inside it: cut to a whole number (0 below 1 and for a NaN), and at most side - 1
 abbrev pub indexOf : ℕ → Float → ℕ
 indexOf side x = min (toUnsigned 64 x) (side - 1)
+
+-- On a coordinate below its side the index is Rust's own cast: what holds it inside the side changes nothing.
+abbrev pub IndexInside : Type 0
+IndexInside = (x : Float) (side : ℕ) → 0 < side → side ≤ 2 ^ 24 → lt x (whole side) ≡ true → indexOf side x ≡ toUnsigned 64 x

@@ -17,7 +17,7 @@ use Rattle.grid_spacing.specs.declared.Distances.{Distances}
 use Rattle.drainage.specs.Ground.{groundBy}
 use Rattle.drainage.specs.Ways.{areasAlong}
 use Rattle.areas.specs.Sums.{Along}
-use Rattle.receiver_steps.proofs.DistanceLaws.{distance-is}
+use Rattle.receiver_steps.proofs.DistanceLaws.{distance-by-cells}
 use Rattle.receiver_steps.specs.Step.{Near, NearReceivers}
 use Rattle.receiver_steps.proofs.PlaceLaws.{near-of}
 use Rattle.areas.specs.Words.{SteppedNetwork}
@@ -65,7 +65,7 @@ module _ {w h : ℕ} {recv list : List ℕ} (drains : Drains w h recv list) wher
       alike c x l =
           ap
           (λ (d : Float). cutOf (getD hs c nan) (p .uplift) (p .«water_level») (incisionCoef (getD areas c nan) (onGrid w h p ds .cells) (p .k) d) (drainedTo c (getD recv c 0) x (p .«water_level»)))
-          (distance-is ds w h base c l (getD recv c 0) (good-is w h c (getD recv c 0) (drains .near c l)))
+          (distance-by-cells ds w h base c l (getD recv c 0) (good-is w h c (getD recv c 0) (drains .near c l)))
 
   -- as the code comes to it: from a copy of the heights, by settings that it put together
   pub along-done : (p : FluvialParams) (ds : Distances) (areas hs : List Float) {by : Incision} {start out : List Float} → by ≡ onGrid w h p ds → length hs ≡ w * h → start ≡ hs → out ≡ madeAlong nan recv (cutDown by areas recv) list start

@@ -46,14 +46,14 @@ module _ (g : Ground) (p : FluvialParams) (areas : List Float) (recv : List ℕ)
       → ((c : ℕ) (x : Float) → c < n → make c (getD start c nan) x ≡ cut c (getD hs c nan) x)
       → (a b : List ℕ) → WorkList n recv a → WorkList n recv b → madeAlong nan recv make a start ≡ inciseAlong g p areas recv b hs
   cut-alike {n} make start hs few long alike a b v w =
-      along-alike nan recv make cut n start hs few long alike (λ c y z l. cut-alone c _ y z) a b v w ∙ sym (cut-along b hs)
+      along-alike Float nan recv make cut n start hs few long alike (λ c y z l. cut-alone c _ y z) a b v w ∙ sym (cut-along b hs)
 
   pub incise-same : (n : ℕ) (a b : List ℕ) (hs : List Float) → length hs ≡ n → WorkList n recv a → WorkList n recv b → inciseAlong g p areas recv a hs ≡ inciseAlong g p areas recv b hs
   incise-same n a b hs long v w = cut-along a hs ∙ cut-alike cut hs hs long long (λ c x l. refl) a b v w
 
-pub independent : Independence
+pub independence : Independence
 unfolding incisedBy
-independent g p recv a b hs long few v w =
+independence g p recv a b hs long few v w =
     let same : areasAlong (g .cells) recv a ≡ areasAlong (g .cells) recv b = same-areas (g .cells) few recv a b v w in
     record {
       areas = same;

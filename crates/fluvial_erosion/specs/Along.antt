@@ -3,7 +3,7 @@ use Prim.Native.Nat.{ℕ, _*_, _<_}
 use mathlib.Core.Path.{_≡_}
 use mathlib.Core.Bool.{Bool, true}
 use mathlib.Core.List.{List}
-use lib.ListN.{getD}
+use lib.ListN.{length, getD}
 use lib.Ieee.{Float}
 use Rattle.floats.specs.Stand.{whole}
 use Rattle.grid.specs.Sides.{InRange}
@@ -12,6 +12,7 @@ use Rattle.drainage.specs.Ground.{groundBy}
 use Rattle.drainage.specs.Ways.{WorkList, areasAlong}
 use Rattle.areas.specs.Sums.{Along}
 use Rattle.incision_cell.specs.declared.Incision.{Incision}
+use Rattle.incision_paths.specs.Settled.{settledHeights}
 use Rattle.lent_receivers.specs.Receivers.{goodReceiver}
 use Rattle.fluvial_erosion.specs.Incision.{inciseAlong, incisedBy}
 use Rattle.fluvial_erosion.specs.declared.FluvialParams.{FluvialParams}
@@ -32,6 +33,13 @@ pub record Lengths (n hmap out area : ℕ) : Type 0 where
 -- the settings of an incision on a w × h grid with the distances between its cells
 abbrev pub onGrid : ℕ → ℕ → FluvialParams → Distances → Incision
 onGrid w h p ds = record { width = w; cells = whole (w * h); k = p .k; uplift = p .uplift; water = p .«water_level»; distances = ds }
+
+-- The heights that cells settle at by their ways down are those that the incision along the work list leaves, for any
+-- areas and whatever cells are base level.
+abbrev pub WaysDone : Type 0
+WaysDone =
+    (w h : ℕ) (recv list : List ℕ) → Drains w h recv list → (p : FluvialParams) (ds : Distances) (areas hs : List Float) → length hs ≡ w * h
+    → (base : ℕ → Bool) → settledHeights (onGrid w h p ds) hs areas recv ≡ inciseAlong (groundBy w h ds base) p areas recv list hs
 
 -- the two slices that an incision writes: `out` for the heights, `area` for the areas
 pub record IncisionSlices : Type 0 where

@@ -10,7 +10,7 @@ use Rattle.loops.proofs.CountLaws.{one-same, one-other, times-last, times-here}
 use Rattle.loops.specs.Counts.{oneIf, times}
 use Rattle.drainage.specs.Ways.{WorkList}
 use Rattle.drainage.proofs.WorkListLaws.{split, entry-lt, receiver-lt, list-length}
-use Rattle.incision_paths.specs.Settled.{madeAlong, settled}
+use Rattle.incision_paths.specs.Settled.{madeAlong, settled, AlongAlike}
 use Rattle.incision_paths.proofs.PlaceLaws.{Falls, placeIn, falls}
 
 module _ {A : Type 0} (absent : A) (recv : List ℕ) (make : ℕ → A → A → A) (start : List A)
@@ -77,8 +77,7 @@ module _ {A : Type 0} (absent : A) (recv : List ℕ) (make : ℕ → A → A →
     unfolding settled
     settled-down c h = sym (along-settled c h n (omega (arith, list-length w))) ∙ along-settled c h (suc n) (omega (arith, list-length w))
 
--- Two combinations over the same receivers that make the same of each cell, from the values that it has in either list, leave the same values along
--- any two work lists.
+-- two rules that make the same of each cell
 module _ {A : Type 0} (absent : A) (recv : List ℕ) (f g : ℕ → A → A → A) (n : ℕ) (a b : List A) (few : length a ≡ n) (long : length b ≡ n)
     (alike : (c : ℕ) (x : A) → c < n → f c (getD a c absent) x ≡ g c (getD b c absent) x)
     (alone : (c : ℕ) (y z : A) → c < n → getD recv c 0 ≡ c → g c (getD b c absent) y ≡ g c (getD b c absent) z) where
@@ -96,8 +95,8 @@ module _ {A : Type 0} (absent : A) (recv : List ℕ) (f g : ℕ → A → A → 
       go ih (yes e) = alone c _ _ l e
       go ih (no d) = ap (g c (getD b c absent)) (ih (omega (arith, p .lower c l d)))
 
-  pub along-alike : (first second : List ℕ) → WorkList n recv first → WorkList n recv second → madeAlong absent recv f first a ≡ madeAlong absent recv g second b
-  along-alike first second v w =
+  both-alike : (first second : List ℕ) → WorkList n recv first → WorkList n recv second → madeAlong absent recv f first a ≡ madeAlong absent recv g second b
+  both-alike first second v w =
       let size : length (madeAlong absent recv f first a) ≡ n = along-long absent recv f a (λ c y z h. f-alone c y z (omega (arith, few))) first n few v in
       ext-getD absent _ _ (size ∙ sym (along-long absent recv g b (λ c y z h. alone c y z (omega (arith, long))) second n long w))
       (λ c t.
@@ -105,3 +104,6 @@ module _ {A : Type 0} (absent : A) (recv : List ℕ) (f g : ℕ → A → A → 
       along-settled absent recv f a (λ c y z h. f-alone c y z (omega (arith, few))) first n few v c l n (omega (arith, list-length v))
       ∙ settled-alike (placeIn first) (falls v) (receiver-lt v) n c l (falls v .few c l)
       ∙ sym (along-settled absent recv g b (λ c y z h. alone c y z (omega (arith, long))) second n long w c l n (omega (arith, list-length w))))
+
+pub along-alike : AlongAlike
+along-alike A absent recv f g n a b few long alike alone = both-alike absent recv f g n a b few long alike alone

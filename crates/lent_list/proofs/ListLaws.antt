@@ -14,7 +14,7 @@ use Rattle.loops.proofs.TestLaws.{both}
 use Rattle.loops.specs.Counts.{oneIf, times, sumBelow}
 use Rattle.drainage.specs.Ways.{WorkList}
 use Rattle.drainage.proofs.WorkListLaws.{length-is, below-of, split, entry-lt}
-use Rattle.lent_list.specs.Entries.{goodEntry, GoodAt, ListTest}
+use Rattle.lent_list.specs.Entries.{goodEntry, GoodAt, PassesAsWorkList, ListTest}
 use Rattle.loops.proofs.FirstLaws.{first-all, all-first}
 
 -- the test and what it means
@@ -119,9 +119,12 @@ module _ (n : ℕ) (recv list : List ℕ) (long : length list ≡ n) where
           after = w .after (take i list) c (drop (suc i) list) parts;
         }
 
-  pub list-test : ListTest n recv list
-  list-test =
+  passes : PassesAsWorkList n recv list
+  passes =
       record {
         sound = λ e. good-work (λ i l. good-at n recv list i (all-first n (goodEntry n recv list) e i l));
         complete = λ w. first-all n (goodEntry n recv list) (λ i l. at-good n recv list i (work-good w i l));
       }
+
+pub list-test : ListTest
+list-test = passes

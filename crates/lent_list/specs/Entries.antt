@@ -34,7 +34,11 @@ pub record GoodAt (n : ℕ) (recv list : List ℕ) (position : ℕ) : Type 0 whe
   pub fresh : times (getD list position 0) (take position list) ≡ 0
   pub after : (getD recv (getD list position 0) 0 ≡ getD list position 0 → ⊥) → 0 < times (getD recv (getD list position 0) 0) (take position list)
 
--- Refusal 7 is two-way: a list of n entries passes exactly if it is a work list.
-pub record ListTest (n : ℕ) (recv list : List ℕ) : Type 0 where
+-- no entry of the list is bad exactly if it is a work list
+pub record PassesAsWorkList (n : ℕ) (recv list : List ℕ) : Type 0 where
   pub sound : firstBadEntry n recv list ≡ n → WorkList n recv list
   pub complete : WorkList n recv list → firstBadEntry n recv list ≡ n
+
+-- Refusal 7 is two-way: a list of n entries passes exactly if it is a work list, whatever the receivers.
+abbrev pub ListTest : Type 0
+ListTest = (n : ℕ) (recv list : List ℕ) → length list ≡ n → PassesAsWorkList n recv list

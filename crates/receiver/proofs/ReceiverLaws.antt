@@ -22,7 +22,7 @@ use Rattle.drainage.specs.Receivers.{Steepest, distanceTo, compared, steepestOf
 use Rattle.receiver.specs.declared.Best.{Best}
 use Rattle.receiver.specs.Passes.{steepestAs, slopeDown, comparedAs, Compared, Received}
 use Rattle.receiver_steps.specs.Distance.{apart}
-use Rattle.receiver_steps.proofs.DistanceLaws.{distance-is}
+use Rattle.receiver_steps.proofs.DistanceLaws.{distance-by-cells}
 
 abbrev best-of : ℕ → Float → Best
 best-of k s = record { cell = k; slope = s }
@@ -83,7 +83,7 @@ module _ (ds : Distances) (w h : ℕ) (spill : List Float) (c f : ℕ) where
       → Leading ds w h spill c f 0 (record { cell = f; slope = slopeDown spill c f distance })
   leading-none l near distance e = record {
     is = λ base.
-        ap (λ x. record { cell = f; slope = slopeDown spill c f x }) (e ∙ distance-is ds w h base c l f near)
+        ap (λ x. record { cell = f; slope = slopeDown spill c f x }) (e ∙ distance-by-cells ds w h base c l f near)
         ∙ sym (turns-none (against ds w h spill c base) (toDiscoverer ds w h spill c base f));
     inside = near-inside w h c f l near;
   }

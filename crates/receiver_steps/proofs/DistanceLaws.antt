@@ -16,7 +16,7 @@ use Rattle.grid_spacing.specs.Distances.{cellSide, distanceIn}
 use Rattle.grid_spacing.specs.declared.Distances.{Distances}
 use Rattle.drainage.specs.Ground.{groundBy}
 use Rattle.drainage.specs.Receivers.{directionTo, distanceTo}
-use Rattle.receiver_steps.specs.Distance.{apart}
+use Rattle.receiver_steps.specs.Distance.{apart, DistanceByCells}
 
 -- ---- the last number i < n with f i ≡ r, as i + 1; 0 where there is none
 abbrev lastOf : ℕ → (ℕ → ℕ) → ℕ → ℕ
@@ -73,7 +73,9 @@ module _ (ds : Distances) (w h : ℕ) (base : ℕ → Bool) (c : ℕ) (l : c < w
       go : (d : ℕ) → Beside w h (columnOf w c) (rowOf w c) d (columnOf w r) (rowOf w r) → byZero ds (isZero (stepX d)) (isZero (stepY d)) ≡ apart ds w c r
       go d b = rw (kept (columnOf w c) (stepX d) w (columnOf w r) (b .column) (b .columns), kept (rowOf w c) (stepY d) h (rowOf w r) (b .row) (b .rows))
 
-  -- the distance that the code finds is that of the definitions
-  pub distance-is : (r : ℕ) → (r ≡ c) ⊎ Adjacent w h c r → apart ds w c r ≡ distanceTo (groundBy w h ds base) c r
-  distance-is r (inl e) = rw e (sym own-distance)
-  distance-is r (inr a) = sym (near-distance r a)
+  either-distance : (r : ℕ) → (r ≡ c) ⊎ Adjacent w h c r → apart ds w c r ≡ distanceTo (groundBy w h ds base) c r
+  either-distance r (inl e) = rw e (sym own-distance)
+  either-distance r (inr a) = sym (near-distance r a)
+
+pub distance-by-cells : DistanceByCells
+distance-by-cells = either-distance

@@ -11,7 +11,7 @@ use Rattle.resample.specs.WorkSize.{Within}
 use Rattle.resample.specs.Places.{Part}
 use Rattle.floats.proofs.WholeLaws.{float-in}
 use Rattle.floats.specs.Stand.{whole}
-use Rattle.resample.specs.Blocks.{firstOf, countOf, blockSum, averageOf, SourceBlocks}
+use Rattle.resample.specs.Blocks.{firstOf, countOf, blockSum, averageOf, BlocksOf, SourceBlocks}
 
 module _ (s r : ℕ) (low : 1 ≤ r) where
   -- at or past the first column of block b
@@ -40,8 +40,8 @@ module _ (s r : ℕ) (low : 1 ≤ r) where
       let q : x + 1 ≤ firstOf s r b = le-div-iff-mul-le low .1 p in
       omega arith
 
-  pub source-blocks : r ≤ s → SourceBlocks s r
-  source-blocks high = record {
+  blocks : r ≤ s → BlocksOf s r
+  blocks high = record {
     sent = λ x b e. (
       reaches x b (subst (λ (k : ℕ). k * s ≤ x * r) e (le-div-iff-mul-le (omega arith) .0 (omega arith))),
       stops x (b + 1) (subst (λ (k : ℕ). x * r < (k + 1) * s) e (let l : x * r < x * r / s * s + s = lt-div-mul-add (omega arith) in omega arith)),
@@ -62,6 +62,9 @@ module _ (s r : ℕ) (low : 1 ≤ r) where
           let a : firstOf s r r ≤ s = reaches s r (omega (arith, mul-comm r s)) in
           let b : s ≤ firstOf s r r = le-div-iff-mul-le low .1 (omega (arith, mul-comm r s)) in
           omega arith
+
+pub source-blocks : SourceBlocks
+source-blocks = blocks
 
 -- block b from its first column x up to e, the next one's
 pub run-of : (s r b x e : ℕ) → 1 ≤ r → r ≤ s → b < r → x ≡ firstOf s r b → e ≡ firstOf s r (b + 1) → (x < e) × (e ≤ s)

@@ -1,6 +1,6 @@
 -- `downsample`: the average of each block of cells. Column x of a side lies in block x × reduced / side, cut to a whole
--- number, so block b has the columns from `firstOf` of b to below `firstOf` of b + 1 (proofs/BlockLaws.antt has that
--- law); its sum starts at +0 and adds the block's cells in number order.
+-- number, so block b has the columns from `firstOf` of b to below `firstOf` of b + 1 (`SourceBlocks`); its sum
+-- starts at +0 and adds the block's cells in number order.
 use Prim.Native.Nat.{ℕ, zero, suc, _+_, _-_, _*_, _/_, _%_, _≤_, _<_}
 use mathlib.Core.Path.{_≡_}
 use mathlib.Core.Bool.{Bool, not, _||_, cond}
@@ -24,15 +24,18 @@ blockOf side reduced x = x * reduced / side
 abbrev pub firstOf : ℕ → ℕ → ℕ → ℕ
 firstOf side reduced b = (b * side + (reduced - 1)) / reduced
 
--- The blocks are the source's, for any reduced side from 1 to the full one: the columns from the first of block b to
--- below the first of block b + 1 are those that the source adds to b; every block has a column, and together the blocks
--- are the whole side. Proved in proofs/BlockLaws.antt.
-pub record SourceBlocks (side reduced : ℕ) : Type 0 where
+-- the columns from the first of block b to below the first of block b + 1 are those that the source adds to b; every
+-- block has a column, and together the blocks are the whole side
+pub record BlocksOf (side reduced : ℕ) : Type 0 where
   pub sent : (x b : ℕ) → blockOf side reduced x ≡ b → (firstOf side reduced b ≤ x) × (x < firstOf side reduced (b + 1))
   pub taken : (x b : ℕ) → firstOf side reduced b ≤ x → x < firstOf side reduced (b + 1) → blockOf side reduced x ≡ b
   pub nonempty : (b : ℕ) → firstOf side reduced b < firstOf side reduced (b + 1)
   pub begins : firstOf side reduced 0 ≡ 0
   pub ends : firstOf side reduced reduced ≡ side
+
+-- The blocks are the source's, for any reduced side from 1 to the full one.
+abbrev pub SourceBlocks : Type 0
+SourceBlocks = (side reduced : ℕ) → 1 ≤ reduced → reduced ≤ side → BlocksOf side reduced
 
 abbrev pub countOf : ℕ → ℕ → ℕ → ℕ
 countOf side reduced b = firstOf side reduced (b + 1) - firstOf side reduced b

@@ -22,7 +22,7 @@ use Rattle.run_machine.specs.Run.{Choice, Ran, runFrom, runOn, thermalCo
 use Rattle.run_machine.specs.Demand3.{courseOf}
 use Rattle.run_settings.specs.declared.FluvialSettings.{FluvialSettings}
 use Rattle.run_settings.specs.declared.ThermalSettings.{ThermalSettings}
-use Rattle.run_machine.specs.Nested.{onePass, oneOpening, oneIteration, iterated, nested, Due, Underway, dropped}
+use Rattle.run_machine.specs.Nested.{onePass, oneOpening, oneIteration, iterated, nested, Due, Underway, dropped, FinishedNested}
 use Rattle.run_machine.proofs.PassLaws.{step-ended, pass-ended, pass-steps}
 use Rattle.run_machine.proofs.IterationLaws.{opening-ended, iteration-ended, opening-is, opening-none, After, Place, underway-opening, underway-pass, due-pass, due-start, due-iteration}
 
@@ -172,15 +172,17 @@ module _ (c : Course) where
             let due : Due c (c .iterations) s = d (eqb-true (s .number) 0 e) in
             rw (e, le-leb (c .iterations) (s .iteration) (omega (arith, due .iteration)))
 
-    -- The run step by step ends as the run by its loops. Of an ended run the row in which it ended is left out.
-    pub finished-nested : dropped (finished c hs) ≡ nested c hs
-    finished-nested = ap dropped whole ∙ after-iterated (c .iterations) (omega arith)
+    ends-nested : dropped (finished c hs) ≡ nested c hs
+    ends-nested = ap dropped whole ∙ after-iterated (c .iterations) (omega arith)
       where
         whole : finished c hs ≡ after c (c .iterations * iterationSteps) hs
         whole = unfold after in
             ap (λ (n : ℕ). turns n (λ i. step c) (start c hs)) all-steps
             ∙ turns-split (step c) rest (c .iterations * iterationSteps) (start c hs)
             ∙ turns-kept (λ i. step c) _ rest (λ i. step-past _ (due-after (c .iterations) (omega arith)))
+
+pub finished-nested : FinishedNested
+finished-nested = ends-nested
 
 -- so both give the same answer
 pub run-nested : (kind : FarEdge) (w h : ℕ) (c : Course) (map : List Float) → 0 < c .h → 0 < c .passes

@@ -17,7 +17,7 @@ use Rattle.grid.proofs.SidesLaws.{cells-bound}
 use Rattle.drainage.specs.Ground.{noBase}
 use Rattle.drainage.specs.Ways.{WorkList}
 use Rattle.drainage.proofs.GroundLaws.{north-based}
-use Rattle.fluvial_erosion.proofs.IndependenceLaws.{independent}
+use Rattle.fluvial_erosion.proofs.IndependenceLaws.{independence}
 use Rattle.talus.proofs.TalusLaws.{row-length, row-fit}
 use Rattle.resample.specs.WorkSize.{workSize, Within}
 use Rattle.resample.specs.Blocks.{averageOf, downsampled}
@@ -111,7 +111,7 @@ module _ (w h : ℕ) (s : FluvialSettings) (stop : ℕ) (map : List Float) (fit 
     cuts-same fin it routed r =
         let here : RunRoutes w h s stop map (lent lists) it routed = record { started = fin; routes = r } in
         let z : Sized (dw * dh) routed × (allFinite routed ≡ true) = routed-sound (lent lists) it routed here in
-        independent (groundOf w h s stop map routed) (fluvialPlan dw dh s .cuts) (receiversOn (groundOf w h s stop map) routed) (orderOn (groundOf w h s stop map) routed) (lists it) routed
+        independence (groundOf w h s stop map routed) (fluvialPlan dw dh s .cuts) (receiversOn (groundOf w h s stop map) routed) (orderOn (groundOf w h s stop map) routed) (lists it) routed
         (sym (z .0 .long)) (cells-bound dw dh (range .wide) (range .high)) (order-work-list dw dh (landOf s) range routed (z .0) (z .1) (based routed)) (work it routed here) .heights
 
     states-same : allFinite (beginsWith w h s stop map) ≡ true → (n : ℕ) → after (courseOf w h s stop map ours) n (beginsWith w h s stop map) ≡ after (courseOf w h s stop map (lent lists)) n (beginsWith w h s stop map)

@@ -16,7 +16,7 @@ use Rattle.grid.proofs.SidesLaws.{cells-bound}
 use Rattle.drainage.specs.Ground.{floats, gridGround, noBase}
 use Rattle.drainage.specs.declared.Land.{Land}
 use Rattle.drainage.specs.Ways.{WorkList, areaOf}
-use Rattle.drainage.specs.Theorems.{Network, Areas}
+use Rattle.drainage.specs.Theorems.{Network, CountedAreas}
 use Rattle.drainage.proofs.GroundLaws.{grid-networks}
 use Rattle.drainage.proofs.AreaLaws.{areas}
 use Rattle.loops.proofs.CountLaws.{sum-by}
@@ -40,7 +40,7 @@ module _ (w h : ℕ) (land : Land) (range : InRange w h) (hs : List Float) (size
 
   pub drained : (list : List ℕ) → WorkList (w * h) (receiversOn (gridGround w h land) hs) list → Drained (gridGround w h land) hs list
   drained list work =
-      let a : Areas (w * h) (receiversOn (gridGround w h land) hs) list = areas (w * h) (cells-bound w h (range .wide) (range .high)) (receiversOn (gridGround w h land) hs) list work in
+      let a : CountedAreas (w * h) (receiversOn (gridGround w h land) hs) list = areas (w * h) (cells-bound w h (range .wide) (range .high)) (receiversOn (gridGround w h land) hs) list work in
       record {
         work-list = work;
         spill = net .least;

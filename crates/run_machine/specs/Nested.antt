@@ -1,6 +1,6 @@
 -- The run of Machine.antt as nested loops: iterations; in each its opening and its passes; in each pass all its rows.
--- proofs/CourseLaws.antt shows that both forms end in the same state but for the row in which 21 or 22 ended the run,
--- which is 0 here (`dropped`).
+-- Both forms end in the same state (`FinishedNested`) but for the row in which 21 or 22 ended the run, which is 0 here
+-- (`dropped`).
 use Prim.Native.Nat.{ℕ, suc, _+_, _*_, _^_, _≤_, _<_}
 use mathlib.Core.Path.{_≡_}
 use mathlib.Core.Bool.{true, false, not, _&&_, cond}
@@ -10,7 +10,7 @@ use lib.Ieee.{Float}
 use Rattle.loops.specs.Loops.{turns}
 use Rattle.grid.specs.Heights.{allFinite}
 use Rattle.thermal_erosion.specs.SlidePass.{Pass, rowsOf}
-use Rattle.run_machine.specs.Machine.{Course, State, passAt, start, endedBy, openStep, closed, steps}
+use Rattle.run_machine.specs.Machine.{Course, State, passAt, start, endedBy, openStep, closed, steps, finished}
 
 module _ (c : Course) where
   -- the first n rows of the pass that a state is about to begin
@@ -87,3 +87,7 @@ pub record Bounded (c : Course) : Type 0 where
 -- a state whose row is set to 0 once the run has ended: no answer shows the row in which it ended
 abbrev pub dropped : State → State
 dropped s = passAt (s .copy) (cond (eqb (s .number) 0) (s .row) 0) (s .marks) (s .number) s
+
+-- The run step by step ends as the run by its loops, of any course with a row and a pass in each iteration.
+abbrev pub FinishedNested : Type 0
+FinishedNested = (c : Course) → 0 < c .h → 0 < c .passes → (hs : List Float) → dropped (finished c hs) ≡ nested c hs

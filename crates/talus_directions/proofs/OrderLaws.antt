@@ -18,7 +18,7 @@ use Rattle.grid.proofs.NeighbourLaws.{stepX, stepY, each-direction}
 use Rattle.grid_inner.specs.Inner.{Inner}
 use Rattle.grid_inner.proofs.InnerLaws.{ahead, inner-from}
 use Rattle.talus.specs.Talus.{excessTo}
-use Rattle.talus_directions.specs.Parts.{InnerRow, lostFrom, gainedBy, changed, losses, gainsToward, slideBy, slideAll}
+use Rattle.talus_directions.specs.Parts.{InnerRow, lostFrom, gainedBy, changed, losses, gainsToward, slideBy, slideAll, slideLoops, LoopsCells}
 use Rattle.talus_directions.proofs.PassLaws.{inner-column}
 use Rattle.talus_directions.proofs.ExchangeLaws.{turns-across, nine-steps}
 
@@ -87,7 +87,7 @@ place-offset : (w h c k : ℕ) → Inner w h c → k ≤ 8 → placeOf w h c k +
 place-offset w h c zero a l = let e : behind w 0 ≡ 1 + 1 * w = refl in omega (arith, e)
 place-offset w h c (suc k) a l = inner-from w h c (suc k) (omega arith) l a
 
--- the heights after each of the nine loops
+-- the heights after each of the nine loops, as the code comes to them
 pub record Looped (w h : ℕ) (ts hs : List Float) (y x : ℕ) (totals moved : List Float) (n : ℕ) (out : List Float) (o₁ o₂ o₃ o₄ o₅ o₆ o₇ o₈ o₉ : List Float) : Type 0 where
   pub north-east : o₁ ≡ gainsToward w h ts hs y x totals moved 3 n out
   pub north : o₂ ≡ gainsToward w h ts hs y x totals moved 2 n o₁
@@ -109,14 +109,17 @@ module _ (w h : ℕ) (ts hs : List Float) (y x : ℕ) (totals moved : List Float
   partOf k i = changed (heightOf k i) (placeOf w h (x + i + y * w) k)
 
   -- loop by loop
-  in-turn : (n : ℕ) (out : List Float) {o₁ o₂ o₃ o₄ o₅ o₆ o₇ o₈ o₉ : List Float} → Looped w h ts hs y x totals moved n out o₁ o₂ o₃ o₄ o₅ o₆ o₇ o₈ o₉ → o₉ ≡ turns 9 (λ a. turns n (partOf (order a))) out
+  in-turn : (n : ℕ) (out : List Float) → slideLoops w h ts hs y x totals moved n out ≡ turns 9 (λ a. turns n (partOf (order a))) out
   unfolding turns gainsToward losses
-  in-turn n out e =
-      e .south-west ∙ ap (loop 8) (e .south ∙ ap (loop 7) (e .south-east ∙ ap (loop 6) (e .west ∙ ap (loop 5) (e .own ∙ ap (loop 4) (e .east ∙ ap (loop 3) (e .north-west
-      ∙ ap (loop 2) (e .north ∙ ap (loop 1) (e .north-east))))))))
+  in-turn n out = refl
+
+  pub looped : {n : ℕ} {out o₁ o₂ o₃ o₄ o₅ o₆ o₇ o₈ o₉ : List Float} → Looped w h ts hs y x totals moved n out o₁ o₂ o₃ o₄ o₅ o₆ o₇ o₈ o₉ → o₉ ≡ slideLoops w h ts hs y x totals moved n out
+  looped {n} e =
+      e .south-west ∙ ap (gains 6) (e .south ∙ ap (gains 7) (e .south-east ∙ ap (gains 8) (e .west ∙ ap (gains 4) (e .own ∙ ap (losses w y x totals moved n) (e .east ∙ ap (gains 5) (e .north-west
+      ∙ ap (gains 1) (e .north ∙ ap (gains 2) (e .north-east))))))))
     where
-      loop : ℕ → List Float → List Float
-      loop a = turns n (partOf (order a))
+      gains : ℕ → List Float → List Float
+      gains d = gainsToward w h ts hs y x totals moved d n
 
   module _ (cells n : ℕ) (r : InnerRow w h cells y x n) where
     -- the columns of two cells
@@ -145,8 +148,11 @@ module _ (w h : ℕ) (ts hs : List Float) (y x : ℕ) (totals moved : List Float
     unfolding turns
     cell-order i l t = nine-steps (λ a. partOf (order a) i) (λ a b u m k. parts-apart a b i i u m k (omega arith) l) t
 
-    pub loops-cells : (out : List Float) {o₁ o₂ o₃ o₄ o₅ o₆ o₇ o₈ o₉ : List Float} → Looped w h ts hs y x totals moved n out o₁ o₂ o₃ o₄ o₅ o₆ o₇ o₈ o₉ → o₉ ≡ slideAll w h ts hs y x totals moved n out
+    loops-all : (out : List Float) → slideLoops w h ts hs y x totals moved n out ≡ slideAll w h ts hs y x totals moved n out
     unfolding slideAll
-    loops-cells out e =
-        in-turn n out e ∙ sym (turns-across (λ a. partOf (order a)) n 9 (λ a b i j t l m k o. parts-apart a b i j t l m (omega arith) o) out)
+    loops-all out =
+        in-turn n out ∙ sym (turns-across (λ a. partOf (order a)) n 9 (λ a b i j t l m k o. parts-apart a b i j t l m (omega arith) o) out)
         ∙ sym (turns-same (slideBy w h ts hs y x totals moved) (λ i. turns 9 (λ a. partOf (order a) i)) out n (λ i t l. cell-order i l t))
+
+pub loops-cells : LoopsCells
+loops-cells = loops-all

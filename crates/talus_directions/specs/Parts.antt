@@ -1,5 +1,6 @@
 -- The losses of inner cells of a row and the gains of their neighbours, by each cell's total of excesses and its loss.
 use Prim.Native.Nat.{ℕ, suc, _+_, _*_}
+use mathlib.Core.Path.{_≡_}
 use mathlib.Core.Bool.{cond}
 use mathlib.Core.List.{List}
 use lib.ListN.{getD, set}
@@ -57,3 +58,17 @@ module _ (w h : ℕ) (ts hs : List Float) (y x : ℕ) (totals moved : List Float
   unfoldable pub slideAll : ℕ → List Float → List Float
   unfolding turns
   slideAll n out = turns n slideBy out
+
+  -- the first n cells slid direction by direction: NE, N, NW, E, the losses, W, SE, S, SW
+  abbrev pub slideLoops : ℕ → List Float → List Float
+  slideLoops n out =
+      let north = gainsToward 1 n (gainsToward 2 n (gainsToward 3 n out)) in
+      let own = gainsToward 4 n (losses w y x totals moved n (gainsToward 5 n north)) in
+      gainsToward 6 n (gainsToward 7 n (gainsToward 8 n own))
+
+-- Directions outside and cells inside leave the same heights as cells outside and directions inside, of any n inner
+-- cells of a row.
+abbrev pub LoopsCells : Type 0
+LoopsCells =
+    (w h : ℕ) (ts hs : List Float) (y x : ℕ) (totals moved : List Float) (cells n : ℕ) → InnerRow w h cells y x n
+    → (out : List Float) → slideLoops w h ts hs y x totals moved n out ≡ slideAll w h ts hs y x totals moved n out

@@ -2,7 +2,7 @@ use mathlib.Core.Path.{refl, _∙_}
 use Rattle.areas.specs.Words.{areasIn}
 use Rattle.areas.proofs.WordLaws.{worded-words}
 use Rattle.fluvial_erosion.proofs.CellLaws.{network, along-done}
-use Rattle.fluvial_erosion.proofs.WaysLaws.{ways-of, ways-done}
+use Rattle.fluvial_erosion.proofs.WaysLaws.{ways-of, ways-left}
 use borrow.Author.Needs.{needs}
 use Rattle.fluvial_erosion.proofs.incise_words.Statement.{statement}
 use Rattle.fluvial_erosion.proofs.incise_words.Tie as tie
@@ -28,7 +28,7 @@ returns c =
     let p = c .before .before .before .before .before .before .before .before .before .before .before .before .before .before .before .before .before .before .pre in
     let s = c .before .before .before .before .before .before .before .before .incise-ways .ensures in
     record {
-      heights = ways-done (p .0) (a .params) (a .ds) (areasIn (a .words .now)) (a .hmap .now) (c .before .before .before .before .before .before .before .before .before .before .before .before .incision-of .ensures) (p .1 .0 .heights) (s .heights);
+      heights = ways-left (p .0) (a .params) (a .ds) (areasIn (a .words .now)) (a .hmap .now) (c .before .before .before .before .before .before .before .before .before .before .before .before .incision-of .ensures) (p .1 .0 .heights) (s .heights);
       still = c .before .before .read-areas .ensures ∙ s .areas;
     }
 

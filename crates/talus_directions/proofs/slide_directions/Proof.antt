@@ -2,7 +2,7 @@ use Prim.Native.Nat.{ℕ}
 use mathlib.Core.Path.{subst, sym, _∙_}
 use lib.Dec.{lit≤}
 use Rattle.talus.specs.Places.{InRow}
-use Rattle.talus_directions.proofs.OrderLaws.{loops-cells}
+use Rattle.talus_directions.proofs.OrderLaws.{looped, loops-cells}
 use Rattle.talus_directions.proofs.slide_directions.Statement.{statement}
 use Rattle.talus_directions.proofs.slide_directions.Tie as tie
 
@@ -38,7 +38,7 @@ same-length c = c .before .before .gain-block8 .kept .1 .1 .1 .0 ∙ c .before .
 
 returns : tie.Need-returns
 returns c =
-    loops-cells _ _ _ _ _ _ _ _ _ _ (c .before .before .before .before .before .before .before .before .before .before .before .before .before .before .before .before .before .before .before .before .before .before .before .before .before .before .before .before .before .before .before .before .before .before .before .before .before .before .pre .0) _
+    looped _ _ _ _ _ _ _ _
     (record {
       north-east = c .before .before .before .before .before .before .before .before .before .before .before .before .before .before .before .before .before .before .before .before .before .before .before .before .before .before .before .before .before .before .before .before .before .before .gain-block .ensures;
       north = c .before .before .before .before .before .before .before .before .before .before .before .before .before .before .before .before .before .before .before .before .before .before .before .before .before .before .before .before .before .before .gain-block2 .ensures;
@@ -50,6 +50,7 @@ returns c =
       south = c .before .before .before .before .before .before .gain-block7 .ensures;
       south-west = c .before .before .gain-block8 .ensures;
     })
+    ∙ loops-cells _ _ _ _ _ _ _ _ _ _ (c .before .before .before .before .before .before .before .before .before .before .before .before .before .before .before .before .before .before .before .before .before .before .before .before .before .before .before .before .before .before .before .before .before .before .before .before .before .before .pre .0) _
 
 pub slide-directions-spec : {M : Type 1} → statement M
 slide-directions-spec =
