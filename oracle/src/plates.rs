@@ -1,8 +1,11 @@
 //! Document 01's worked examples, tried on the source with its stand-ins.
 use crate::random::Random;
 use crate::rules;
+use crate::rules::runs::Counts;
 use crate::rules::streams::{relief, Asked, Kind};
 use crate::source::erosion::*;
+use crate::source::fluvial_erosion::fluvial_plan;
+use crate::source::thermal_erosion::thermal_plan;
 use crate::streams::{stream, EXAMPLE};
 
 #[test]
@@ -17,7 +20,7 @@ fn routing() {
 
 #[test]
 fn incision() {
-    for (height, uplift, after) in [(1.0, 0.0, 0.5), (1.0, 0.5, 0.75), (0.0, 0.0, 0.0)] {
+    for (height, uplift, after) in [(1.0, 0.0, 0.5), (1.0, 0.5, 0.75), (0.0, 0.5, 0.0)] {
         let mut h = [height];
         let s = Incision { k: 1.0, uplift, water_level: 0.0 };
         incise((1, 1), &mut h, &[0], &[0], &s);
@@ -86,6 +89,77 @@ fn printed() {
     assert_eq!(relief(&[0x47, 0x52, 1, 16, 1, 16]).bytes, end(1, [0; 3]));
     assert_eq!(relief(&[0x47, 0x52, 65, 0, 64, 0]).bytes, end(9, [0; 3]));
     assert_eq!(relief(&[0x47, 0x52, 64, 0, 64, 0]).bytes, end(8, [0; 3]));
+}
+
+/// The examples of crates/run_machine/specs/Examples.antt: the settings on a working grid of 600 × 1 cells, and the
+/// fractions of the questions, each the last one of a record that is stopped there.
+#[test]
+fn plans() {
+    let size = (600, 1);
+    let s = Settings { water_level: 0.12, strength: 0.6, talus: 0.2, uplift: 0.0, iterations: 3, work_res: 600 };
+    let (work, p) = fluvial_plan(size, &fluvial_conf(&s), s.water_level);
+    assert_eq!((work, p.iterations, p.talus.passes), (size, 3, 2));
+    assert_eq!((p.k.to_bits(), p.talus.threshold.to_bits(), p.talus.strength), (0x40b4_0000, 0x3c86_37bd, 0.5));
+    let asked = [
+        [0, 0x3e2a_aaab, 0x3e80_0000],
+        [0x3eaa_aaab, 0x3f00_0000, 0x3f15_5555],
+        [0x3f2a_aaab, 0x3f55_5555, 0x3f6a_aaab],
+    ];
+    for (stop, &p) in asked.as_flattened().iter().enumerate() {
+        let r = gen_fluvial_erosion(size, &mut [1.0; 600], &s, stop as u32 + 1);
+        assert_eq!((r.last.to_bits(), r.stopped), (p, true));
+    }
+    for (iterations, passes) in [(0, 1), (1, 2), (5, 6)] {
+        let (_, p) = thermal_plan(size, &thermal_conf(&Settings { iterations, ..s }), s.water_level);
+        assert_eq!((p.passes, p.threshold.to_bits(), p.strength), (passes, 0x3c86_37bd, 0.6));
+    }
+    let five = Settings { iterations: 5, ..s };
+    for (stop, p) in [(1, 0), (2, 0x3e2a_aaab), (3, 0x3eaa_aaab), (6, 0x3f55_5555)] {
+        let r = gen_thermal_erosion(size, &mut [1.0; 600], &five, stop);
+        assert_eq!((r.last.to_bits(), r.stopped), (p, true));
+    }
+}
+
+/// The small runs with talus of the same file.
+#[test]
+fn talus_runs() {
+    let fluvial = Settings { water_level: 0.0, strength: 1.0, talus: 0.5, uplift: 0.25, iterations: 1, work_res: 512 };
+    let mut map = [8.0, 2.0];
+    let run = rules::runs::gen_fluvial_erosion((2, 1), &mut map, &fluvial, 0, &[]);
+    assert_eq!((run.answer, run.counts), (Ok(()), Counts { incisions: 1, passes: 1, questions: 2 }));
+    assert_eq!(map.map(f32::to_bits), [0x40c3_1684, 0x4085_a5e0]);
+    let thermal = Settings { water_level: 0.12, strength: 0.6, talus: 0.2, uplift: 0.0, iterations: 5, work_res: 600 };
+    let mut map = [8.0, 2.0];
+    let run = rules::runs::gen_thermal_erosion((2, 1), &mut map, &thermal, 0, &[]);
+    assert_eq!((run.answer, run.counts), (Ok(()), Counts { incisions: 0, passes: 1, questions: 1 }));
+    assert_eq!(map.map(f32::to_bits), [0x40eb_2bfe, 0x4029_a804]);
+}
+
+/// The example of crates/run_other_lists/specs/OtherLists.antt: the second routing's heights, the receivers of both, and
+/// the run's end.
+#[test]
+fn two_inner_cells() {
+    let map = [5.0, 5.0, 8.0, 6.0, 3.0, 4.0, 1.0, 8.0, 6.0, 4.0, 2.0, 8.0];
+    let s = Settings { water_level: 0.0, strength: 1.0, talus: 0.5, uplift: 0.25, iterations: 1, work_res: 512 };
+    let mut second = map;
+    gen_fluvial_erosion((4, 3), &mut second, &s, 0);
+    let heights = [
+        [0x4094_f323, 0x408c_f598, 0x40a5_643e, 0x409c_d6a7],
+        [0x4090_404f, 0x4081_1036, 0x411a_eed0, 0x40a5_643e],
+        [0x40a4_aa8b, 0x406b_a34b, 0x40a6_96a9, 0x40ab_c100],
+    ];
+    assert_eq!(second.map(f32::to_bits), heights.as_flattened());
+    assert_eq!(route((4, 3), &map, 0.0).recv, [0, 1, 2, 3, 4, 6, 10, 7, 8, 9, 10, 11]);
+    assert_eq!(route((4, 3), &second, 0.0).recv, [0, 1, 2, 3, 4, 9, 5, 7, 8, 9, 10, 11]);
+    let mut end = map;
+    let run = rules::runs::gen_fluvial_erosion((4, 3), &mut end, &Settings { iterations: 2, ..s }, 0, &[]);
+    assert_eq!((run.answer, run.counts), (Ok(()), Counts { incisions: 2, passes: 2, questions: 8 }));
+    let heights = [
+        [0x409a_2b10, 0x409b_f997, 0x40b3_1a3f, 0x40aa_5de6],
+        [0x4095_8d8e, 0x4094_1293, 0x40f0_0d87, 0x40b3_1a3f],
+        [0x40a1_2a8a, 0x4097_5d91, 0x40aa_cda4, 0x40b7_e29a],
+    ];
+    assert_eq!(end.map(f32::to_bits), heights.as_flattened());
 }
 
 /// Whether the whole numbers say that r is x's root, nearest, ties to even: with x = X × 4^k and r = R × 2^k the square of

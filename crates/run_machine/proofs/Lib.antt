@@ -1,5 +1,6 @@
 -- Theorems about whole runs: the flat machine and nested loops, plans, the sample run, and demand 3.
 pub mod SampleLaws
+pub mod ExampleLaws
 pub mod PassLaws
 pub mod IterationLaws
 pub mod CourseLaws
@@ -12,4 +13,3 @@ pub mod SoundLaws
 pub mod CutLaws
 pub mod DrainedLaws
 pub mod Demand3Laws
-pub mod ControlLaws

@@ -4,4 +4,5 @@ pub mod Machine
 pub mod Run
 pub mod Nested
 pub mod Demand3
-pub mod Controls
+pub mod Sample
+pub mod Examples

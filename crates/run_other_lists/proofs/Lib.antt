@@ -1,0 +1,2 @@
+-- The example of demand 3, by computation.
+pub mod OtherListLaws
