@@ -11,6 +11,7 @@ use lib.Ieee.{Float}
 use Rattle.answers.specs.Outcome.{Outcome, answerOf}
 use Rattle.answers.specs.declared.Answer.{Answer}
 use Rattle.answers.specs.declared.Refusal.{Refusal}
+use Rattle.float_order.specs.Fit.{Fit}
 use Rattle.grid.specs.Sides.{InRange}
 use Rattle.grid.specs.declared.Sides.{Sides}
 use Rattle.resample.specs.WorkSize.{Within, workSize}
@@ -81,10 +82,11 @@ module _ (w h : ℕ) (conf : FluvialSettings) (stop : ℕ) (map small eroded cop
   pub decided : {o : Outcome (Unit {0})} {bad : Bool} {scratch : ℕ} → o ≡ refusalOn w h bad map scratch → bad ≡ badFluvial conf → scratch ≡ shortestOf lengths → o ≡ outcome
   decided = decided-by w h map
 
-  pub run-refused : {r : RunAnswer} {early : Answer} (why : Refusal) → answerOf early ≡ outcome → early ≡ Answer.Refused why → r ≡ refusedTo why
+  pub run-refused : {r : RunAnswer} {early : Answer} (why : Refusal) → answerOf early ≡ outcome → early ≡ Answer.Refused why → r ≡ refusedTo why → Fit map
       → FluvialRun w h conf stop map scratch r map scratch
-  run-refused {r} {early} why f e g = record {
+  run-refused {r} {early} why f e g fit = record {
     ended = ending-refused why early outcome map (runBy w h conf stop ours map) e f g;
+    fit = fit;
     kept = λ _. refl;
   }
 
@@ -146,12 +148,13 @@ module _ (w h : ℕ) (conf : FluvialSettings) (stop : ℕ) (map small eroded cop
             ∙ ap (λ (work : Sides). runOn asSource w h (fluvialCourse (work .w) (work .h) (fluvialPlan (work .w) (work .h) conf) stop ours) map) g
 
         pub run-done : {r : Reached} {a : RunAnswer} (map′ small′ eroded′ copy′ area′ : List Float) (order′ recv′ queue′ status′ : List ℕ) → Answered r a
-            → worked map′ r ≡ wholeRun w h (courseBy (work .w) (work .h) plan stop) map
+            → worked map′ r ≡ wholeRun w h (courseBy (work .w) (work .h) plan stop) map → Fit map
             → FluvialRun w h conf stop map scratch a map′
             (record { small = small′; eroded = eroded′; copy = copy′; area = area′; order = order′; recv = recv′; queue = queue′; status = status′ })
-        run-done {r} {a} map′ small′ eroded′ copy′ area′ order′ recv′ queue′ status′ s t =
+        run-done {r} {a} map′ small′ eroded′ copy′ area′ order′ recv′ queue′ status′ s t fit =
             let ran = whole-run w h (courseBy (work .w) (work .h) plan stop) map t (run-within .dh-low) (run-erodes .bounded .some) in
             record {
               ended = ending-ran r a outcome map map′ (runBy w h conf stop ours map) s (ran ∙ whole-is) (done-accepts f e);
+              fit = fit;
               kept = done-keeps f e;
             }

@@ -5,6 +5,7 @@ use mathlib.Core.Bool.{false}
 use mathlib.Core.List.{List}
 use lib.Ieee.{Float}
 use Rattle.answers.specs.Outcome.{Outcome, given}
+use Rattle.float_order.specs.Fit.{Fit}
 use Rattle.run_machine.specs.Run.{ours, runBy}
 use Rattle.run_settings.specs.Refusals.{badFluvial}
 use Rattle.run_settings.specs.declared.FluvialSettings.{FluvialSettings}
@@ -37,8 +38,10 @@ abbrev pub lengthsOf : FluvialScratch → Scratch
 lengthsOf s = scratchOf (s .small) (s .eroded) (s .copy) (s .area) (s .order) (s .recv) (s .queue) (s .status)
 
 -- The answer, the counts and the map are those of the run of document 01 along the flood's own order, or of the
--- refusal; a refused input leaves scratch as it was.
+-- refusal; a refused input leaves scratch as it was. Every value of the lent map is a binary32 value, whatever was
+-- lent: the premise `Fit` of demand 3 is true of every slice of f32.
 pub record FluvialRun (w h : ℕ) (conf : FluvialSettings) (stop : ℕ) (map : List Float) (scratch : FluvialScratch) (r : RunAnswer)
     (map′ : List Float) (scratch′ : FluvialScratch) : Type 0 where
   pub ended : endedWith r map′ ≡ endingOf (fluvialInputRefusal w h conf map (lengthsOf scratch)) map (runBy w h conf stop ours map)
+  pub fit : Fit map
   pub kept : given (fluvialInputRefusal w h conf map (lengthsOf scratch)) ≡ false → scratch′ ≡ scratch
