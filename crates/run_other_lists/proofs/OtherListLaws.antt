@@ -54,6 +54,15 @@ firstReceivers = 0 ∷ 1 ∷ 2 ∷ 3 ∷ 4 ∷ 6 ∷ 10 ∷ 7 ∷ 8 ∷ 9 ∷ 10
 abbrev secondReceivers : List ℕ
 secondReceivers = 0 ∷ 1 ∷ 2 ∷ 3 ∷ 4 ∷ 9 ∷ 5 ∷ 7 ∷ 8 ∷ 9 ∷ 10 ∷ 11 ∷ []
 
+-- the lists are work lists of these
+first-work : WorkList 12 firstReceivers (lists 0)
+unfolding firstFailing goodEntry times
+first-work = list-test 12 firstReceivers (lists 0) refl .sound refl
+
+second-work : WorkList 12 secondReceivers (lists 1)
+unfolding firstFailing goodEntry times
+second-work = list-test 12 secondReceivers (lists 1) refl .sound refl
+
 -- the states after the first iteration and after the second, each an opening and three rows
 abbrev middle : State
 middle =
@@ -132,12 +141,10 @@ past k =
     ∙ turns-kept (λ i. Machine.step course) last k (λ i. last-stays)
 
 first-list : WorkList 12 (receiversThere heights) (lists 0)
-unfolding firstFailing goodEntry times
-first-list = subst (λ (r : List ℕ). WorkList 12 r (lists 0)) (sym (computed .first-receivers)) (list-test 12 firstReceivers (lists 0) refl .sound refl)
+first-list = subst (λ (r : List ℕ). WorkList 12 r (lists 0)) (sym (computed .first-receivers)) first-work
 
 second-list : WorkList 12 (receiversThere second) (lists 1)
-unfolding firstFailing goodEntry times
-second-list = subst (λ (r : List ℕ). WorkList 12 r (lists 1)) (sym (computed .second-receivers)) (list-test 12 secondReceivers (lists 1) refl .sound refl)
+second-list = subst (λ (r : List ℕ). WorkList 12 r (lists 1)) (sym (computed .second-receivers)) second-work
 
 -- only the states after no step and after four are about to open an iteration
 routed-list : (n it : ℕ) (routed : List Float) → it < 2 → at n .iteration ≡ it → at n .opened ≡ false → at n .heights ≡ routed
