@@ -1,5 +1,8 @@
 // relief: a stream of document 01 on standard input, its output on standard output.
 use answers::Written;
+use libc::STDERR_FILENO;
+use libc::STDIN_FILENO;
+use libc::STDOUT_FILENO;
 use stream_run::relief;
 ghost use mathlib.Core.Path.{_≡_};
 ghost use lib.ListN.{length};
@@ -30,7 +33,7 @@ fn drain() {
     let mut space = io::large_buffer();
     let mut turns = u64::MAX;
     while turns > 0 {
-        let got = io::read_full(0, &mut space);
+        let got = io::read_full(STDIN_FILENO, &mut space);
         if got < 65536 {
             return;
         }
@@ -38,15 +41,26 @@ fn drain() {
     }
 }
 
+// Writes the output. The program ends with status 0 all the same if that could not be written whole, and says so on
+// standard error.
+fn write_stdout(out: &[u8]) {
+    if !io::write_all(STDOUT_FILENO, out) {
+        io::write_all(
+            STDERR_FILENO,
+            b"relief: the output could not be written whole\n",
+        );
+    }
+}
+
 fn main() {
     let mut input = input_buffer();
-    let n = io::read_full(0, &mut input);
+    let n = io::read_full(STDIN_FILENO, &mut input);
     if n == INPUT {
         drain();
     }
     let mut out = output_buffer();
     let written = relief(&input[..n], &mut out);
     if let Written::Bytes(k) = written {
-        io::write_all(1, &out[..k]);
+        write_stdout(&out[..k]);
     }
 }

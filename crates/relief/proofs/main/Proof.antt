@@ -39,11 +39,11 @@ enum-known-written c = search needs
 array-share-prefix-out : tie.Need-array-share-prefix-out
 array-share-prefix-out c = omega (arith, relief-inside _ (c .before .before .before .before .before .before .before .output-buffer .result) (c .before .written .given .0 .0) (c .before .before .before .before .relief .ensures) (c .before .written .given .1), c .before .before .before .before .relief .kept .1 .0)
 
-slice-aggregate-write-all : tie.Need-slice-aggregate-write-all
-slice-aggregate-write-all c = sym (length-take-le _ (c .before .before .before .before .before .relief .last .1 .0) (omega (arith, relief-inside _ (c .before .before .before .before .before .before .before .before .output-buffer .result) (c .before .before .written .given .0 .0) (c .before .before .before .before .before .relief .ensures) (c .before .before .written .given .1), c .before .before .before .before .before .relief .kept .1 .0)))
+slice-aggregate-write-stdout : tie.Need-slice-aggregate-write-stdout
+slice-aggregate-write-stdout c = sym (length-take-le _ (c .before .before .before .before .before .relief .last .1 .0) (omega (arith, relief-inside _ (c .before .before .before .before .before .before .before .before .output-buffer .result) (c .before .before .written .given .0 .0) (c .before .before .before .before .before .relief .ensures) (c .before .before .written .given .1), c .before .before .before .before .before .relief .kept .1 .0)))
 
-write-all-requires : tie.Need-write-all-requires
-write-all-requires c κs = search needs
+write-stdout-requires : tie.Need-write-stdout-requires
+write-stdout-requires c κs = search needs
 
 enum-told : tie.Need-enum-told
 enum-told c = search needs
@@ -69,8 +69,8 @@ main-spec =
     relief-requires
     enum-known-written
     array-share-prefix-out
-    slice-aggregate-write-all
-    write-all-requires
+    slice-aggregate-write-stdout
+    write-stdout-requires
     enum-told
     returns
     returns-2)
