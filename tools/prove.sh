@@ -18,7 +18,7 @@ total=$(awk -F: -v name="$name" '
     { sub(/#.*/, "") }
     NF > 1 { needs[$1] = $2 }
     END { visit(name); print total + 0 }' crates.txt)
-echo "$name: $total crates to prove. The first time that takes minutes, one or two for ten crates;" \
+echo "$name needs $total crates proved. The first time that takes minutes, one or two for ten crates;" \
     "later only what has changed is proved again."
 
 # rt prints what the prover says of a crate and then one line 'rt: ..'. What comes before that line is kept until then,
