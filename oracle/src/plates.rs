@@ -4,7 +4,7 @@ use crate::rules;
 use crate::rules::runs::Counts;
 use crate::rules::streams::{relief, Asked, Kind};
 use crate::source::erosion::*;
-use crate::source::fluvial_erosion::fluvial_plan;
+use crate::source::fluvial_erosion::{fluvial_plan, rate};
 use crate::source::thermal_erosion::thermal_plan;
 use crate::streams::{stream, EXAMPLE};
 
@@ -91,48 +91,91 @@ fn printed() {
     assert_eq!(relief(&[0x47, 0x52, 64, 0, 64, 0]).bytes, end(8, [0; 3]));
 }
 
-/// The examples of crates/run_machine/specs/Examples.antt: the settings on a working grid of 600 × 1 cells, and the
-/// fractions of the questions, each the last one of a record that is stopped there.
+/// `PlanExamples` of crates/run_machine/specs/Examples.antt: the settings on a working grid whose longest side is 600.
 #[test]
 fn plans() {
-    let size = (600, 1);
-    let s = Settings { water_level: 0.12, strength: 0.6, talus: 0.2, uplift: 0.0, iterations: 3, work_res: 600 };
-    let (work, p) = fluvial_plan(size, &fluvial_conf(&s), s.water_level);
-    assert_eq!((work, p.iterations, p.talus.passes), (size, 3, 2));
-    assert_eq!((p.k.to_bits(), p.talus.threshold.to_bits(), p.talus.strength), (0x40b4_0000, 0x3c86_37bd, 0.5));
+    let s = Settings { water_level: 0.12, strength: 0.6, talus: 0.2, uplift: 0.25, iterations: 3, work_res: 600 };
+    for size in [(300, 600), (600, 300)] {
+        let (work, p) = fluvial_plan(size, &fluvial_conf(&s), s.water_level);
+        assert_eq!((work, p.iterations, p.talus.passes), (size, 3, 2));
+        assert_eq!((p.k.to_bits(), p.uplift, p.water_level), (0x40b4_0000, 0.25, 0.12));
+        assert_eq!((p.talus.threshold.to_bits(), p.talus.diag_threshold.to_bits()), (0x3c86_37bd, 0x3cbd_d002));
+        assert_eq!((p.talus.strength, p.talus.water_level), (0.5, 0.12));
+        assert_eq!(fluvial_plan(size, &fluvial_conf(&Settings { iterations: 0, ..s }), 0.12).1.iterations, 1);
+        for (talus, threshold) in [(0.2, 0x3c86_37bd), (0.25, 0x3c6b_edf9), (0.4, 0x3c16_feb5)] {
+            let (_, p) = thermal_plan(size, &thermal_conf(&Settings { talus, ..s }), s.water_level);
+            assert_eq!((p.threshold.to_bits(), p.strength, p.water_level), (threshold, 0.6, 0.12));
+        }
+    }
+    for (size, iterations, passes) in
+        [((300, 600), 0, 1), ((300, 600), 1, 2), ((300, 600), 5, 6), ((512, 1), 5, 5), ((4096, 1), 4096, 32768)]
+    {
+        let s = Settings { iterations, work_res: 4096, ..s };
+        assert_eq!(thermal_plan(size, &thermal_conf(&s), s.water_level).1.passes, passes);
+    }
+}
+
+/// The fractions of the same file: each the last one of a record that is stopped there, on maps of one row.
+#[test]
+fn fractions() {
+    let s = Settings { water_level: 0.12, strength: 0.6, talus: 0.2, uplift: 0.25, iterations: 3, work_res: 4096 };
     let asked = [
         [0, 0x3e2a_aaab, 0x3e80_0000],
         [0x3eaa_aaab, 0x3f00_0000, 0x3f15_5555],
         [0x3f2a_aaab, 0x3f55_5555, 0x3f6a_aaab],
     ];
     for (stop, &p) in asked.as_flattened().iter().enumerate() {
-        let r = gen_fluvial_erosion(size, &mut [1.0; 600], &s, stop as u32 + 1);
+        let r = gen_fluvial_erosion((600, 1), &mut [1.0; 600], &s, stop as u32 + 1);
         assert_eq!((r.last.to_bits(), r.stopped), (p, true));
     }
-    for (iterations, passes) in [(0, 1), (1, 2), (5, 6)] {
-        let (_, p) = thermal_plan(size, &thermal_conf(&Settings { iterations, ..s }), s.water_level);
-        assert_eq!((p.passes, p.threshold.to_bits(), p.strength), (passes, 0x3c86_37bd, 0.6));
-    }
+    let r = gen_fluvial_erosion((1200, 1), &mut [1.0; 1200], &s, 7);
+    assert_eq!((r.last.to_bits(), r.stopped), (0x3f0e_38e3, true));
     let five = Settings { iterations: 5, ..s };
-    for (stop, p) in [(1, 0), (2, 0x3e2a_aaab), (3, 0x3eaa_aaab), (6, 0x3f55_5555)] {
-        let r = gen_thermal_erosion(size, &mut [1.0; 600], &five, stop);
+    for (stop, p) in [0, 0x3e2a_aaab, 0x3eaa_aaab, 0x3f00_0000, 0x3f2a_aaab, 0x3f55_5555].into_iter().enumerate() {
+        let r = gen_thermal_erosion((600, 1), &mut [1.0; 600], &five, stop as u32 + 1);
         assert_eq!((r.last.to_bits(), r.stopped), (p, true));
     }
 }
 
-/// The small runs with talus of the same file.
+/// `RunExamples` of the same file.
 #[test]
-fn talus_runs() {
-    let fluvial = Settings { water_level: 0.0, strength: 1.0, talus: 0.5, uplift: 0.25, iterations: 1, work_res: 512 };
+fn small_runs() {
+    let s = Settings { water_level: 6.0, strength: 1.0, talus: 0.5, uplift: 0.25, iterations: 1, work_res: 512 };
+    let mut map = [8.0, 5.0, 1.0];
+    let run = rules::runs::gen_fluvial_erosion((1, 3), &mut map, &s, 0, &[]);
+    assert_eq!((run.answer, run.counts), (Ok(()), Counts { incisions: 1, passes: 1, questions: 4 }));
+    assert_eq!(map.map(f32::to_bits), [0x40e7_880a, 0x40be_9248, 0x3f80_0000]);
     let mut map = [8.0, 2.0];
-    let run = rules::runs::gen_fluvial_erosion((2, 1), &mut map, &fluvial, 0, &[]);
-    assert_eq!((run.answer, run.counts), (Ok(()), Counts { incisions: 1, passes: 1, questions: 2 }));
-    assert_eq!(map.map(f32::to_bits), [0x40c3_1684, 0x4085_a5e0]);
-    let thermal = Settings { water_level: 0.12, strength: 0.6, talus: 0.2, uplift: 0.0, iterations: 5, work_res: 600 };
-    let mut map = [8.0, 2.0];
-    let run = rules::runs::gen_thermal_erosion((2, 1), &mut map, &thermal, 0, &[]);
+    let run = rules::runs::gen_thermal_erosion(
+        (2, 1),
+        &mut map,
+        &Settings { water_level: 0.12, strength: 0.6, talus: 0.2, iterations: 5, ..s },
+        0,
+        &[],
+    );
     assert_eq!((run.answer, run.counts), (Ok(()), Counts { incisions: 0, passes: 1, questions: 1 }));
     assert_eq!(map.map(f32::to_bits), [0x40eb_2bfe, 0x4029_a804]);
+    let mut map = [8.0, 6.0, 4.0, 1.0];
+    let run =
+        rules::runs::gen_fluvial_erosion((4, 1), &mut map, &Settings { water_level: 0.0, work_res: 2, ..s }, 0, &[]);
+    assert_eq!((run.answer, run.counts), (Ok(()), Counts { incisions: 1, passes: 1, questions: 2 }));
+    assert_eq!(map.map(f32::to_bits), [0x40db_42ca, 0x40af_e6a1, 0x4099_2e50, 0x401b_a44d]);
+    // along the flood's list, and along one in which cell 4 stands before the cell that it drains into
+    let map = [3.0, 3.0, 3.0, 3.0, 4.0, 1.0, 3.0, 3.0, 3.0];
+    let net = route((3, 3), &map, 0.0);
+    let k = fluvial_plan((3, 3), &fluvial_conf(&s), 0.0).1.k;
+    for (list, centre) in [(net.order, 0x4086_8280), (vec![4, 0, 1, 2, 3, 5, 6, 7, 8], 0x4086_6666)] {
+        let mut cut = map;
+        incise((3, 3), &mut cut, &net.recv, &list, &Incision { k, uplift: 0.25, water_level: 0.0 });
+        let rest = [0x404c_cccd; 4];
+        assert_eq!(cut.map(f32::to_bits), *[&rest[..], &[centre, 0x3f9c_8a78], &rest[..3]].concat());
+    }
+}
+
+/// The floor of areas: `FloorExample` of crates/incision_rates/specs/Rate.antt.
+#[test]
+fn area_floor() {
+    assert_eq!(rate(1.0, 10006.0, 1.0).to_bits(), 0x3c23_d70a);
 }
 
 /// The example of crates/run_other_lists/specs/OtherLists.antt: the second routing's heights, the receivers of both, and

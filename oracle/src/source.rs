@@ -126,6 +126,11 @@ pub mod fluvial_erosion {
 
     include!(concat!(env!("OUT_DIR"), "/fluvial_erosion.rs"));
 
+    /// The incision coefficient of an area out of n cells, one cell away from the receiver.
+    pub fn rate(area: f32, n_cells: f32, k: f32) -> f32 {
+        incision_coef(area, n_cells, k, 1.0)
+    }
+
     /// The parameters of a direct incision.
     pub fn incision_params(k: f32, uplift: f32, water_level: f32) -> FluvialParams {
         FluvialParams {

@@ -1,4 +1,4 @@
--- The examples of a plan and of runs with talus, by computation.
+-- The examples of a plan and of runs, by computation.
 use mathlib.Core.Path.{refl}
 use lib.Ieee.{ofBits, toBits, ofInt, round, add, sub, mul, div, lt, le, toUnsigned}
 use Rattle.loops.specs.Loops.{turns, tabulate}
@@ -14,10 +14,11 @@ use Rattle.fluvial_erosion.specs.Incision.{incisedBy, inciseAlong}
 use Rattle.talus.specs.Talus.{shedTo, shedStep, shedOf, gainTo, gainStep, gainsOf, slideCell, slideRow}
 use Rattle.resample.specs.WorkSize.{workSize, scaledSide}
 use Rattle.resample.specs.Blocks.{downsampled, averageOf}
+use Rattle.upsample.specs.Samples.{addedOf}
 use Rattle.run_machine.specs.Machine as Machine
 use Rattle.run_machine.specs.Machine.{after}
-use Rattle.run_machine.specs.Run.{runBy, thermalRun, incisionBy}
-use Rattle.run_machine.specs.Examples.{PlanExamples, TalusExamples}
+use Rattle.run_machine.specs.Run.{runBy, thermalRun, incisionBy, differenceOf}
+use Rattle.run_machine.specs.Examples.{PlanExamples, RunExamples}
 
 pub plan-examples : PlanExamples
 unfolding ofBits toBits ofInt round add sub mul div toUnsigned ceilOf
@@ -26,13 +27,19 @@ plan-examples = record {
   k = refl;
   threshold = refl;
   passes = refl;
-  fluvial-strength = refl;
-  thermal-strength = refl;
+  plan = refl;
+  no-iterations = refl;
+  thermal-params = refl;
+  fluvial-parts = refl;
+  thermal-parts = refl;
   openings = refl;
-  fluvial-begins = refl;
-  thermal-begins = refl;
+  first-passes = refl;
+  second-passes = refl;
+  of-three-passes = refl;
+  thermal-passes = refl;
+  thermal-ends = refl;
 }
 
-pub talus-examples : TalusExamples
-unfolding runBy thermalRun ofBits toBits ofInt round add sub mul div lt le toUnsigned turns tabulate ceilOf wholeBy neighbourOf firstNotFinite allFinite rootOf nearestRoot wholeRoot digits reportOf floodStart floodStep leastWaiting pushAll floodAfter receivers receiverOf steepestOf directionTo areasAlong incisedBy inciseAlong incisionBy shedTo shedStep shedOf gainTo gainStep gainsOf slideCell slideRow workSize scaledSide downsampled averageOf after Machine.step
-talus-examples = record { fluvial-ends = refl; thermal-ends = refl }
+pub run-examples : RunExamples
+unfolding runBy thermalRun differenceOf addedOf ofBits toBits ofInt round add sub mul div lt le toUnsigned turns tabulate ceilOf wholeBy neighbourOf firstNotFinite allFinite rootOf nearestRoot wholeRoot digits reportOf floodStart floodStep leastWaiting pushAll floodAfter receivers receiverOf steepestOf directionTo areasAlong incisedBy inciseAlong incisionBy shedTo shedStep shedOf gainTo gainStep gainsOf slideCell slideRow workSize scaledSide downsampled averageOf after Machine.step
+run-examples = record { column = refl; slope = refl; reduced = refl; own-list = refl; lent-list = refl }
