@@ -14,7 +14,8 @@ use Rattle.loops.specs.Counts.{sumBelow}
 use Rattle.drainage.specs.Ways.{WorkList, areaOf, areasAlong}
 use Rattle.drainage.specs.Chains.{Neighbours, LeastCrest}
 
--- Neighbours are other cells and mutual, steps to neighbours join any two cells, and some cell is base level.
+-- There are at most 2^32 cells, neighbours are other cells and mutual, steps to neighbours join any two cells, and some
+-- cell is base level.
 pub record Joined (g : Ground) : Type 1 where
   pub few : g .cells ≤ 2 ^ 32
   pub other : (c m : ℕ) → c < g .cells → Neighbours g c m → c ≡ m → ⊥
@@ -45,7 +46,7 @@ module _ {H : Type 0} (k : Kind H) (g : Ground) (hs : List H) (number : H → �
     pub least : (c : ℕ) → c < g .cells → LeastCrest g (λ i. number (getD hs i (k .absent))) c (number (getD (spillOf k g hs) c (k .absent)))
 
 -- Every routing is a network: of heights of any kind that compare as numbers do, a good one for each cell, on any
--- ground that is joined and has a base cell.
+-- ground that is `Joined`.
 abbrev pub Networks : Type 1
 Networks =
     (H : Type 0) (k : Kind H) (g : Ground) (hs : List H) (Good : H → Type 0) (number : H → ℕ) → Joined g → Numbers k Good number

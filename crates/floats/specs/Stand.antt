@@ -57,6 +57,7 @@ fractOf x = sub binary32 x (truncOf x)
 abbrev pub indexOf : ℕ → Float → ℕ
 indexOf side x = min (toUnsigned 64 x) (side - 1)
 
--- On a coordinate below its side the index is Rust's own cast: what holds it inside the side changes nothing.
+-- On a coordinate below its side, of at most 2^24 cells, the index is Rust's own cast: what holds it inside the side
+-- changes nothing.
 abbrev pub IndexInside : Type 0
 IndexInside = (x : Float) (side : ℕ) → 0 < side → side ≤ 2 ^ 24 → lt x (whole side) ≡ true → indexOf side x ≡ toUnsigned 64 x
