@@ -27,7 +27,7 @@ tools/prove.sh relief
 streams=(sample/streams/*.in)
 for stream in "${streams[@]}"; do
     name=${stream%.in}
-    said=$(target/bin/relief <"$stream" 2>&1 >target/check.out)
+    said=$(target/bin/relief <"$stream" 2>&1 >target/check.out) || said+=" (status $?)"
     [ -z "$said" ] || fail "$name: relief wrote to standard error: $said"
     cmp -s target/check.out "$name.out" || fail "$name: not the answer"
     whole target/check.out || fail "$name: taken for an output that is not whole"
@@ -38,6 +38,6 @@ for stream in "${streams[@]}"; do
 done
 echo "${#streams[@]} streams, each with its answer, whole"
 
-said=$(target/bin/relief <sample/island.stream 2>&1 >/dev/full)
+said=$(target/bin/relief <sample/island.stream 2>&1 >/dev/full) || said+=" (status $?)"
 [ "$said" = "relief: the output could not be written whole" ] || fail "on a full device relief said: '$said'"
 echo "on a full device: $said"

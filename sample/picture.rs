@@ -51,7 +51,7 @@ fn line(name: &str, g: &Grid) {
 fn row(name: &str, g: &Grid, step: usize) {
     let y = g.h / 2;
     let cells: Vec<String> = (0..g.w).step_by(step).map(|x| format!("{:.3}", g.heights[y * g.w + x])).collect();
-    println!("{name:7} row {y}: {}", cells.join(" "));
+    println!("{name:7} row {y}, every {step} cells: {}", cells.join(" "));
 }
 
 // The height at a place between cells, in cells from the middle of the first: even between the four cells around it.

@@ -6,7 +6,7 @@ cd "$(dirname "$0")/.."
 rm -f target/sample.out target/sample.png
 tools/prove.sh relief
 # relief ends with status 0 in any case: where its output could not be written whole it says so on standard error.
-said=$(target/bin/relief <sample/island.stream 2>&1 >target/sample.out)
+said=$(target/bin/relief <sample/island.stream 2>&1 >target/sample.out) || said+=" (relief: status $?)"
 if [ -n "$said" ]; then
     echo "$said" >&2
     exit 1

@@ -41,6 +41,7 @@ rt check "$name" 2>&1 | {
             fi
             ;;
         'rt: '*' NOT PROVED: its dependency '*) ;;
+        'rt: '*', and wrote what its file '*) ;; # a program's own run, as expected
         'rt: '*)
             printf '%s%s\n' "$kept" "$line"
             kept=''
