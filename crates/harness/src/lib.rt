@@ -1,10 +1,9 @@
-// Routing and single passes by the C convention, for the comparisons of oracle/ and reference/ and the bench: a slice
-// passes as pointer and length, an array as a pointer, an answer is one u64 (specs/Word.antt of harness_calls). No part
-// of the public calls.
+// Routing and single passes by the C convention, for the oracle's bench and comparison: a slice passes as pointer and
+// length, an answer is one u64 (specs/Word.antt of harness_calls). No part of the public calls.
 ghost use Rattle.flow.specs.Route.{Routed};
 ghost use Rattle.fluvial_erosion.specs.Incise.{InciseMade};
 ghost use Rattle.fluvial_carve.specs.Carve.{CarveMade};
-ghost use Rattle.thermal_erosion.specs.SlidePass.{SlideMade, SlideOver};
+ghost use Rattle.thermal_erosion.specs.SlidePass.{SlideMade};
 ghost use Rattle.harness_calls.specs.Word.{Exported};
 
 use fluvial_erosion::FluvialParams;
@@ -177,64 +176,6 @@ pub extern "C" fn harness_slide_pass(
         stopped: *stopped,
     };
     let slid = thermal_erosion::slide_pass(size, hmap, out, params, from, to, before, stop);
-    let after = slid.progress;
-    *last = after.last;
-    *asked = after.asked;
-    *stopped = after.stopped;
-    let answer = slid.answer;
-    word(answer)
-}
-
-// `slide_pass_over`: a talus pass over eight thresholds; the record is read and written in place.
-#[unsafe(no_mangle)]
-pub extern "C" fn harness_slide_pass_over(
-    w: usize,
-    h: usize,
-    hmap: &[f32],
-    out: &mut [f32],
-    thresholds: &[f32; 8],
-    strength: f32,
-    water_level: f32,
-    from: f32,
-    to: f32,
-    last: &mut f32,
-    asked: &mut u32,
-    stopped: &mut bool,
-    stop: u32,
-) -> u64
-    ensures { Exported (λ a. SlideOver w h hmap.now thresholds.now strength water_level
-        (record {
-          from = from;
-          to = to;
-          marks = record { last = last.entry.now; asked = asked.old; stopped = stopped.old };
-          stop = stop;
-        })
-        out.old
-        (record {
-          answer = a;
-          progress = record { last = last.exit.now; asked = asked.new; stopped = stopped.new };
-        })
-        out.new) result }
-{
-    let size = Sides { w, h };
-    let before = Progress {
-        last: *last,
-        asked: *asked,
-        stopped: *stopped,
-    };
-    let eight = *thresholds;
-    let slid = thermal_erosion::slide_pass_over(
-        size,
-        hmap,
-        out,
-        eight,
-        strength,
-        water_level,
-        from,
-        to,
-        before,
-        stop,
-    );
     let after = slid.progress;
     *last = after.last;
     *asked = after.asked;

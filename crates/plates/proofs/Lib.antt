@@ -1,3 +1,2 @@
--- The plates of document 01, and the examples of document 02.
+-- The plates of document 01.
 pub mod PlateLaws
-pub mod ExampleLaws

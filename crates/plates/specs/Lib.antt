@@ -1,3 +1,2 @@
--- Document 01, 'Plates on the wall', and worked examples of document 02.
+-- Document 01, 'Plates on the wall'.
 pub mod Plates
-pub mod Examples

@@ -11,7 +11,7 @@ use Rattle.drainage.specs.Ground.{grid_ground, square_land}
 use Rattle.flow.specs.Route.{lent_of, route_answer}
 use Rattle.fluvial_erosion.specs.Incise.{incise_refusal, incise_answer, incised}
 use Rattle.fluvial_erosion.specs.declared.FluvialParams.{FluvialParams}
-use Rattle.thermal_erosion.specs.SlidePass.{bad_pass, pass_refusal, pass_answer, pass_of}
+use Rattle.thermal_erosion.specs.SlidePass.{slide_refusal, pass_answer, pass_of}
 use Rattle.thermal_erosion.specs.declared.ThermalParams.{ThermalParams}
 use Rattle.resample.specs.WorkSize.{work_answer}
 use Rattle.resample.specs.Blocks.{downsample_answer, downsample_result}
@@ -84,10 +84,9 @@ incise height uplift =
 abbrev pub slide : Float → ℕ → Left
 slide threshold water =
     let hs : List Float = wholes (1 ∷ 0 ∷ []) in
-    let p : ThermalParams = record { threshold = threshold; strength = ½; water_level = whole water } in
-    let bad = bad_pass p (whole 0) (whole 1) fresh in (
-      pass_refusal 2 1 hs 2 bad refused refused_at (pass_answer (pass_of 2 1 p hs (whole 0) (whole 1) 0 fresh)),
-      pass_refusal 2 1 hs 2 bad (λ _. lent_slice 2) (λ _ _. lent_slice 2) (pass_of 2 1 p hs (whole 0) (whole 1) 0 fresh).out,
+    let p : ThermalParams = record { threshold = threshold; strength = ½; water_level = whole water } in (
+      slide_refusal 2 1 hs 2 p (whole 0) (whole 1) fresh refused refused_at (pass_answer (pass_of 2 1 p hs (whole 0) (whole 1) 0 fresh)),
+      slide_refusal 2 1 hs 2 p (whole 0) (whole 1) fresh (λ _. lent_slice 2) (λ _ _. lent_slice 2) (pass_of 2 1 p hs (whole 0) (whole 1) 0 fresh).out,
     )
 
 -- 1 3 5 (3 × 1) to 2 × 1

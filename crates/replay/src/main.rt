@@ -1,9 +1,9 @@
-// Replays a list of the oracle and reference/: reads tasks, makes the calls and writes the answers, which must be those
-// in the file stdout. oracle/README.md has the words of each task and answer. Scratch is a whole buffer, with at least
-// as many values as any grid of the list has cells; whole runs are streams for `relief`.
+// Replays the oracle's list: reads tasks, makes the calls and writes the answers, which must be those in the file
+// stdout. oracle/README.md has the words of each task and answer. Scratch is a whole buffer, with at least as many
+// values as any grid of the list has cells; whole runs are streams for `relief`.
 use answers::Written;
 use floats::{from_bits, to_bits};
-use harness::{harness_incise, harness_route, harness_slide_pass, harness_slide_pass_over};
+use harness::{harness_incise, harness_route, harness_slide_pass};
 use harness_calls::{
     harness_add_upsampled, harness_bilinear, harness_downsample, harness_greatest, harness_least,
     harness_normalize, harness_report,
@@ -148,39 +148,6 @@ fn slide_pass(t: Task, map: &[f32], out: &mut [f32]) -> u64 {
     answer
 }
 
-fn slide_pass_over(t: Task, map: &[f32], out: &mut [f32]) -> u64 {
-    let thresholds = [
-        float(),
-        float(),
-        float(),
-        float(),
-        float(),
-        float(),
-        float(),
-        float(),
-    ];
-    let mut last = float();
-    let mut asked = word();
-    let mut stopped = word() == 1;
-    let answer = harness_slide_pass_over(
-        t.w,
-        t.h,
-        map,
-        out,
-        &thresholds,
-        t.f0,
-        t.f1,
-        t.f2,
-        t.f3,
-        &mut last,
-        &mut asked,
-        &mut stopped,
-        t.stop,
-    );
-    put_record(last, asked, stopped);
-    answer
-}
-
 fn incise(t: Task, map: &[f32], out: &mut [f32]) -> u64 {
     let mut area = float_buffer(t.height);
     let mut recv_buffer = cell_buffer(0);
@@ -236,7 +203,6 @@ fn perform(call: u32, t: Task, read: &[f32], written: &mut [f32]) -> u64 {
         9 => report(t),
         10 => incise(t, read, written),
         11 => slide_pass(t, read, written),
-        14 => slide_pass_over(t, read, written),
         _ => route(t, read, written),
     }
 }

@@ -67,10 +67,9 @@ parts_of c =
       stop = c.stop;
     }
 
--- the thresholds of talus 0.2 toward the sides and toward the corners, in directions 1 to 8, after a 0 for no direction,
--- which the source does not have
+-- the threshold of talus 0.2 toward the sides and toward the corners, as in the directions 0 to 8
 abbrev pub thresholds : List Float
-thresholds = floats (0 ∷ 0x3cbd_d002 ∷ 0x3c86_37bd ∷ 0x3cbd_d002 ∷ 0x3c86_37bd ∷ 0x3c86_37bd ∷ 0x3cbd_d002 ∷ 0x3c86_37bd ∷ 0x3cbd_d002 ∷ [])
+thresholds = floats (0x3c86_37bd ∷ 0x3cbd_d002 ∷ 0x3c86_37bd ∷ 0x3cbd_d002 ∷ 0x3c86_37bd ∷ 0x3c86_37bd ∷ 0x3cbd_d002 ∷ 0x3c86_37bd ∷ 0x3cbd_d002 ∷ [])
 
 -- What settings become on the working grid, and the fractions p of the questions of a run: of each opening, of the
 -- beginning of each pass of a fluvial run, by iteration and pass, and of each pass of a thermal run.

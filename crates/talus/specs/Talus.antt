@@ -1,6 +1,5 @@
 -- Document 01, 'Talus': heights are read from the map at entry and the gains added to a copy, cells in number order.
--- The thresholds of the directions are an argument (document 02, card 5), a table whose entry d is that of direction d;
--- entry 0 stands for no direction.
+-- The thresholds of the directions are an argument, entry d that of direction d; entry 0 stands for no direction.
 use Rattle.std.specs.Prelude.{ℕ, suc, ◌+◌, ◌*◌, List, [], ◌∷◌, get_or, set, ltb, Float}
 use Rattle.std.proofs.Math.Bool.{cond}
 use Rattle.std.specs.Float.{nan}
@@ -11,19 +10,11 @@ use Rattle.grid.specs.Directions.{neighbour_at}
 use Rattle.grid_spacing.specs.declared.Distances.{Distances}
 use Rattle.talus.specs.declared.Shed.{Shed}
 
--- the eight thresholds of t in scan order, NW first: t toward the sides, t × the diagonal toward the corners
-abbrev pub prepared_of : Float → Distances → List Float
-prepared_of t ds =
-    let diagonal = mul binary32 t ds.diagonal in
-    diagonal ∷ t ∷ diagonal ∷ t ∷ t ∷ diagonal ∷ t ∷ diagonal ∷ []
-
--- the table of eight thresholds that are given in scan order: they are entries 1 to 8, entry 0 is 0
-abbrev pub table_of : List Float → List Float
-table_of eight = of_bits binary32 0 ∷ eight
-
--- the table of the eight thresholds of t
+-- the threshold toward the sides, and × the diagonal toward the corners
 abbrev pub thresholds_of : Float → Distances → List Float
-thresholds_of t ds = table_of (prepared_of t ds)
+thresholds_of t ds =
+    let diagonal = mul binary32 t ds.diagonal in
+    t ∷ diagonal ∷ t ∷ diagonal ∷ t ∷ t ∷ diagonal ∷ t ∷ diagonal ∷ []
 
 -- the excess of cell c toward cell m over a threshold: (height - neighbour) - threshold
 abbrev pub excess_over : List Float → ℕ → ℕ → Float → Float

@@ -6,8 +6,8 @@ ghost use Rattle.std.specs.Float.{binary32};
 ghost use Rattle.std.specs.Float.Ieee.{of_bits, lt};
 ghost use Rattle.grid.specs.Directions.{Step, stepped_at};
 ghost use Rattle.grid_inner.specs.Inner.{Inner};
-ghost use Rattle.talus.specs.Talus.{prepared_of, table_of, thresholds_of, excess_over, shed_to, shed_of, gain_to};
-ghost use Rattle.talus.specs.Talus.{gains_of, slide_cell, slide_cells};
+ghost use Rattle.talus.specs.Talus.{thresholds_of, excess_over, shed_to, shed_of, gain_to, gains_of, slide_cell};
+ghost use Rattle.talus.specs.Talus.{slide_cells};
 ghost use Rattle.talus.specs.Places.{CellAt, InRow};
 
 use floats::max;
@@ -22,28 +22,13 @@ pub struct Shed {
     pub greatest: f32,
 }
 
-// The eight thresholds of t in scan order: t toward the sides, t × the diagonal toward the corners.
-pub fn prepare(t: f32, ds: Distances) -> [f32; 8]
-    ensures { result ≡ prepared_of t ds }
-{
-    let d = t * ds.diagonal;
-    [d, t, d, t, t, d, t, d]
-}
-
-// The table of eight thresholds that are given in scan order: entry d is that of direction d, entry 0 stands for none.
-pub fn table(eight: [f32; 8]) -> [f32; 9]
-    ensures { result ≡ table_of eight }
-{
-    [
-        0.0, eight[0], eight[1], eight[2], eight[3], eight[4], eight[5], eight[6], eight[7],
-    ]
-}
-
-// The table of the eight thresholds of t.
+// The thresholds of the directions: t toward the sides, and t × the diagonal toward the corners. Entry 0 stands for no
+// direction.
 pub fn thresholds(t: f32, ds: Distances) -> [f32; 9]
     ensures { result ≡ thresholds_of t ds }
 {
-    table(prepare(t, ds))
+    let d = t * ds.diagonal;
+    [t, d, t, d, t, t, d, t, d]
 }
 
 // Returns `counted` where the excess e is counted, that is above 0, else `not`. Both are computed before: a select, not

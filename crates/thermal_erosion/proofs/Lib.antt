@@ -1,5 +1,3 @@
--- Laws of a talus pass and of its thresholds.
+-- Laws of a talus pass.
 pub mod PassLaws
 pub mod SlideLaws
-pub mod ThresholdLaws
-pub mod SamePassLaws

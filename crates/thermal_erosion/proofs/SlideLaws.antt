@@ -1,4 +1,4 @@
--- The ends of a pass and of the calls on one, each with its answer, its record and the slice after it.
+-- The ends of `slide_pass`, each with its answer, its record and the slice after it.
 use Prim.Native.Nat.{ℕ, ◌*◌, ◌^◌, ◌≤◌}
 use mathlib.Core.Path.{◌≡◌, refl, sym, ap, ◌∙◌, subst}
 use mathlib.Core.Bool.{Bool, true, false, not}
@@ -9,48 +9,39 @@ use lib.Dec.{eqb}
 use lib.ListN.{length}
 use lib.Ieee.{Float, binary32, of_bits, neg}
 use lib.Ieee.Scale.{finite}
-use Rattle.loops.proofs.TestLaws.{neither, fourth}
+use Rattle.loops.proofs.TestLaws.{fourth}
 use Rattle.answers.specs.Outcome.{refused_at, outside_of}
 use Rattle.answers.specs.declared.Answer.{Answer}
 use Rattle.answers.specs.declared.Refusal.{Refusal}
 use Rattle.grid.specs.Sides.{bad_sides}
 use Rattle.grid.specs.Heights.{first_not_finite, all_finite}
 use Rattle.grid.proofs.SidesLaws.{good_sides}
-use Rattle.generators.specs.Marks.{bad_report}
 use Rattle.generators.specs.declared.Progress.{Progress}
 use Rattle.grid.proofs.HeightsLaws.{all_finite_lem, not_all_finite}
-use Rattle.thermal_erosion.specs.SlidePass.{Pass, pass_over, RowsReady, bad_rest, bad_threshold, bad_pass, bad_thresholds, bad_over, Passed, PassMade}
+use Rattle.thermal_erosion.specs.SlidePass.{Pass, pass_of, RowsReady, bad_marks, bad_pass, Passed, PassMarks, SlideMade}
 use Rattle.thermal_erosion.specs.declared.ThermalParams.{ThermalParams}
 use Rattle.thermal_erosion.specs.declared.Slid.{Slid}
 
 abbrev pub refusing : Refusal → Progress → Slid
 refusing r m = record { answer = Answer.Refused r; progress = m }
 
--- where 4 does not apply, at most 2^31 questions were asked
-rest_asked : (strength water from to : Float) (m : Progress) → bad_rest strength water from to m ≡ false → m.asked ≤ 2 ^ 31
-rest_asked strength water from to m e =
+asked_most : (p : ThermalParams) (from to : Float) (m : Progress) → bad_pass p from to m ≡ false → m.asked ≤ 2 ^ 31
+asked_most p from to m e =
     let zero : Float = of_bits binary32 0 in
     let one : Float = of_bits binary32 0x3f80_0000 in
-    let report : bad_report m to ≡ false = fourth (outside_of strength zero one) (not (finite water)) (outside_of from zero one) _ e in
-    ltb-false _ _ (neither (outside_of m.last (neg one) one) _ (neither (outside_of to zero one) _ report).1).1
-
-pub pass_asked : {bad : Bool} (p : ThermalParams) (from to : Float) (m : Progress) → bad ≡ bad_pass p from to m → bad ≡ false → m.asked ≤ 2 ^ 31
-pass_asked p from to m e f =
-    rest_asked p.strength p.water_level from to m (neither (bad_threshold p.threshold) _ (sym e ∙ f)).1
-
-pub over_asked : {bad : Bool} (eight : List Float) (strength water from to : Float) (m : Progress) → bad ≡ bad_over eight strength water from to m → bad ≡ false → m.asked ≤ 2 ^ 31
-over_asked eight strength water from to m e f = rest_asked strength water from to m (neither (bad_thresholds eight) _ (sym e ∙ f)).1
+    let marks : bad_marks from to m ≡ false = fourth (outside_of p.threshold zero (of_bits binary32 0x4180_0000)) (outside_of p.strength zero one) (not (finite p.water_level)) _ e in
+    ltb-false _ _ (fourth (outside_of from zero one) (outside_of to zero one) (outside_of m.last (neg one) one) _ marks)
 
 -- an accepted input is one that a pass takes
-pub slide_ready : (w h map copy asked : ℕ)
+pub slide_ready : (w h map copy : ℕ) (p : ThermalParams) (from to : Float) (m : Progress)
     → bad_sides w h ≡ false
     → map ≡ w * h
     → copy ≡ w * h
-    → asked ≤ 2 ^ 31
-    → RowsReady w h map copy asked
-slide_ready w h map copy asked sides a b few =
+    → bad_pass p from to m ≡ false
+    → RowsReady w h map copy m.asked
+slide_ready w h map copy p from to m sides a b set =
     let r = good_sides w h sides in
-    record { some = r.columns; wide = r.wide; high = r.high; heights = a; copied = b ∙ sym a; questions = omega (arith, few) }
+    record { some = r.columns; wide = r.wide; high = r.high; heights = a; copied = b ∙ sym a; questions = omega (arith, asked_most p from to m set) }
 
 -- the ends of a pass: stopped, complete, run off
 module _ (s : Pass) (new : List Float) (m : Progress) (e : ◌≡◌ {A = Pass} (record { out = new; marks = m }) s) where
@@ -68,12 +59,15 @@ module _ (s : Pass) (new : List Float) (m : Progress) (e : ◌≡◌ {A = Pass} 
         let f : all_finite new ≡ false = sym a ∙ t in
         subst (λ (s : Pass). Passed s (refusing Refusal.RunOff m) new) e (record { answer = rw (on, f); handed = refl; heights = refl })
 
-module _ (w h : ℕ) (hs old : List Float) (bad : Bool) (m : Progress) (s : Pass) where
-  pub slide_side : bad_sides w h ≡ true → PassMade w h hs bad m old s (refusing Refusal.Side m) old
+module _ (w h : ℕ) (hs old : List Float) (p : ThermalParams) (from to : Float) (m : Progress) (stop : ℕ) where
+  abbrev by : PassMarks
+  by = record { from = from; to = to; marks = m; stop = stop }
+
+  pub slide_side : bad_sides w h ≡ true → SlideMade w h hs p by old (refusing Refusal.Side m) old
   slide_side b = record { answer = rw b; handed = rw b; heights = rw b }
 
   module _ (sides : bad_sides w h ≡ false) where
-    pub slide_map : (length hs ≡ w * h → ⊥) → PassMade w h hs bad m old s (refusing Refusal.Length m) old
+    pub slide_map : (length hs ≡ w * h → ⊥) → SlideMade w h hs p by old (refusing Refusal.Length m) old
     slide_map b =
         let e : eqb (length hs) (w * h) ≡ false = ne_eqb _ _ b in
         record { answer = rw (sides, e); handed = rw (sides, e); heights = rw (sides, e) }
@@ -82,7 +76,7 @@ module _ (w h : ℕ) (hs old : List Float) (bad : Bool) (m : Progress) (s : Pass
       lengths : eqb (length hs) (w * h) ≡ true
       lengths = eq-eqb _ _ map
 
-      pub slide_copy : (length old ≡ w * h → ⊥) → PassMade w h hs bad m old s (refusing Refusal.Length m) old
+      pub slide_copy : (length old ≡ w * h → ⊥) → SlideMade w h hs p by old (refusing Refusal.Length m) old
       slide_copy b =
           let e : eqb (length old) (w * h) ≡ false = ne_eqb _ _ b in
           record { answer = rw (sides, lengths, e); handed = rw (sides, lengths, e); heights = rw (sides, lengths, e) }
@@ -91,11 +85,11 @@ module _ (w h : ℕ) (hs old : List Float) (bad : Bool) (m : Progress) (s : Pass
         copies : eqb (length old) (w * h) ≡ true
         copies = eq-eqb _ _ copy
 
-        pub slide_setting : bad ≡ true → PassMade w h hs bad m old s (refusing Refusal.Setting m) old
+        pub slide_setting : bad_pass p from to m ≡ true → SlideMade w h hs p by old (refusing Refusal.Setting m) old
         slide_setting b = record { answer = rw (sides, lengths, copies, b); handed = rw (sides, lengths, copies, b); heights = rw (sides, lengths, copies, b) }
 
-        module _ (set : bad ≡ false) (c : ℕ) (e : c ≡ first_not_finite hs) where
-          pub slide_height : (c ≡ length hs → ⊥) → PassMade w h hs bad m old s (refusing (Refusal.Height c) m) old
+        module _ (set : bad_pass p from to m ≡ false) (c : ℕ) (e : c ≡ first_not_finite hs) where
+          pub slide_height : (c ≡ length hs → ⊥) → SlideMade w h hs p by old (refusing (Refusal.Height c) m) old
           slide_height b =
               let f : all_finite hs ≡ false = not_all_finite hs c e b in
               record {
@@ -104,7 +98,7 @@ module _ (w h : ℕ) (hs old : List Float) (bad : Bool) (m : Progress) (s : Pass
                 heights = rw (sides, lengths, copies, set, f);
               }
 
-          pub slide_accepted : c ≡ length hs → (r : Slid) (new : List Float) → Passed s r new → PassMade w h hs bad m old s r new
+          pub slide_accepted : c ≡ length hs → (r : Slid) (new : List Float) → Passed (pass_of w h p hs from to stop m) r new → SlideMade w h hs p by old r new
           slide_accepted b r new a =
               let f : all_finite hs ≡ true = all_finite_lem hs c e b in
               record {
@@ -112,13 +106,3 @@ module _ (w h : ℕ) (hs old : List Float) (bad : Bool) (m : Progress) (s : Pass
                 handed = rw (sides, lengths, copies, set, f) a.handed;
                 heights = rw (sides, lengths, copies, set, f) a.heights;
               }
-
--- the promise of a pass over equal thresholds, where 4 applies alike
-pub made_alike : (w h : ℕ) (hs old : List Float) {bad other : Bool} {eight prepared : List Float} (strength water from to : Float) (stop : ℕ) (m : Progress) (r : Slid) (new : List Float)
-    → bad ≡ other
-    → eight ≡ prepared
-    → PassMade w h hs bad m old (pass_over w h eight strength water hs from to stop m) r new
-    → PassMade w h hs other m old (pass_over w h prepared strength water hs from to stop m) r new
-made_alike w h hs old {other} {eight} strength water from to stop m r new b e a =
-    subst (λ (l : List Float). PassMade w h hs other m old (pass_over w h l strength water hs from to stop m) r new) e
-    (subst (λ (b : Bool). PassMade w h hs b m old (pass_over w h eight strength water hs from to stop m) r new) b a)

@@ -1,3 +1,2 @@
--- Document 01, 'Talus': the pass and its public calls, and document 02, card 5: the pass over eight thresholds.
+-- Document 01, 'Talus': the pass and its public call.
 pub mod SlidePass
-pub mod SamePass
