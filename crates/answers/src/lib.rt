@@ -1,5 +1,7 @@
 // What every public call answers: a value, or one of the refusals of documents 01 and 02. specs/Outcome.antt gives
 // each case its number and the values that it carries.
+#![tactic(auto)]
+
 ghost use Rattle.std.specs.Prelude.{◌≡◌};
 ghost use Rattle.answers.specs.Outcome.{outside_of, number_in, place_in, number_of, place_of, answer_of};
 
@@ -9,7 +11,7 @@ pub const STOPPED: u32 = 21;
 pub const RUN_OFF: u32 = 22;
 
 // A refusal. Those that name a place carry it: the first bad cell, or the first bad position of a list.
-#[derive(Drop)]
+#[derive(Clone, Copy)]
 pub enum Refusal {
     Side,
     ReducedSide,
@@ -31,21 +33,21 @@ pub enum Refusal {
 }
 
 // The answer of a call that gives no value of its own.
-#[derive(Drop)]
+#[derive(Clone, Copy)]
 pub enum Answer {
     Done,
     Refused(Refusal),
 }
 
 // The answer of a call that gives one float.
-#[derive(Drop)]
+#[derive(Clone, Copy)]
 pub enum Value {
     Given(f32),
     Refused(Refusal),
 }
 
 // What a whole run answers, with the completed incisions and passes and the questions asked.
-#[derive(Drop)]
+#[derive(Clone, Copy)]
 pub struct RunAnswer {
     pub answer: Answer,
     pub incisions: u32,
@@ -54,7 +56,7 @@ pub struct RunAnswer {
 }
 
 // The answer of a call that writes bytes: the number of bytes written, or the refusal.
-#[derive(Drop)]
+#[derive(Clone, Copy)]
 pub enum Written {
     Bytes(usize),
     Refused(Refusal),

@@ -234,7 +234,7 @@ unfolding one_area
 one_number = area_number one_area
 
 pub start_length : (given : Bool) (areas : List Float) → length (start_areas given areas) ≡ length areas
-start_length true areas = refl
+start_length true _ = refl
 start_length false areas = length-replicate (length areas) (whole 1)
 
 pub one_areas : (areas : List Float) → WholeAreas (start_areas false areas)

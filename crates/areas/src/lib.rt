@@ -2,6 +2,8 @@
 // and that stand in the slice of areas: a list in order of height visits cells scattered over memory, and with words it
 // reads one slice where it would read two. On one or two columns steps have no numbers: there areas are added without
 // words.
+#![tactic(auto)]
+
 ghost use Rattle.std.specs.Prelude.{◌≡◌, ◌+◌, ◌*◌, ◌^◌, ◌≤◌, ◌<◌, length, replicate};
 ghost use Rattle.std.specs.Float.{binary32};
 ghost use Rattle.std.specs.Float.Ieee.{of_bits, to_unsigned};
@@ -159,7 +161,8 @@ fn refill(
     requires stepped_network { SteppedNetwork width recv.now (length words.now) }
     requires worded { Worded width recv.now words.now }
     requires along { Along (length words.now) recv.now order.now }
-    requires k_nonzero { (0 < k) × (k ≤ length order.now) × (256 ≤ length below.old) × (offsets.now ≡ step_offsets width) }
+    requires k_nonzero { (0 < k) × (k ≤ length order.now) × (256 ≤ length below.old) ×
+        (offsets.now ≡ step_offsets width) }
     requires ahead { Ahead recv.now order.now lo k below.old }
     ensures { (result < k) × Ahead recv.now order.now result k below.new }
 {

@@ -1,4 +1,6 @@
 // The source's resample.rs, the bilinear sample between the cells of a grid.
+#![tactic(auto)]
+
 ghost use Rattle.std.specs.Prelude.{◌≡◌, ◌*◌, ◌≤◌, length};
 ghost use Rattle.answers.specs.Outcome.{value_of};
 ghost use Rattle.grid.specs.Directions.{Place};

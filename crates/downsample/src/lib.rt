@@ -1,4 +1,6 @@
 // The source's resample.rs, the block average of a map onto a smaller grid.
+#![tactic(auto)]
+
 ghost use Rattle.std.specs.Prelude.{◌≡◌, ◌+◌, ◌*◌, ◌<◌, ◌≤◌, length};
 ghost use Rattle.resample.specs.WorkSize.{Within};
 ghost use Rattle.resample.specs.Blocks.{first_in_block, row_sum, block_sum, average_of, downsampled, Downsampled};

@@ -17,15 +17,15 @@ module _ {H : Type 0} (k : Kind H) (g : Ground) (hs : List H) where
   receivers_of = receivers k g (flooded k g hs).spill (flooded k g hs).discoverer
 
 -- floats hs on the ground that they give
-module _ (ground : List Float → Ground) (hs : List Float) where
+module _ (ground_of : List Float → Ground) (hs : List Float) where
   abbrev pub order_on : List ℕ
-  order_on = order_of floats (ground hs) hs
+  order_on = order_of floats (ground_of hs) hs
 
   abbrev pub spill_on : List Float
-  spill_on = spill_of floats (ground hs) hs
+  spill_on = spill_of floats (ground_of hs) hs
 
   abbrev pub receivers_on : List ℕ
-  receivers_on = receivers_of floats (ground hs) hs
+  receivers_on = receivers_of floats (ground_of hs) hs
 
   abbrev pub areas_on : List Float
-  areas_on = areas_along (ground hs).cells receivers_on order_on
+  areas_on = areas_along (ground_of hs).cells receivers_on order_on

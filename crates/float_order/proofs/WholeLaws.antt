@@ -7,7 +7,7 @@ use native.Mathlib.Omega.{arith}
 use lib.Dec.{T, ltb}
 use lib.IntN.{pos}
 use lib.Pow.{pow_pos}
-use lib.Ieee.{Float, nan, inf, fin, binary32, up, down, sum, add, lt, of_int, of_bits, fits}
+use lib.Ieee.{Float, nan, inf, fin, binary32, up, down, add, lt, of_int, of_bits, fits}
 use lib.Ieee.Exact.{HasValue}
 use lib.Ieee.Fits.{down_pos, of_int-fits}
 use lib.Ieee.Scale.{finite}

@@ -1,5 +1,5 @@
 -- Finite as two comparisons with the infinities; and that every stand-in's result is a binary32 value.
-use Rattle.std.proofs.Common.{◌≡◌, ℕ, ◌-◌, ◌*◌, Bool, true, false, T, sym, refl}
+use Rattle.std.proofs.Common.{◌≡◌, ℕ, ◌*◌, Bool, true, false, T, sym, refl}
 use lib.Ieee.{Float, nan, inf, fin, binary32, up, down, lt, le, fits}
 use lib.Ieee.Fits.{cond-fits, nan-fits, inf-fits, round-fits}
 use lib.Ieee.Exact.{HasValue}
@@ -34,3 +34,5 @@ whole_fits q (fin s m e) = round-fits binary32 s (q (m * up e) (down e)) 1
 
 pub value_finite : (x : Float) (s : Bool) (a c : ℕ) → HasValue x s a c → T (finite x)
 value_finite (fin t m e) s a c v = tt
+value_finite nan s a c v = elim v [ ]
+value_finite (inf _) s a c v = elim v [ ]

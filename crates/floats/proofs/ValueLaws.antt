@@ -12,7 +12,7 @@ use lib.Ieee.Back.{round_whole}
 use lib.Ieee.Nearest.{div_same}
 use lib.Ieee.Bits.{of_bits-to_bits}
 use lib.Ieee.Scale.{round_same}
-use Rattle.floats.specs.Stand.{index_of, IndexInside}
+use Rattle.floats.specs.Stand.{IndexInside}
 
 -- a test that passed, as `good` has it of a parameter
 pub holds : {b : Bool} → b ≡ true → T b
@@ -27,6 +27,8 @@ unfolding to_bits
 bits_of_value f (fin t m e) s a c C v =
     ap (λ (z : Bool). bits_at f z (m * up e * 2 ^ low f / down e)) v.0
     ∙ ap (bits_at f s) (div_same (m * up e * 2 ^ low f) (down e) (a * 2 ^ low f) c (down_pos e) C (mul_right_comm (m * up e) (2 ^ low f) c ∙ ap (λ (z : ℕ). z * 2 ^ low f) v.1 ∙ mul_right_comm a (down e) (2 ^ low f)))
+bits_of_value f nan s a c C v = elim v [ ]
+bits_of_value f (inf _) s a c C v = elim v [ ]
 
 pub value_unique : (f : Format) (x y : Float) (s : Bool) (a c : ℕ) → 0 < c → T (fits f x) → T (fits f y) → HasValue x s a c → HasValue y s a c → x ≡ y
 value_unique f x y s a c C p q v w =
@@ -171,10 +173,18 @@ by_values test scaled s' t' m n e g s t a c b d C D v w =
 pub lt_values : (x y : Float) (s t : Bool) (a c b d : ℕ) → 0 < c → 0 < d → HasValue x s a c → HasValue y t b d → lt x y ≡ below s (a * d) t (b * c)
 unfolding lt
 lt_values (fin s' m e) (fin t' n g) s t a c b d C D v w = by_values below below_scaled s' t' m n e g s t a c b d C D v w
+lt_values nan y s t a c b d C D v w = elim v [ ]
+lt_values (inf _) y s t a c b d C D v w = elim v [ ]
+lt_values (fin s' m e) nan s t a c b d C D v w = elim w [ ]
+lt_values (fin s' m e) (inf _) s t a c b d C D v w = elim w [ ]
 
 pub eq_values : (x y : Float) (s t : Bool) (a c b d : ℕ) → 0 < c → 0 < d → HasValue x s a c → HasValue y t b d → eq x y ≡ level s (a * d) t (b * c)
 unfolding eq
 eq_values (fin s' m e) (fin t' n g) s t a c b d C D v w = by_values level level_scaled s' t' m n e g s t a c b d C D v w
+eq_values nan y s t a c b d C D v w = elim v [ ]
+eq_values (inf _) y s t a c b d C D v w = elim v [ ]
+eq_values (fin s' m e) nan s t a c b d C D v w = elim w [ ]
+eq_values (fin s' m e) (inf _) s t a c b d C D v w = elim w [ ]
 
 pub le_values : (x y : Float) (s t : Bool) (a c b d : ℕ) → 0 < c → 0 < d → HasValue x s a c → HasValue y t b d
     → le x y ≡ (below s (a * d) t (b * c) || level s (a * d) t (b * c))
@@ -213,6 +223,8 @@ unfolding to_unsigned
 cut_value w (fin t m e) a c C v =
     ap (λ (z : Bool). cond z 0 (min (m * up e / down e) (2 ^ w - 1))) v.0
     ∙ ap (λ (z : ℕ). min z (2 ^ w - 1)) (div_same (m * up e) (down e) a c (down_pos e) C v.1)
+cut_value w nan a c C v = elim v [ ]
+cut_value w (inf _) a c C v = elim v [ ]
 
 -- not above -1: nothing is left
 pub cut_none : (w : ℕ) (x : Float) → lt (fin true 1 (pos 0)) x ≡ false → 0 ≡ to_unsigned w x
@@ -281,6 +293,10 @@ add_values f (fin s' m e) (fin t' n g) s a c b d C D v w =
     like : (s : Bool) (p q r : ℕ) → sum f s p s q r ≡ round f s (p + q) r
     like true p q r = unfold sum in refl
     like false p q r = unfold sum in refl
+add_values f nan y s a c b d C D v w = elim v [ ]
+add_values f (inf _) y s a c b d C D v w = elim v [ ]
+add_values f (fin s' m e) nan s a c b d C D v w = elim w [ ]
+add_values f (fin s' m e) (inf _) s a c b d C D v w = elim w [ ]
 
 -- whole numbers up to 2^24 add up as whole numbers do
 pub of_int_add : (a b : ℕ) → a ≤ 2 ^ 24 → b ≤ 2 ^ 24 → add binary32 (of_int binary32 (pos a)) (of_int binary32 (pos b)) ≡ of_int binary32 (pos (a + b))

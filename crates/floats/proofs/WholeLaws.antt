@@ -146,6 +146,8 @@ pub whole_big : (nearest : Bool) (x : Float) → T (above x) → T (fits binary3
 unfolding whole_by
 whole_big nearest (inf s) a t h = refl
 whole_big nearest (fin false m e) a t h = sym (stays false m e (rule_of nearest (m * up e)) t (rule_one nearest (m * up e)) (at_least m e h))
+whole_big nearest nan a t h = elim a [ ]
+whole_big nearest (fin true m e) a t h = elim a [ ]
 
 -- ---- below 2^23 the cut fraction is a whole number that binary32 holds
 -- t is the cut of a / d, which is below 2^23
@@ -170,6 +172,9 @@ trunc_of_cut (fin false m e) a h t r =
     let l : m * up e / down e < 2 ^ 24 = wider (m * up e / down e) (less_cut (m * up e) (down e) (down_pos e) (under m e h)) in
     let is : t ≡ m * up e / down e = r ∙ cut_value 64 (fin false m e) (m * up e) (down e) (down_pos e) (refl, refl) ∙ uncapped (m * up e / down e) l in
     subst (λ (z : ℕ). T (in_float binary32 (pos z)) × (of_int binary32 (pos z) ≡ round binary32 false (m * up e / down e) 1)) (sym is) (as_float (m * up e / down e) (le_of_lt l))
+trunc_of_cut nan a h t r = elim a [ ]
+trunc_of_cut (inf true) a h t r = elim a [ ]
+trunc_of_cut (fin true m e) a h t r = elim a [ ]
 
 -- x + x is exact, and its cut, one more, halved, is the nearest whole number
 doubled : (m : ℕ) (e : ℤ) → Held binary32 m e → m * up e < 2 ^ 23 * down e → HasValue (add binary32 (fin false m e) (fin false m e)) false (2 * (m * up e)) (down e)
@@ -193,6 +198,9 @@ half_of a d D = ap (λ (z : ℕ). z / 2) (sym (add-div_right (2 * a) D)) ∙ div
 pub round_of_cut : (x : Float) → T (above x) → T (fits binary32 x) → le big x ≡ false → (t : ℕ) → t ≡ to_unsigned 64 (add binary32 x x)
     → (t < 2 ^ 24) × T (in_float binary32 (pos ((t + 1) / 2))) × (of_int binary32 (pos ((t + 1) / 2)) ≡ round_of x)
 unfolding whole_by
+round_of_cut nan a f h t r = elim a [ ]
+round_of_cut (inf true) a f h t r = elim a [ ]
+round_of_cut (fin true m e) a f h t r = elim a [ ]
 round_of_cut (inf false) a f h t r = absurd (true≢false (unfold le in h))
 round_of_cut (fin false m e) a f h t r =
     let n = 2 * (m * up e) / down e in

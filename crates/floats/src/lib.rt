@@ -1,5 +1,7 @@
 // The stand-ins of document 01 for Rust's float methods, for every f32, each equal to its definition in
 // specs/Stand.antt; the bits of a float; and `height_key`, by which cells leave the flood's queue (specs/Key.antt).
+#![tactic(auto)]
+
 ghost use Rattle.std.specs.Prelude.{◌≡◌, ◌^◌, ◌≤◌, max as greatest, T, from_bits, to_bits};
 ghost use Rattle.std.specs.Float.{binary32};
 ghost use Rattle.std.specs.Float.Ieee.{div, to_unsigned};

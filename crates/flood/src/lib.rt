@@ -1,5 +1,7 @@
 // The flood of flow.rs on lent slices: base cells are pushed, then the least waiting cell leaves and pushes its
 // neighbours, until all have left. The result is that of the flood that crates/drainage defines.
+#![tactic(auto)]
+
 ghost use Rattle.std.specs.Prelude.{◌*◌, ◌<◌, ◌≡◌, false, cond, length, ltb};
 ghost use Rattle.grid.specs.Sides.{InRange};
 ghost use Rattle.drainage.specs.Ground.{grid_ground, no_base};

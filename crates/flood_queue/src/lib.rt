@@ -1,6 +1,8 @@
 // The queue of the flood: a scan along the cells sorted by their own heights, from which the waiting cells that were
 // not raised leave, and a heap of the waiting cells that the scan has passed. Where the list is not sorted the scan
 // begins at its end, and every waiting cell is in the heap.
+#![tactic(auto)]
+
 ghost use Rattle.std.specs.Prelude.{ℕ, ◌+◌, ◌^◌, ◌≤◌, ◌<◌, ◌≡◌, ◌&&◌, length, get_or, ltb};
 ghost use Rattle.flood_heap.specs.Queue.{queue_place, within, Heap};
 ghost use Rattle.flood_sort.specs.Sorted.{is_sorted};
@@ -10,7 +12,7 @@ use flood_heap::{place, pop, push};
 
 // The state of a scan: it stands before entry `head` of the sorted list, and `limit` is the place of that entry's cell.
 // The heap holds `len` cells. `cell` is the cell that leaves, or the number of cells if none does.
-#[derive(Drop)]
+#[derive(Clone, Copy)]
 pub struct Scan {
     pub head: usize,
     pub limit: u64,

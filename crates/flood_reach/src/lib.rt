@@ -1,5 +1,7 @@
 // A cell that leaves the flood reaches its neighbours: those not pushed yet get their spill heights and their
 // discoverer, and wait from then on.
+#![tactic(auto)]
+
 ghost use Rattle.std.specs.Prelude.{suc, ◌*◌, ◌≤◌, ◌<◌, ◌≡◌, cond, eqb, length, get_or, take};
 ghost use Rattle.std.specs.Float.{nan};
 ghost use Rattle.loops.specs.Loops.{tabulate};
@@ -35,8 +37,8 @@ fn reach(
     requires c_value { get_or status.old c 0 ≡ 2 }
     requires level { Level h.now limit (get_or spill.old c nan) }
     ensures { ReachedOne h.now limit c m
-        (record { status = status.entry.now; spill = spill.old; recv = recv.old }) result
-        (record { status = status.exit.now; spill = spill.new; recv = recv.new })
+        (record { status = status.old; spill = spill.old; recv = recv.old }) result
+        (record { status = status.new; spill = spill.new; recv = recv.new })
         queue.new }
 {
     if status.len() <= m {
@@ -120,8 +122,8 @@ fn reach_found(
     requires c_value { get_or status.old c 0 ≡ 2 }
     requires level { Level h.now limit (get_or spill.old c nan) }
     ensures { ReachedBy h.now limit c (take some found.now)
-        (record { status = status.entry.now; spill = spill.old; recv = recv.old }) result
-        (record { status = status.exit.now; spill = spill.new; recv = recv.new })
+        (record { status = status.old; spill = spill.old; recv = recv.old }) result
+        (record { status = status.new; spill = spill.new; recv = recv.new })
         queue.new }
 {
     let mut waiting = len;
@@ -153,8 +155,8 @@ pub fn reach_all(
     requires c_value { get_or status.old c 0 ≡ 2 }
     requires level { Level h.now limit (get_or spill.old c nan) }
     ensures { ReachedAll g.w g.h h.now limit c
-        (record { status = status.entry.now; spill = spill.old; recv = recv.old }) result
-        (record { status = status.exit.now; spill = spill.new; recv = recv.new })
+        (record { status = status.old; spill = spill.old; recv = recv.old }) result
+        (record { status = status.new; spill = spill.new; recv = recv.new })
         queue.new }
 {
     let mut found: [usize; 8] = [0; 8];

@@ -1,5 +1,7 @@
 // The drainage network of a height grid, after flow.rs: flood, receivers and areas on lent slices, in one call that
 // refuses what document 01 refuses.
+#![tactic(auto)]
+
 ghost use Rattle.std.specs.Prelude.{◌*◌, ◌≡◌, false, length};
 ghost use Rattle.answers.specs.Outcome.{answer_of};
 ghost use Rattle.drainage.specs.Ground.{grid_ground, no_base};
@@ -15,7 +17,7 @@ use grid::{Sides, bad_sides, first_not_finite};
 use receiver_rows::steepest_receivers;
 
 // The lengths of the slices lent to `route`.
-#[derive(Drop)]
+#[derive(Clone, Copy)]
 pub struct Lent {
     pub heights: usize,
     pub order: usize,
@@ -114,7 +116,7 @@ pub fn route(
 ) -> Answer
     ensures { Routed size.w size.h h.now water_level
         (record {
-          order = order.entry.now;
+          order = order.old;
           recv = recv.old;
           spill = spill.old;
           area = area.old;
@@ -122,7 +124,7 @@ pub fn route(
           status = status.old;
         }) result
         (record {
-          order = order.exit.now;
+          order = order.new;
           recv = recv.new;
           spill = spill.new;
           area = area.new;

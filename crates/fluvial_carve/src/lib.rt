@@ -1,4 +1,6 @@
 // A routing and the incision along the network that it found.
+#![tactic(auto)]
+
 ghost use Rattle.std.specs.Prelude.{◌≡◌, false, ◌*◌};
 ghost use Rattle.drainage.specs.Ground.{grid_ground, no_base};
 ghost use Rattle.flood.specs.Slices.{AcceptedGrid};
@@ -53,7 +55,7 @@ pub fn carve(
 ) -> Answer
     ensures { CarveMade size.w size.h hmap.now params
         (record {
-          order = order.entry.now;
+          order = order.old;
           recv = recv.old;
           spill = out.old;
           area = area.old;
@@ -61,7 +63,7 @@ pub fn carve(
           status = status.old;
         }) result
         (record {
-          order = order.exit.now;
+          order = order.new;
           recv = recv.new;
           spill = out.new;
           area = area.new;

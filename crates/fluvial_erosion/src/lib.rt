@@ -1,5 +1,7 @@
 // The source's fluvial_erosion.rs, one incision: every cell is lowered toward the cell it drains into, in proportion to
 // the square root of its drainage area, in the order of a work list.
+#![tactic(auto)]
+
 ghost use Rattle.std.specs.Prelude.{◌≡◌, Bool, ℕ, ◌*◌, ◌≤◌, ◌<◌, length};
 ghost use Rattle.std.specs.Float.{nan};
 ghost use Rattle.grid.specs.Sides.{InRange};
@@ -30,7 +32,7 @@ use receiver_steps::{step_distances, step_offsets};
 const LISTED: usize = 4194304;
 
 // The settings of an incision on its grid.
-#[derive(Drop)]
+#[derive(Clone, Copy)]
 pub struct FluvialParams {
     pub k: f32,
     pub uplift: f32,
@@ -129,7 +131,7 @@ fn incise_words(
     requires lengths { Lengths (size.w * size.h) (length hmap.now) (length out.old) (length words.old) }
     requires le_w { (3 ≤ size.w) × Worded size.w recv.now words.old }
     ensures { Incised size.w size.h hmap.now params ds (areas_in words.old)
-        recv.now order.now (record { out = out.exit.now; area = words.new }) }
+        recv.now order.now (record { out = out.new; area = words.new }) }
 {
     let by = incision_of(size, params, ds);
     if LISTED < words.len() {
@@ -158,7 +160,7 @@ pub fn incise_along(
     requires lengths { Lengths (size.w * size.h) (length hmap.now) (length out.old) (length area.old) }
     requires whole_areas { WholeAreas area.old }
     ensures { Incised size.w size.h hmap.now params ds area.old recv.now
-        order.now (record { out = out.exit.now; area = area.new }) }
+        order.now (record { out = out.new; area = area.new }) }
 {
     if size.w < 3 {
         incise_narrow(size, hmap, params, ds, area, recv, order, out);
@@ -182,7 +184,7 @@ pub fn incise_into(
     requires drains { Drains size.w size.h recv.now order.now }
     requires lengths { Lengths (size.w * size.h) (length hmap.now) (length out.old) (length area.old) }
     ensures { Carved size.w size.h hmap.now params ds recv.now order.now
-        (record { out = out.exit.now; area = area.new }) }
+        (record { out = out.new; area = area.new }) }
 {
     if size.w < 3 {
         areas_along(size.w, recv, order, area);
@@ -283,8 +285,8 @@ pub fn incise(
     area: &mut [f32],
 ) -> Answer
     ensures { InciseMade size.w size.h hmap.now params recv.now order.now
-        (record { out = out.entry.now; area = area.old }) result
-        (record { out = out.exit.now; area = area.new }) }
+        (record { out = out.old; area = area.old }) result
+        (record { out = out.new; area = area.new }) }
 {
     let answer = refusal(size, hmap, params, recv, order, out.len(), area.len());
     let Answer::Done = answer else {

@@ -1,6 +1,8 @@
 // A fluvial run on the grid it works on: the map, or a reduced grid whose change is added back.
+#![tactic(auto)]
+
 ghost use Rattle.std.specs.Prelude.{◌≡◌};
-ghost use Rattle.run_parts.specs.Reached.{Worked, whole_run_lem};
+ghost use Rattle.run_parts.specs.Reached.{Worked, whole_run};
 ghost use Rattle.fluvial_loop.specs.Loops.{course_by};
 ghost use Rattle.fluvial_grid.specs.Grids.{scratch_of, Erodes};
 
@@ -11,7 +13,7 @@ use grid::Sides;
 use run_parts::{Reached, add_back, begun, ended, on_map, reduce};
 
 // The lengths of the scratch slices.
-#[derive(Drop)]
+#[derive(Clone, Copy)]
 pub struct Scratch {
     pub small: usize,
     pub eroded: usize,

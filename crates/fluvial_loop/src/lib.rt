@@ -1,4 +1,6 @@
 // The loops of gen_fluvial_erosion on its working grid: iterations, each an opening and then its talus passes.
+#![tactic(auto)]
+
 ghost use Rattle.std.specs.Prelude.{◌≡◌, ◌*◌, length};
 ghost use Rattle.grid.specs.Base.{all_open};
 ghost use Rattle.flood.specs.Slices.{AcceptedGrid};
@@ -17,7 +19,7 @@ use talus::thresholds;
 use thermal_erosion::ThermalParams;
 
 // What a fluvial run does on its working grid.
-#[derive(Drop)]
+#[derive(Clone, Copy)]
 pub struct FluvialPlan {
     pub iterations: usize,
     pub passes: usize,

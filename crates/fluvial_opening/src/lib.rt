@@ -1,5 +1,7 @@
 // How an iteration of gen_fluvial_erosion opens: the question of the stop marks, the routing of the heights as they
 // then stand, and one incision along the flood's own order.
+#![tactic(auto)]
+
 ghost use Rattle.std.specs.Prelude.{◌≡◌, false, ◌*◌};
 ghost use Rattle.drainage.specs.Ground.{grid_ground, no_base};
 ghost use Rattle.flood.specs.Slices.{AcceptedGrid};

@@ -1,4 +1,6 @@
 // The source's gen_fluvial_erosion: a whole fluvial run, with what it refuses.
+#![tactic(auto)]
+
 ghost use Rattle.std.specs.Prelude.{◌≡◌, ◌≤◌};
 ghost use Rattle.run_machine.specs.Plan.{fluvial_plan};
 ghost use Rattle.fluvial_loop.specs.Loops.{plan_of};
@@ -57,7 +59,7 @@ pub fn gen_fluvial_erosion(
 ) -> RunAnswer
     ensures { FluvialRun size.w size.h conf stop hmap.old
         (record {
-          small = small.entry.now;
+          small = small.old;
           eroded = eroded.old;
           copy = copy.old;
           area = area.old;
@@ -67,7 +69,7 @@ pub fn gen_fluvial_erosion(
           status = status.old;
         }) result hmap.new
         (record {
-          small = small.exit.now;
+          small = small.new;
           eroded = eroded.new;
           copy = copy.new;
           area = area.new;

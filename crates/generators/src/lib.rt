@@ -1,5 +1,7 @@
 // The parts of the source's mod.rs that the erosion uses: the progress record with its stop marks, `get_min_max` and
 // `normalize`.
+#![tactic(auto)]
+
 ghost use Rattle.std.specs.Prelude.{◌-◌, ◌^◌, ◌<◌, ◌≡◌, not, map};
 ghost use Rattle.grid.specs.Heights.{all_finite};
 ghost use Rattle.generators.specs.Marks.{bad_report, report_of, ReportMade};
@@ -11,7 +13,7 @@ use floats::is_finite;
 use grid::{Sides, first_not_finite};
 
 // Document 01's record of the stop marks: the last p asked at, the questions asked, and whether one got yes.
-#[derive(Drop)]
+#[derive(Clone, Copy)]
 pub struct Progress {
     pub last: f32,
     pub asked: u32,
@@ -19,7 +21,7 @@ pub struct Progress {
 }
 
 // The answer to a report: go on, stop, or the refusal of a value outside its range.
-#[derive(Drop)]
+#[derive(Clone, Copy)]
 pub enum Go {
     On,
     Stop,
@@ -27,7 +29,7 @@ pub enum Go {
 }
 
 // What a report returns: its answer, and the record after it.
-#[derive(Drop)]
+#[derive(Clone, Copy)]
 pub struct Reported {
     pub go: Go,
     pub progress: Progress,
@@ -105,14 +107,14 @@ impl Progress {
 }
 
 // The least and the greatest value of a map.
-#[derive(Drop)]
+#[derive(Clone, Copy)]
 pub struct MinMax {
     pub min: f32,
     pub max: f32,
 }
 
 // The answer of `get_min_max`: the least and the greatest value, or the refusal.
-#[derive(Drop)]
+#[derive(Clone, Copy)]
 pub enum Extent {
     Of(MinMax),
     Refused(Refusal),

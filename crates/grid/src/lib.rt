@@ -1,5 +1,7 @@
 // The grid that every call works on: sides, cells, the eight neighbours, base level, the first height that is not
 // finite, and a copy of heights.
+#![tactic(auto)]
+
 ghost use Rattle.std.specs.Prelude.{◌≡◌, ◌&&◌, ◌||◌, ◌-◌, ◌*◌, ◌<◌, max, min, eqb, length};
 ghost use Rattle.grid.specs.Sides.{bad_side, bad_sides};
 ghost use Rattle.grid.specs.Directions.{AlongSide, Place, Step, shifted_of, stepped_of};
@@ -9,14 +11,14 @@ ghost use Rattle.grid.specs.Heights.{first_not_finite, all_finite};
 use floats::is_finite;
 
 // A grid of w columns and h rows.
-#[derive(Drop)]
+#[derive(Clone, Copy)]
 pub struct Sides {
     pub w: usize,
     pub h: usize,
 }
 
 // Which sides of a map are open: the cells on an open side are base level.
-#[derive(Drop)]
+#[derive(Clone, Copy)]
 pub struct OpenSides {
     pub north: bool,
     pub east: bool,

@@ -1,5 +1,7 @@
 // The inner cells of a map: those on none of its sides. All eight neighbours of an inner cell are cells of the map, so
 // a step to one of them needs no test.
+#![tactic(auto)]
+
 ghost use Rattle.std.specs.Prelude.{◌≡◌, not, ◌<◌};
 ghost use Rattle.grid.specs.Base.{border_at};
 ghost use Rattle.grid.specs.Directions.{Step, stepped_at};

@@ -1,18 +1,20 @@
 // The spacings of columns and rows, and the distances to neighbours that they give.
+#![tactic(auto)]
+
 ghost use Rattle.std.specs.Prelude.{◌≡◌};
 ghost use Rattle.grid_spacing.specs.Distances.{distances_of, square_distances, nine_of};
 
 use square_root::root_of;
 
 // The spacing of columns and that of rows.
-#[derive(Drop)]
+#[derive(Clone, Copy)]
 pub struct Spacing {
     pub column: f32,
     pub row: f32,
 }
 
 // The distances to neighbours: to W and E, to N and S, and to the four corners.
-#[derive(Drop)]
+#[derive(Clone, Copy)]
 pub struct Distances {
     pub column: f32,
     pub row: f32,

@@ -1,9 +1,12 @@
-// Routing and single passes by the C convention, for the oracle's bench and comparison: a slice passes as pointer and
-// length, an answer is one u64 (specs/Word.antt of harness_calls). No part of the public calls.
+// Routing and single passes on slices and numbers alone, for replay and, exported by harness_c, for the oracle's bench
+// and comparison: an answer is one u64 (specs/Word.antt of harness_calls). No part of the public calls.
+#![tactic(auto)]
+
 ghost use Rattle.flow.specs.Route.{Routed};
 ghost use Rattle.fluvial_erosion.specs.Incise.{InciseMade};
 ghost use Rattle.fluvial_carve.specs.Carve.{CarveMade};
 ghost use Rattle.thermal_erosion.specs.SlidePass.{SlideMade};
+ghost use Rattle.thermal_erosion.specs.OverPass.{SlideOver};
 ghost use Rattle.harness_calls.specs.Word.{Exported};
 
 use fluvial_erosion::FluvialParams;
@@ -13,8 +16,7 @@ use harness_calls::word;
 use thermal_erosion::ThermalParams;
 
 // `route`: the network of a map.
-#[unsafe(no_mangle)]
-pub extern "C" fn harness_route(
+pub fn harness_route(
     w: usize,
     h: usize,
     hmap: &[f32],
@@ -28,7 +30,7 @@ pub extern "C" fn harness_route(
 ) -> u64
     ensures { Exported (λ a. Routed w h hmap.now water_level
         (record {
-          order = order.entry.now;
+          order = order.old;
           recv = recv.old;
           spill = spill.old;
           area = area.old;
@@ -36,7 +38,7 @@ pub extern "C" fn harness_route(
           status = status.old;
         }) a
         (record {
-          order = order.exit.now;
+          order = order.new;
           recv = recv.new;
           spill = spill.new;
           area = area.new;
@@ -59,8 +61,7 @@ pub extern "C" fn harness_route(
 }
 
 // `incise`: an incision along lent receivers and a lent list.
-#[unsafe(no_mangle)]
-pub extern "C" fn harness_incise(
+pub fn harness_incise(
     w: usize,
     h: usize,
     hmap: &[f32],
@@ -74,8 +75,8 @@ pub extern "C" fn harness_incise(
 ) -> u64
     ensures { Exported (λ a. InciseMade w h hmap.now
         (record { k = k; uplift = uplift; water_level = water_level }) recv.now order.now
-        (record { out = out.entry.now; area = area.old }) a
-        (record { out = out.exit.now; area = area.new })) result }
+        (record { out = out.old; area = area.old }) a
+        (record { out = out.new; area = area.new })) result }
 {
     let size = Sides { w, h };
     let params = FluvialParams {
@@ -89,8 +90,7 @@ pub extern "C" fn harness_incise(
 // Routes a map and incises it along the network found: the heights incised in `out`. It refuses what `route` refuses;
 // k, uplift and a result that is not finite are not tested. In the bench its time less that of `route` is the time of
 // the incision alone.
-#[unsafe(no_mangle)]
-pub extern "C" fn harness_carve(
+pub fn harness_carve(
     w: usize,
     h: usize,
     hmap: &[f32],
@@ -107,7 +107,7 @@ pub extern "C" fn harness_carve(
     ensures { Exported (λ a. CarveMade w h hmap.now
         (record { k = k; uplift = uplift; water_level = water_level })
         (record {
-          order = order.entry.now;
+          order = order.old;
           recv = recv.old;
           spill = out.old;
           area = area.old;
@@ -115,7 +115,7 @@ pub extern "C" fn harness_carve(
           status = status.old;
         }) a
         (record {
-          order = order.exit.now;
+          order = order.new;
           recv = recv.new;
           spill = out.new;
           area = area.new;
@@ -133,8 +133,7 @@ pub extern "C" fn harness_carve(
 }
 
 // `slide_pass`: a talus pass; the record is read and written in place.
-#[unsafe(no_mangle)]
-pub extern "C" fn harness_slide_pass(
+pub fn harness_slide_pass(
     w: usize,
     h: usize,
     hmap: &[f32],
@@ -154,13 +153,13 @@ pub extern "C" fn harness_slide_pass(
         (record {
           from = from;
           to = to;
-          marks = record { last = last.entry.now; asked = asked.old; stopped = stopped.old };
+          marks = record { last = last.old; asked = asked.old; stopped = stopped.old };
           stop = stop;
         })
         out.old
         (record {
           answer = a;
-          progress = record { last = last.exit.now; asked = asked.new; stopped = stopped.new };
+          progress = record { last = last.new; asked = asked.new; stopped = stopped.new };
         })
         out.new) result }
 {
@@ -176,6 +175,63 @@ pub extern "C" fn harness_slide_pass(
         stopped: *stopped,
     };
     let slid = thermal_erosion::slide_pass(size, hmap, out, params, from, to, before, stop);
+    let after = slid.progress;
+    *last = after.last;
+    *asked = after.asked;
+    *stopped = after.stopped;
+    let answer = slid.answer;
+    word(answer)
+}
+
+// `slide_pass_over`: a talus pass over eight thresholds; the record is read and written in place.
+pub fn harness_slide_pass_over(
+    w: usize,
+    h: usize,
+    hmap: &[f32],
+    out: &mut [f32],
+    thresholds: &[f32; 8],
+    strength: f32,
+    water_level: f32,
+    from: f32,
+    to: f32,
+    last: &mut f32,
+    asked: &mut u32,
+    stopped: &mut bool,
+    stop: u32,
+) -> u64
+    ensures { Exported (λ a. SlideOver w h hmap.now thresholds.now strength water_level
+        (record {
+          from = from;
+          to = to;
+          marks = record { last = last.old; asked = asked.old; stopped = stopped.old };
+          stop = stop;
+        })
+        out.old
+        (record {
+          answer = a;
+          progress = record { last = last.new; asked = asked.new; stopped = stopped.new };
+        })
+        out.new) result }
+{
+    let size = Sides { w, h };
+    let before = Progress {
+        last: *last,
+        asked: *asked,
+        stopped: *stopped,
+    };
+    let eight = *thresholds;
+    let slid = thermal_erosion::slide_pass_over(
+        size,
+        hmap,
+        out,
+        eight,
+        strength,
+        water_level,
+        from,
+        to,
+        before,
+        stop,
+    );
     let after = slid.progress;
     *last = after.last;
     *asked = after.asked;

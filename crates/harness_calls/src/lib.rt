@@ -1,5 +1,7 @@
-// The direct calls on maps, and reports, by the C convention, for the oracle's comparison with the source: a slice
-// passes as pointer and length, an answer is one u64 (specs/Word.antt). No part of the public calls.
+// The direct calls on maps, and reports, on slices and numbers alone, for replay and, exported by harness_calls_c, for
+// the oracle's comparison with the source: an answer is one u64 (specs/Word.antt). No part of the public calls.
+#![tactic(auto)]
+
 ghost use Rattle.std.specs.Prelude.{◌+◌, ◌*◌, ◌%◌, ◌^◌, ◌≡◌, cond};
 ghost use Rattle.std.specs.Float.{binary32};
 ghost use Rattle.std.specs.Float.Ieee.{to_bits};
@@ -69,32 +71,28 @@ fn end_word(v: &[f32], greatest: bool) -> u64
 }
 
 // `get_min_max`: the bits of min.
-#[unsafe(no_mangle)]
-pub extern "C" fn harness_least(v: &[f32]) -> u64
+pub fn harness_least(v: &[f32]) -> u64
     ensures { result ≡ export_word least_bits (get_min_max_answer v.now) }
 {
     end_word(v, false)
 }
 
 // `get_min_max`: the bits of max.
-#[unsafe(no_mangle)]
-pub extern "C" fn harness_greatest(v: &[f32]) -> u64
+pub fn harness_greatest(v: &[f32]) -> u64
     ensures { result ≡ export_word greatest_bits (get_min_max_answer v.now) }
 {
     end_word(v, true)
 }
 
 // `normalize`.
-#[unsafe(no_mangle)]
-pub extern "C" fn harness_normalize(v: &mut [f32], lo: f32, hi: f32) -> u64
+pub fn harness_normalize(v: &mut [f32], lo: f32, hi: f32) -> u64
     ensures { Exported (λ a. NormalizeMade v.old lo hi a v.new) result }
 {
     word(generators::normalize(v, lo, hi))
 }
 
 // `downsample`.
-#[unsafe(no_mangle)]
-pub extern "C" fn harness_downsample(
+pub fn harness_downsample(
     src: &[f32],
     w: usize,
     h: usize,
@@ -111,8 +109,7 @@ pub extern "C" fn harness_downsample(
 }
 
 // `add_upsampled`.
-#[unsafe(no_mangle)]
-pub extern "C" fn harness_add_upsampled(
+pub fn harness_add_upsampled(
     map: &mut [f32],
     w: usize,
     h: usize,
@@ -128,8 +125,7 @@ pub extern "C" fn harness_add_upsampled(
 }
 
 // `bilinear`: the bits of the sample.
-#[unsafe(no_mangle)]
-pub extern "C" fn harness_bilinear(v: &[f32], x: f32, y: f32, w: usize, h: usize) -> u64
+pub fn harness_bilinear(v: &[f32], x: f32, y: f32, w: usize, h: usize) -> u64
     ensures { result ≡ export_word (to_bits binary32) (bilinear_answer v.now x y w h) }
 {
     value_word(bilinear::bilinear(v, x, y, Sides { w, h }))
@@ -147,17 +143,10 @@ fn go_word(go: Go) -> u64
 }
 
 // `report`; the record is read and written in place.
-#[unsafe(no_mangle)]
-pub extern "C" fn harness_report(
-    last: &mut f32,
-    asked: &mut u32,
-    stopped: &mut bool,
-    p: f32,
-    stop: u32,
-) -> u64
+pub fn harness_report(last: &mut f32, asked: &mut u32, stopped: &mut bool, p: f32, stop: u32) -> u64
     ensures { Reporting
-        (record { last = last.entry.now; asked = asked.old; stopped = stopped.old }) p stop
-        (record { last = last.exit.now; asked = asked.new; stopped = stopped.new }) result }
+        (record { last = last.old; asked = asked.old; stopped = stopped.old }) p stop
+        (record { last = last.new; asked = asked.new; stopped = stopped.new }) result }
 {
     let before = Progress {
         last: *last,

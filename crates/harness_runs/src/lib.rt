@@ -1,5 +1,7 @@
 // Whole runs by the C convention, for the oracle's bench and comparison: a slice passes as pointer and length, an
 // answer is one u64 (specs/Exported.antt). No part of the public calls.
+#![tactic(auto)]
+
 ghost use Rattle.std.specs.Prelude.{◌≡◌};
 ghost use Rattle.thermal_run.specs.ThermalRun.{ThermalRun};
 ghost use Rattle.fluvial_run.specs.FluvialRun.{FluvialRun};
@@ -43,9 +45,9 @@ pub extern "C" fn harness_thermal_run(
       iterations = iterations;
       work_res = work_res;
     }) stop hmap.old
-        (record { small = small.entry.now; eroded = eroded.old; copy = copy.old }) a
+        (record { small = small.old; eroded = eroded.old; copy = copy.old }) a
         hmap.new
-        (record { small = small.exit.now; eroded = eroded.new; copy = copy.new })) result }
+        (record { small = small.new; eroded = eroded.new; copy = copy.new })) result }
 {
     let size = Sides { w, h };
     let conf = ThermalSettings {
@@ -89,7 +91,7 @@ pub extern "C" fn harness_fluvial_run(
       work_res = work_res;
     }) stop hmap.old
         (record {
-          small = small.entry.now;
+          small = small.old;
           eroded = eroded.old;
           copy = copy.old;
           area = area.old;
@@ -99,7 +101,7 @@ pub extern "C" fn harness_fluvial_run(
           status = status.old;
         }) a hmap.new
         (record {
-          small = small.exit.now;
+          small = small.new;
           eroded = eroded.new;
           copy = copy.new;
           area = area.new;

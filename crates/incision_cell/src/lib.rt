@@ -1,5 +1,7 @@
 // The incision of one cell: lowered toward the height that it drains to, by its area and its receiver, or by the word
 // that holds both.
+#![tactic(auto)]
+
 ghost use Rattle.std.specs.Prelude.{◌≡◌, ◌<◌, length, get_or, set};
 ghost use Rattle.std.specs.Float.{nan};
 ghost use Rattle.areas.specs.Words.{receiver_in, Passing};
@@ -11,7 +13,7 @@ use incision_rates::{RATES, rate, rate_at};
 use receiver_steps::{receiver_distance, stepped_to};
 
 // An incision on its grid: the columns, the number of cells as a float, the settings, and the distances to neighbours.
-#[derive(Drop)]
+#[derive(Clone, Copy)]
 pub struct Incision {
     pub width: usize,
     pub cells: f32,

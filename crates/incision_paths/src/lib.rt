@@ -2,6 +2,8 @@
 // is done, that is has its new height, or there is none; every cell passed is incised on the way back up. The cells of
 // a way down lie close together in memory, unlike those of a list in order of height. A cell's word holds its area, its
 // receiver and whether it is done, so that the walk down reads one slice and no height.
+#![tactic(auto)]
+
 ghost use Rattle.std.specs.Prelude.{◌≡◌, false, ◌+◌, ◌<◌, length, get_or, set};
 ghost use Rattle.std.specs.Float.{nan};
 ghost use Rattle.receiver_steps.specs.Step.{step_offsets};
@@ -16,7 +18,7 @@ use incision_rates::{RATES, table};
 use receiver_steps::{step_distances, step_offsets, stepped_to};
 
 // A cell on a walk, and how many steps the walk has gone down to it.
-#[derive(Drop)]
+#[derive(Clone, Copy)]
 struct Stop {
     cell: usize,
     steps: usize,

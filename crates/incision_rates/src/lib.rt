@@ -1,5 +1,7 @@
 // The rate of an incision: its coefficient before the division by the distance. Areas are whole numbers and most of
 // them are small, so the rates of the small ones are worked out once for each incision and read from a table.
+#![tactic(auto)]
+
 ghost use Rattle.std.specs.Prelude.{◌≡◌, ◌/◌, ◌^◌, min, ◌≤◌};
 ghost use Rattle.floats.specs.Stand.{whole};
 ghost use Rattle.incision_rates.specs.Rate.{rate_of, rates_of};

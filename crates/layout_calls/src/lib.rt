@@ -1,6 +1,8 @@
-// What the layout engine calls by the C convention: the square root, the working sides and the stream check. A slice
-// passes as pointer and length. Each gives one u64, the refusal number × 2^32 plus, where that number is 0, its value
+// What the layout engine calls, exported by layout_calls_c: the square root, the working sides and the stream check.
+// Each gives one u64, the refusal number × 2^32 plus, where that number is 0, its value
 // (specs/Word.antt).
+#![tactic(auto)]
+
 ghost use Rattle.std.specs.Prelude.{◌≤◌, ◌≡◌};
 ghost use Rattle.answers.specs.Outcome.{number_of};
 ghost use Rattle.layout_calls.specs.Word.{packed, sides_value, root_word, sides_word, check_word};
@@ -34,8 +36,7 @@ fn sides_value(size: Sides) -> u32
 }
 
 // The square root of x: its bits.
-#[unsafe(no_mangle)]
-pub extern "C" fn milofavurn_square_root(x: f32) -> u64
+pub fn milofavurn_square_root(x: f32) -> u64
     ensures { result ≡ root_word x }
 {
     let answer = square_root::root(x);
@@ -47,8 +48,7 @@ pub extern "C" fn milofavurn_square_root(x: f32) -> u64
 
 // The working sides of a w × h map, reduced so that the longest is at most max_res, but each at least 1: width × 65,536
 // + height.
-#[unsafe(no_mangle)]
-pub extern "C" fn milofavurn_working_sides(w: usize, h: usize, max_res: u32) -> u64
+pub fn milofavurn_working_sides(w: usize, h: usize, max_res: u32) -> u64
     ensures { result ≡ sides_word w h max_res }
 {
     let answer = resample::work_size(Sides { w, h }, max_res);
@@ -59,8 +59,7 @@ pub extern "C" fn milofavurn_working_sides(w: usize, h: usize, max_res: u32) -> 
 }
 
 // The stream check: 0 for a stream that `relief` would take if it took any number of cells.
-#[unsafe(no_mangle)]
-pub extern "C" fn milofavurn_stream_check(bytes: &[u8]) -> u64
+pub fn milofavurn_stream_check(bytes: &[u8]) -> u64
     ensures { result ≡ check_word bytes.now }
 {
     let answer = stream::read_stream(false, bytes);

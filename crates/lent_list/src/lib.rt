@@ -1,4 +1,6 @@
 // Refusal 7: the check of a lent list. Nothing lent is written before it is decided.
+#![tactic(auto)]
+
 ghost use Rattle.std.specs.Prelude.{◌≡◌, true, false, ◌+◌, ◌*◌, ◌^◌, ◌≤◌, length, get_or, ltb};
 ghost use Rattle.loops.specs.Firsts.{First};
 ghost use Rattle.lent_list_marks.specs.Seen.{span, is_marked, Blank};
@@ -30,7 +32,8 @@ fn first_in_block(
     k: usize,
     whole: bool,
 ) -> usize
-    requires span_in_bounds { (span ≤ length seen.old * 64) × (whole ≡ true → ReceiversIn lo (length recv.now) recv.now) }
+    requires span_in_bounds { (span ≤ length seen.old * 64) ×
+        (whole ≡ true → ReceiversIn lo (length recv.now) recv.now) }
     requires to_bound { (to ≤ from + 1024) × (to ≤ length list.now) × (whole ≡ false → k ≤ length places.now) }
     requires cells_before { CellsBefore (length recv.now) list.now to }
     requires picked { Picked list.now lo from to (taken_at whole places.now from) k }

@@ -1,6 +1,8 @@
 // Blocks of a list, 1,024 positions at most: where a block ends, which of its positions have cells of a segment, and
 // the receivers of its cells. Each of these is read for the whole block before a mark is looked up, so that many memory
 // reads run at the same time.
+#![tactic(auto)]
+
 ghost use Rattle.std.specs.Prelude.{◌≡◌, ◌+◌, ◌^◌, ◌<◌, ◌≤◌, min, false, ◌++◌, length, drop, if◌then◌else◌};
 ghost use Rattle.loops.specs.Loops.{tabulate};
 ghost use Rattle.lent_list_marks.specs.Seen.{span, in_segment};

@@ -1,5 +1,7 @@
 // Marks of the cells of a segment that stood in a list already, 64 to a word: setting one, reading one, and the test by
 // the marks whether the entry of a cell with its receiver is bad.
+#![tactic(auto)]
+
 ghost use Rattle.std.specs.Prelude.{◌≡◌, true, ◌||◌, ◌-◌, ◌*◌, ◌≤◌, ◌<◌, length};
 ghost use Rattle.lent_list_marks.specs.Seen.{span, is_marked, marking, in_segment, missing_in};
 

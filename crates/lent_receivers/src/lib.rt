@@ -1,4 +1,6 @@
 // Refusal 6: the check of lent receivers. Nothing lent is written before it is decided.
+#![tactic(auto)]
+
 ghost use Rattle.std.specs.Prelude.{◌≡◌, ◌+◌, ◌-◌, ◌*◌, ◌<◌, ◌≤◌, min, not, length};
 ghost use Rattle.loops.specs.Firsts.{First};
 ghost use Rattle.grid.specs.Sides.{InRange, cell_of};

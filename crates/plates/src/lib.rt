@@ -1,1 +1,3 @@
-// The plates of document 01, 'Plates on the wall', as one list and one theorem. No function stands here.
+// The plates of document 01, 'Plates on the wall', as one list and one theorem, and worked examples of document 02. No
+// function stands here.
+#![tactic(auto)]

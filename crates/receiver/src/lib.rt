@@ -1,5 +1,7 @@
 // The receiver of one cell, after flow.rs: its discoverer, or the neighbour of a strictly lower spill height down to
 // which the slope is the greatest.
+#![tactic(auto)]
+
 ghost use Rattle.std.specs.Prelude.{◌*◌, ◌^◌, ◌≤◌, ◌<◌, ◌≡◌, cond, length};
 ghost use Rattle.grid.specs.Sides.{cell_of};
 ghost use Rattle.grid.specs.Directions.{Place, Adjacent};
@@ -11,7 +13,7 @@ use grid_spacing::Distances;
 use receiver_steps::receiver_distance;
 
 // The receiver of a cell so far, by its number or its offset, and the slope down to it.
-#[derive(Drop)]
+#[derive(Clone, Copy)]
 pub struct Best {
     pub cell: u32,
     pub slope: f32,

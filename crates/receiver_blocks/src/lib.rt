@@ -1,5 +1,7 @@
 // Replaces the discoverers of a block of inner cells by their receivers, in three loops: the offset of each discoverer
 // and the slope down to it; the offset of each steepest neighbour, with no test and no branch; the stores.
+#![tactic(auto)]
+
 ghost use Rattle.std.specs.Prelude.{◌+◌, ◌-◌, ◌*◌, ◌^◌, ◌≤◌, ◌<◌, ◌≡◌, cond, ◌++◌, eqb, length, drop};
 ghost use Rattle.loops.specs.Loops.{tabulate};
 ghost use Rattle.grid_inner.specs.Inner.{Inner, InnerRun};
@@ -70,8 +72,8 @@ fn discoverer_block(
     requires cells_len { length cells.old ≡ 64 }
     requires slopes_len { length slopes.old ≡ 64 }
     ensures { Begun ds size.w spill.now recv.now c n
-        (record { cells = cells.entry.now; slopes = slopes.old })
-        (record { cells = cells.exit.now; slopes = slopes.new }) }
+        (record { cells = cells.old; slopes = slopes.old })
+        (record { cells = cells.new; slopes = slopes.new }) }
 {
     let w = size.w;
     let mut i: usize = 0;

@@ -1,5 +1,7 @@
 // Replaces discoverers by receivers, row by row, after flow.rs: the inner cells of a row in blocks, the cells on the
 // sides of the map one at a time.
+#![tactic(auto)]
+
 ghost use Rattle.std.specs.Prelude.{ℕ, ◌+◌, ◌*◌, ◌≤◌, ◌<◌, ◌≡◌, Bool, length};
 ghost use Rattle.grid.specs.Sides.{InRange};
 ghost use Rattle.grid_inner.specs.Inner.{InnerRun};

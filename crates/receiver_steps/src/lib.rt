@@ -1,6 +1,8 @@
 // The step from a cell to its receiver: its distance and, on a grid of three columns or more, its number. On such a
 // grid the distance is read from a table, by the difference of the two cell numbers or by the number of the step,
 // without a division.
+#![tactic(auto)]
+
 ghost use Rattle.std.specs.Prelude.{◌≡◌, cond, ◌+◌, ◌-◌, ◌*◌, ◌/◌, ◌%◌, ◌≤◌, ◌<◌};
 ghost use Rattle.grid_spacing.specs.Distances.{cell_side};
 ghost use Rattle.receiver_steps.specs.Distance.{apart};

@@ -1,5 +1,7 @@
 // The source's resample.rs: the sides of the reduced grid, and the refusals of a full map beside a reduced one. The
 // block average onto it is in the crate `downsample`, the way back in `bilinear`, `upsample_rows` and `upsample`.
+#![tactic(auto)]
+
 ghost use Rattle.std.specs.Prelude.{◌≡◌, not, ◌||◌, ◌*◌, ◌≤◌, eqb};
 ghost use Rattle.answers.specs.Outcome.{gives, refused, refused_at, answer_of};
 ghost use Rattle.resample.specs.WorkSize.{scaled_side, work_size, work_of, work_answer};
@@ -10,7 +12,7 @@ use floats::{ratio, round, to_count};
 use grid::{Sides, bad_sides, first_not_finite, longest};
 
 // The working sides, or the refusal of a bad side.
-#[derive(Drop)]
+#[derive(Clone, Copy)]
 pub enum Work {
     Of(Sides),
     Refused(Refusal),

@@ -7,7 +7,7 @@ use lib.Ieee.{Float}
 use Rattle.grid.specs.Sides.{InRange}
 use Rattle.thermal_erosion.specs.declared.ThermalParams.{ThermalParams}
 use Rattle.run_machine.specs.Plan.{scale_of, passes_of, fluvial_plan}
-use Rattle.run_machine.specs.Machine.{Course, steps}
+use Rattle.run_machine.specs.Machine.{Course}
 use Rattle.run_machine.specs.Run.{Choice, fluvial_course, slide_course}
 use Rattle.run_machine.specs.Nested.{passes_after, iterated, Bounded}
 use Rattle.run_settings.specs.declared.FluvialSettings.{FluvialSettings}

@@ -24,6 +24,10 @@ one_water_level w h s = record { land = refl; cuts = refl; slides = refl }
 -- a product of two floats that are not negative, by any fractions that they equal
 mul_values : (f : Format) (x y : Float) (a c b d : ℕ) → 0 < c → 0 < d → HasValue x false a c → HasValue y false b d → mul f x y ≡ round f false (a * b) (c * d)
 unfolding mul
+mul_values f lib.Ieee.nan y a c b d C D v w = elim v [ ]
+mul_values f (lib.Ieee.inf _) y a c b d C D v w = elim v [ ]
+mul_values f (fin s m e) lib.Ieee.nan a c b d C D v w = elim w [ ]
+mul_values f (fin s m e) (lib.Ieee.inf _) a c b d C D v w = elim w [ ]
 mul_values f (fin s m e) (fin t n g) a c b d C D v w =
     ap (λ (z : Bool). round f (unlike z t) (m * up e * (n * up g)) (down e * down g)) v.0
     ∙ ap (λ (z : Bool). round f (unlike false z) (m * up e * (n * up g)) (down e * down g)) w.0
@@ -43,6 +47,8 @@ parts_value n h = go (eq-or-lt_of_le h)
 -- divided by 512
 div_value : (x : Float) (n : ℕ) → HasValue x false n 1 → div binary32 x (of_bits binary32 0x4400_0000) ≡ round binary32 false n 512
 unfolding div of_bits
+div_value lib.Ieee.nan n v = elim v [ ]
+div_value (lib.Ieee.inf _) n v = elim v [ ]
 div_value (fin s m e) n v =
     ap (λ (z : Bool). round binary32 (unlike z false) (m * up e * 1) (1 * 2 ^ 9 * down e)) v.0
     ∙ round_same binary32 false (m * up e * 1) (1 * 2 ^ 9 * down e) n 512 (mul-pos (lit< tt) (down_pos e)) (lit< tt) (cross (m * up e) (down e) v.1)
@@ -78,6 +84,8 @@ parts_up a = omega arith
 
 -- cut to a whole number, the least one not below x
 up_value : (x : Float) (a : ℕ) → T (fits binary32 x) → HasValue x false a 512 → a ≤ 2 ^ 24 → to_unsigned 64 (ceil_of x) ≡ (a + 511) / 512
+up_value lib.Ieee.nan a t v l = elim v [ ]
+up_value (lib.Ieee.inf _) a t v l = elim v [ ]
 up_value (fin true m e) a t v l = absurd (true≢false v.0)
 up_value (fin false m e) a t v l =
     cut_value 64 (ceil_of (fin false m e)) ((m * up e + (down e - 1)) / down e) 1 (lit< tt) (ceil_of_value m e t)

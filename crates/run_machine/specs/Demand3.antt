@@ -36,12 +36,12 @@ pub record Routes (c : Course) (hs : List Float) (it : ℕ) (routed : List Float
 -- the least, over all chains to base level, of the greatest height on the chain, as numbers; a cell is its own receiver
 -- exactly if it is base level; the float areas along the list are the numbers of cells whose way down passes through,
 -- and base-level areas total the cells of the grid.
-pub record Drained (ground : List Float → Ground) (hs : List Float) (list : List ℕ) : Type 0 where
-  pub work_list : WorkList (ground hs).cells (receivers_on ground hs) list
-  pub spill : (c : ℕ) → c < (ground hs).cells → LeastCrest (ground hs) (λ i. rank (get_or hs i nan)) c (rank (get_or (spill_on ground hs) c nan))
-  pub base : (c : ℕ) → c < (ground hs).cells → eqb (get_or (receivers_on ground hs) c 0) c ≡ (ground hs).base c
-  pub area : (c : ℕ) → c < (ground hs).cells → get_or (areas_along (ground hs).cells (receivers_on ground hs) list) c nan ≡ whole (area_of (ground hs).cells (receivers_on ground hs) c)
-  pub total : sum_below (ground hs).cells (ground hs).base (area_of (ground hs).cells (receivers_on ground hs)) ≡ (ground hs).cells
+pub record Drained (ground_of : List Float → Ground) (hs : List Float) (list : List ℕ) : Type 0 where
+  pub work_list : WorkList (ground_of hs).cells (receivers_on ground_of hs) list
+  pub spill : (c : ℕ) → c < (ground_of hs).cells → LeastCrest (ground_of hs) (λ i. rank (get_or hs i nan)) c (rank (get_or (spill_on ground_of hs) c nan))
+  pub base : (c : ℕ) → c < (ground_of hs).cells → eqb (get_or (receivers_on ground_of hs) c 0) c ≡ (ground_of hs).base c
+  pub area : (c : ℕ) → c < (ground_of hs).cells → get_or (areas_along (ground_of hs).cells (receivers_on ground_of hs) list) c nan ≡ whole (area_of (ground_of hs).cells (receivers_on ground_of hs) c)
+  pub total : sum_below (ground_of hs).cells (ground_of hs).base (area_of (ground_of hs).cells (receivers_on ground_of hs)) ≡ (ground_of hs).cells
 
 -- the working grid of a run: its ground, its course by a choice of lists, and the heights that it begins with
 module _ (w h : ℕ) (s : FluvialSettings) (stop : ℕ) (map : List Float) where

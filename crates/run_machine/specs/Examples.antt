@@ -5,7 +5,7 @@ use Rattle.std.specs.Float.{binary32}
 use Rattle.std.specs.Float.Ieee.{of_bits}
 use Rattle.floats.specs.Stand.{whole}
 use Rattle.drainage.specs.Ground.{square_land}
-use Rattle.run_machine.specs.Plan.{scale_of, k_of, threshold_of, passes_of, Plan, fluvial_plan, thermal_passes, thermal_params}
+use Rattle.run_machine.specs.Plan.{scale_of, k_of, threshold_of, passes_of, fluvial_plan, thermal_passes, thermal_params}
 use Rattle.run_machine.specs.Machine.{Course}
 use Rattle.run_machine.specs.Run.{Ran, ours, lent, fluvial_begins, fluvial_course, thermal_course, run_by, thermal_run}
 use Rattle.run_settings.specs.declared.FluvialSettings.{FluvialSettings}

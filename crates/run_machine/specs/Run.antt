@@ -36,7 +36,7 @@ lent lists it order = lists it
 -- the heights hs routed, then incised along the chosen list, with the areas along that list
 unfoldable pub incision_by : (List Float → Ground) → FluvialParams → Choice → ℕ → List Float → List Float
 unfolding incised_by
-incision_by ground p choose it hs = incised_by (ground hs) p (receivers_on ground hs) (choose it (order_on ground hs)) hs
+incision_by ground_of p choose it hs = incised_by (ground_of hs) p (receivers_on ground_of hs) (choose it (order_on ground_of hs)) hs
 
 -- the fraction p at which a pass of a fluvial iteration begins: (it + 0.5 + 0.5 × pass / passes) / iterations
 abbrev pub fluvial_begins : ℕ → ℕ → ℕ → ℕ → Float

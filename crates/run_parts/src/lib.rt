@@ -1,5 +1,7 @@
 // What thermal and fluvial runs share: what a run has reached, one talus pass, the reduction of the map to the working
 // grid, and the addition of the difference to the map.
+#![tactic(auto)]
+
 ghost use Rattle.std.specs.Prelude.{◌≡◌, ◌&&◌, ◌*◌, eqb, length};
 ghost use Rattle.answers.specs.Outcome.{answer_of};
 ghost use Rattle.upsample.specs.Places.{Grid};
@@ -18,7 +20,7 @@ use upsample::add_finite;
 
 // What a run has reached besides its heights: the stop marks, the completed incisions and passes, and 0, or the number
 // that ended it.
-#[derive(Drop)]
+#[derive(Clone, Copy)]
 pub struct Reached {
     pub marks: Progress,
     pub incisions: u32,

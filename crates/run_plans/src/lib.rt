@@ -1,4 +1,6 @@
 // Plans of whole runs: the settings converted to the working grid, as the source's thermal_plan and fluvial_plan do.
+#![tactic(auto)]
+
 ghost use Rattle.std.specs.Prelude.{◌≡◌, ◌≤◌};
 ghost use Rattle.run_machine.specs.Plan.{scale_of, k_of, threshold_of, passes_of, slides_of, land_of, fluvial_plan};
 ghost use Rattle.run_machine.specs.Plan.{thermal_passes, thermal_params};

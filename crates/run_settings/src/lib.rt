@@ -1,4 +1,6 @@
 // The settings of whole runs, their ranges, and what a whole run refuses.
+#![tactic(auto)]
+
 ghost use Rattle.std.specs.Prelude.{◌≡◌};
 ghost use Rattle.answers.specs.Outcome.{answer_of};
 ghost use Rattle.run_settings.specs.Refusals.{bad_either, bad_fluvial, bad_thermal};
@@ -9,7 +11,7 @@ use floats::is_finite;
 use grid::{Sides, bad_sides, first_not_finite};
 
 // The settings of gen_fluvial_erosion: the source's FluvialErosionConf with the water level.
-#[derive(Drop)]
+#[derive(Clone, Copy)]
 pub struct FluvialSettings {
     pub water_level: f32,
     pub strength: f32,
@@ -20,7 +22,7 @@ pub struct FluvialSettings {
 }
 
 // The settings of gen_thermal_erosion: the source's ThermalErosionConf with the water level.
-#[derive(Drop)]
+#[derive(Clone, Copy)]
 pub struct ThermalSettings {
     pub water_level: f32,
     pub talus: f32,

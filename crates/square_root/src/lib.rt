@@ -1,6 +1,8 @@
 // The square root of document 01, computed from the bits of a float: its 24 binary digits are scaled to a whole number
 // n of 47 or 48 binary digits, the root of n comes from a linear first guess and two Newton steps, and the bits of the
 // result are one sum.
+#![tactic(auto)]
+
 ghost use Rattle.std.specs.Prelude.{◌≡◌, ◌+◌, ◌*◌, ◌/◌, ◌^◌, ◌≤◌, ◌<◌};
 ghost use Rattle.std.specs.Float.{binary32};
 ghost use Rattle.std.specs.Float.Ieee.{of_bits};

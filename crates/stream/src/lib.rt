@@ -1,4 +1,6 @@
 // The stream of document 01, read: bytes to the run that they ask for, or to a refusal (specs/Stream.antt).
+#![tactic(auto)]
+
 ghost use Rattle.std.specs.Prelude.{◌≡◌, ◌&&◌, ◌*◌, ◌≤◌, ltb, length};
 ghost use Rattle.grid.specs.Sides.{InRange};
 ghost use Rattle.stream_bytes.specs.Bytes.{mark_at};
@@ -23,14 +25,14 @@ const THERMAL: [u8; 2] = *b"TH";
 pub const END: [u8; 2] = *b"EN";
 
 // The kind of run, with its settings.
-#[derive(Drop)]
+#[derive(Clone, Copy)]
 pub enum Settings {
     Fluvial(FluvialSettings),
     Thermal(ThermalSettings),
 }
 
 // What a stream says before its rows, and the place where these begin.
-#[derive(Drop)]
+#[derive(Clone, Copy)]
 pub struct Header {
     pub size: Sides,
     pub settings: Settings,
@@ -39,7 +41,7 @@ pub struct Header {
 }
 
 // What reading a stream gives.
-#[derive(Drop)]
+#[derive(Clone, Copy)]
 pub enum Read {
     Accepted(Header),
     Refused(Refusal),

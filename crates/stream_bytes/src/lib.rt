@@ -1,4 +1,6 @@
 // Numbers and marks in the bytes of a stream: numbers stand low byte first, records begin with a fixed two-byte string.
+#![tactic(auto)]
+
 ghost use Rattle.std.specs.Prelude.{◌≡◌, ◌+◌, ◌≤◌, ◌<◌, length};
 ghost use Rattle.std.proofs.lemmas.List.Edits.{sets};
 ghost use Rattle.stream_bytes.specs.Bytes.{number2, number4, float4, marked, bytes2, bytes4};

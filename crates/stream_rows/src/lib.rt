@@ -1,5 +1,7 @@
 // The rows of a stream: their marks, the search for a height that is not finite, and the map that they fill
 // (specs/Rows.antt).
+#![tactic(auto)]
+
 ghost use Rattle.std.specs.Prelude.{◌≡◌, ◌*◌, ◌<◌, length};
 ghost use Rattle.grid.specs.Sides.{InRange};
 ghost use Rattle.grid.specs.Heights.{first_not_finite, all_finite};

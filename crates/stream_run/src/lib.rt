@@ -1,4 +1,6 @@
 // Runs a stream of document 01: input bytes to the output bytes of `relief`.
+#![tactic(auto)]
+
 ghost use Rattle.std.specs.Prelude.{◌≡◌, true, [], ◌*◌, length};
 ghost use Rattle.run_machine.specs.Run.{ours, run_by, thermal_run};
 ghost use Rattle.run_settings.specs.Refusals.{bad_fluvial, bad_thermal};

@@ -1,5 +1,7 @@
 // Words, numbers of four bytes that stand low byte first: slices to bytes and back, and buffers for the slices of the
 // replay list.
+#![tactic(auto)]
+
 ghost use Rattle.std.specs.Prelude.{◌≡◌, ◌+◌, ◌*◌, ◌≤◌, min, length, replicate};
 ghost use Rattle.std.proofs.lemmas.List.Edits.{sets};
 ghost use Rattle.loops.specs.Loops.{tabulate};

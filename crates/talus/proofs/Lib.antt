@@ -4,3 +4,4 @@ pub mod StepLaws
 pub mod CellLaws
 pub mod RowLaws
 pub mod TalusLaws
+pub mod EightLaws

@@ -10,6 +10,17 @@ use Rattle.grid.specs.Directions.{neighbour_at}
 use Rattle.grid_spacing.specs.declared.Distances.{Distances}
 use Rattle.talus.specs.declared.Shed.{Shed}
 
+-- the eight thresholds of t in scan order, NW first: t toward the sides, t × the diagonal toward the corners
+abbrev pub prepared_of : Float → Distances → List Float
+prepared_of t ds =
+    let diagonal = mul binary32 t ds.diagonal in
+    diagonal ∷ t ∷ diagonal ∷ t ∷ t ∷ diagonal ∷ t ∷ diagonal ∷ []
+
+-- The table of eight thresholds that are given in scan order: they are entries 1 to 8. Entry 0, which no direction
+-- reads, is that of N, as `thresholds_of` has it.
+abbrev pub table_of : List Float → List Float
+table_of eight = get_or eight 1 nan ∷ eight
+
 -- the threshold toward the sides, and × the diagonal toward the corners
 abbrev pub thresholds_of : Float → Distances → List Float
 thresholds_of t ds =

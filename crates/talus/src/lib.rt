@@ -1,13 +1,15 @@
 // Talus on cells and rows: what a cell steeper than its thresholds sheds, and where that goes. Heights are read from
 // `hmap`; gains and losses go to `out`. The thresholds of the directions are an argument, prepared once before the
 // rows.
+#![tactic(auto)]
+
 ghost use Rattle.std.specs.Prelude.{◌≡◌, true, cond, ◌+◌, ◌*◌, ◌<◌, length, ltb};
 ghost use Rattle.std.specs.Float.{binary32};
 ghost use Rattle.std.specs.Float.Ieee.{of_bits, lt};
 ghost use Rattle.grid.specs.Directions.{Step, stepped_at};
 ghost use Rattle.grid_inner.specs.Inner.{Inner};
-ghost use Rattle.talus.specs.Talus.{thresholds_of, excess_over, shed_to, shed_of, gain_to, gains_of, slide_cell};
-ghost use Rattle.talus.specs.Talus.{slide_cells};
+ghost use Rattle.talus.specs.Talus.{prepared_of, table_of, thresholds_of, excess_over, shed_to, shed_of, gain_to};
+ghost use Rattle.talus.specs.Talus.{gains_of, slide_cell, slide_cells};
 ghost use Rattle.talus.specs.Places.{CellAt, InRow};
 
 use floats::max;
@@ -16,7 +18,7 @@ use grid_inner::beside;
 use grid_spacing::Distances;
 
 // The total of the excesses counted so far, and the greatest of them.
-#[derive(Drop)]
+#[derive(Clone, Copy)]
 pub struct Shed {
     pub total: f32,
     pub greatest: f32,
@@ -29,6 +31,24 @@ pub fn thresholds(t: f32, ds: Distances) -> [f32; 9]
 {
     let d = t * ds.diagonal;
     [t, d, t, d, t, t, d, t, d]
+}
+
+// The eight thresholds of t in scan order: t toward the sides, t × the diagonal toward the corners.
+pub fn prepare(t: f32, ds: Distances) -> [f32; 8]
+    ensures { result ≡ prepared_of t ds }
+{
+    let d = t * ds.diagonal;
+    [d, t, d, t, t, d, t, d]
+}
+
+// The table of eight thresholds that are given in scan order: entry d is that of direction d, entry 0 stands for none.
+pub fn table(eight: [f32; 8]) -> [f32; 9]
+    ensures { result ≡ table_of eight }
+{
+    let none = eight[1];
+    [
+        none, eight[0], eight[1], eight[2], eight[3], eight[4], eight[5], eight[6], eight[7],
+    ]
 }
 
 // Returns `counted` where the excess e is counted, that is above 0, else `not`. Both are computed before: a select, not

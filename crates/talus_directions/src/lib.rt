@@ -1,5 +1,7 @@
 // Losses and gains of blocks of inner cells in a talus pass: one direction after the other is done for all cells of a
 // block, with no test and no branch. A height still gets its losses and gains in the order of the cells.
+#![tactic(auto)]
+
 ghost use Rattle.std.specs.Prelude.{◌≡◌, ◌<◌, ◌≤◌, length};
 ghost use Rattle.talus.specs.Places.{InRow};
 ghost use Rattle.talus_directions.specs.Parts.{InnerRow, lost_from, gained_by, losses, gains_toward, slide_all};

@@ -1,6 +1,8 @@
 // Rows of a talus pass. The inner cells of a row, whose neighbours need no test, are slid in blocks: first the total
 // and the loss of each cell are computed, then the losses and gains are applied, direction by direction where many of
 // the cells shed. The cells on the sides of the map are slid one by one.
+#![tactic(auto)]
+
 ghost use Rattle.std.specs.Prelude.{◌≡◌, cond, min, ◌+◌, ◌*◌, ◌<◌, ◌≤◌, length};
 ghost use Rattle.std.specs.Float.{binary32};
 ghost use Rattle.std.specs.Float.Ieee.{of_bits, lt, le};
@@ -75,8 +77,8 @@ fn shed_block(
     requires moved_len { length moved.old ≡ 64 }
     ensures { ShedsPut size.w size.h ts.now hmap.now strength water
         (record { y = y; x = x; n = n })
-        (record { totals = totals.entry.now; moved = moved.old })
-        (record { totals = totals.exit.now; moved = moved.new }) }
+        (record { totals = totals.old; moved = moved.old })
+        (record { totals = totals.new; moved = moved.new }) }
 {
     let w = size.w;
     let mut i: usize = 0;

@@ -1,3 +1,6 @@
--- Laws of a talus pass.
+-- Laws of a talus pass and of its thresholds.
 pub mod PassLaws
 pub mod SlideLaws
+pub mod OverLaws
+pub mod ThresholdLaws
+pub mod SamePassLaws

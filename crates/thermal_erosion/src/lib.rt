@@ -1,19 +1,22 @@
 // The source's thermal_erosion.rs, one talus pass: a cell steeper than the threshold sheds a share of its excess to its
 // lower neighbours.
-ghost use Rattle.std.specs.Prelude.{◌≡◌, ◌≤◌, length};
+#![tactic(auto)]
+
+ghost use Rattle.std.specs.Prelude.{◌≡◌, ◌≤◌, ◌^◌, length, false};
 ghost use Rattle.thermal_erosion.specs.SlidePass.{fraction_of, Pass, pass_of, rows_of, RowsReady, bad_marks, bad_pass};
 ghost use Rattle.thermal_erosion.specs.SlidePass.{Passed, SlideMade};
+ghost use Rattle.thermal_erosion.specs.OverPass.{pass_over, bad_rest, bad_thresholds, bad_over, PassMade, SlideOver};
 
 use answers::{Answer, Refusal, outside};
 use floats::is_finite;
 use generators::{Progress, bad_report};
 use grid::{Sides, all_finite, bad_sides, copy_heights, first_not_finite};
 use grid_spacing::square_distances;
-use talus::thresholds;
+use talus::{table, thresholds};
 use talus_rows::slide_row;
 
 // The settings of a pass on its grid.
-#[derive(Drop)]
+#[derive(Clone, Copy)]
 pub struct ThermalParams {
     pub threshold: f32,
     pub strength: f32,
@@ -21,7 +24,7 @@ pub struct ThermalParams {
 }
 
 // What a pass returns: its answer and the record of the stop marks.
-#[derive(Drop)]
+#[derive(Clone, Copy)]
 pub struct Slid {
     pub answer: Answer,
     pub progress: Progress,
@@ -51,7 +54,7 @@ pub fn slide_pass_into(
     stop: u32,
 ) -> Progress
     requires { RowsReady size.w size.h (length hmap.now) (length out.old) m.asked }
-    ensures { ◌≡◌ {A = Pass} (record { out = out.exit.now; marks = result })
+    ensures { ◌≡◌ {A = Pass} (record { out = out.new; marks = result })
         (rows_of size.w size.h ts.now strength water hmap.now from to stop size.h m) }
 {
     copy_heights(hmap, out);
@@ -180,4 +183,151 @@ pub fn slide_pass(
         return refused(Refusal::Height(bad), progress);
     }
     slide_accepted(size, hmap, out, params, from, to, progress, stop)
+}
+
+// Refusal 4 of all but the thresholds: whether strength, water level or a value of the stop marks is outside its range.
+fn bad_rest(strength: f32, water: f32, from: f32, to: f32, m: Progress) -> bool
+    ensures { result ≡ bad_rest strength water from to m }
+{
+    if outside(strength, 0.0, 1.0) {
+        return true;
+    }
+    if is_finite(water) {
+        return bad_marks(from, to, m);
+    }
+    true
+}
+
+// Whether one of eight thresholds is outside its range.
+fn bad_thresholds(eight: [f32; 8]) -> bool
+    ensures { result ≡ bad_thresholds eight }
+{
+    let mut i: usize = 0;
+    while i < 8 {
+        if outside(eight[i], 0.0, 96.0) {
+            return true;
+        }
+        i += 1;
+    }
+    false
+}
+
+// Refusal 4 of `slide_pass_over`.
+fn bad_over(eight: [f32; 8], strength: f32, water: f32, from: f32, to: f32, m: Progress) -> bool
+    ensures { result ≡ bad_over eight strength water from to m }
+{
+    if bad_thresholds(eight) {
+        return true;
+    }
+    bad_rest(strength, water, from, to, m)
+}
+
+// The pass over eight thresholds on an accepted input, and its answer: a stop comes before a run-off.
+fn over_accepted(
+    size: Sides,
+    hmap: &[f32],
+    out: &mut [f32],
+    eight: [f32; 8],
+    strength: f32,
+    water: f32,
+    from: f32,
+    to: f32,
+    m: Progress,
+    stop: u32,
+) -> Slid
+    requires { RowsReady size.w size.h (length hmap.now) (length out.old) m.asked }
+    ensures { Passed (pass_over size.w size.h eight strength water hmap.now from to stop m) result
+        out.new }
+{
+    let ts = table(eight);
+    let passed = slide_pass_into(size, &ts, hmap, out, strength, water, from, to, m, stop);
+    if passed.stopped {
+        return refused(Refusal::Stopped, passed);
+    }
+    if all_finite(out) {
+        return Slid {
+            answer: Answer::Done,
+            progress: passed,
+        };
+    }
+    refused(Refusal::RunOff, passed)
+}
+
+// The pass over eight thresholds behind its refusals, of which 4 applies if `bad`.
+fn slide_checked(
+    size: Sides,
+    hmap: &[f32],
+    out: &mut [f32],
+    bad: bool,
+    eight: [f32; 8],
+    strength: f32,
+    water: f32,
+    from: f32,
+    to: f32,
+    m: Progress,
+    stop: u32,
+) -> Slid
+    requires { bad ≡ false → m.asked ≤ 2 ^ 31 }
+    ensures { PassMade size.w size.h hmap.now bad m out.old
+        (pass_over size.w size.h eight strength water hmap.now from to stop m) result out.new }
+{
+    if bad_sides(size) {
+        return refused(Refusal::Side, m);
+    }
+    let n = size.w * size.h;
+    if hmap.len() != n {
+        return refused(Refusal::Length, m);
+    }
+    if out.len() != n {
+        return refused(Refusal::Length, m);
+    }
+    if bad {
+        return refused(Refusal::Setting, m);
+    }
+    let cell = first_not_finite(size, hmap);
+    if cell != n {
+        return refused(Refusal::Height(cell), m);
+    }
+    over_accepted(size, hmap, out, eight, strength, water, from, to, m, stop)
+}
+
+// The same pass over eight thresholds in scan order, NW first, each 0 to 96: each direction's excess is taken over its
+// own. On 1 to 5 nothing is written and the record comes back as given.
+pub fn slide_pass_over(
+    size: Sides,
+    hmap: &[f32],
+    out: &mut [f32],
+    thresholds: [f32; 8],
+    strength: f32,
+    water_level: f32,
+    progress_from: f32,
+    progress_to: f32,
+    progress: Progress,
+    stop: u32,
+) -> Slid
+    ensures { SlideOver size.w size.h hmap.now thresholds strength water_level
+        (record { from = progress_from; to = progress_to; marks = progress; stop = stop }) out.old result
+        out.new }
+{
+    let bad = bad_over(
+        thresholds,
+        strength,
+        water_level,
+        progress_from,
+        progress_to,
+        progress,
+    );
+    slide_checked(
+        size,
+        hmap,
+        out,
+        bad,
+        thresholds,
+        strength,
+        water_level,
+        progress_from,
+        progress_to,
+        progress,
+        stop,
+    )
 }

@@ -1,8 +1,10 @@
 // The source's gen_thermal_erosion: a whole thermal run, on the map or on a reduced grid whose change is added back.
+#![tactic(auto)]
+
 ghost use Rattle.std.specs.Prelude.{◌≡◌, false, ◌&&◌, eqb, length};
 ghost use Rattle.run_machine.specs.Run.{slide_course};
 ghost use Rattle.run_machine.specs.Nested.{nested};
-ghost use Rattle.run_parts.specs.Reached.{Worked, seen, whole_run_lem};
+ghost use Rattle.run_parts.specs.Reached.{Worked, seen, whole_run};
 ghost use Rattle.thermal_run.specs.ThermalRun.{ThermalSlides, ThermalReduces, ThermalErodes, ThermalRun};
 
 use answers::{Answer, RUN_OFF, RunAnswer};
@@ -118,9 +120,9 @@ pub fn gen_thermal_erosion(
     copy: &mut [f32],
 ) -> RunAnswer
     ensures { ThermalRun size.w size.h conf stop hmap.old
-        (record { small = small.entry.now; eroded = eroded.old; copy = copy.old }) result
+        (record { small = small.old; eroded = eroded.old; copy = copy.old }) result
         hmap.new
-        (record { small = small.exit.now; eroded = eroded.new; copy = copy.new }) }
+        (record { small = small.new; eroded = eroded.new; copy = copy.new }) }
 {
     let scratch = least(small.len(), least(eroded.len(), copy.len()));
     let early = refusal(size, hmap, bad_thermal(conf), scratch);

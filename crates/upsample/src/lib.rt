@@ -1,5 +1,7 @@
 // The source's resample.rs, the way back from the reduced grid: the reduced grid, sampled bilinearly, added to the full
 // one.
+#![tactic(auto)]
+
 ghost use Rattle.std.specs.Prelude.{◌≡◌, ◌≤◌, length};
 ghost use Rattle.grid.specs.Heights.{all_finite};
 ghost use Rattle.bilinear.specs.Places.{Grid};

@@ -1,6 +1,8 @@
 // Bilinear samples row by row. All samples of a row of the map lie between the same two rows of the reduced grid, and
 // several rows of the map share these two. So the position of each column of the map among the reduced columns is
 // worked out once, and the values there once for each pair of reduced rows.
+#![tactic(auto)]
+
 ghost use Rattle.std.specs.Prelude.{◌≡◌, ◌<◌, ◌≤◌, length};
 ghost use Rattle.bilinear.specs.Places.{Grid};
 ghost use Rattle.upsample_rows.specs.Rows.{Sampled, centre_of, reduced_column, way_of, Columns, ColumnsPut, mix_put};

@@ -1,0 +1,4 @@
+use Rattle.fluvial_run.proofs.shortest.Goals as goal
+
+pub returns : goal.returns
+returns c = cc

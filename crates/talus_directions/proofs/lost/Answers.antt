@@ -1,0 +1,8 @@
+use mathlib.Core.Path.{refl}
+use Rattle.talus_directions.proofs.lost.Goals as goal
+
+pub returns-then-total : goal.returns-then-total
+returns-then-total c = rw c.if-total.true refl
+
+pub returns-else-total : goal.returns-else-total
+returns-else-total c = rw c.if-total.false refl
