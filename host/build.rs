@@ -1,4 +1,4 @@
-//! Links the archive that `rt staticlib layout_calls` writes.
+//! Links the archive that `tools/staticlib.sh layout_calls` writes.
 use std::env;
 use std::path::Path;
 
@@ -7,7 +7,7 @@ fn main() {
     let archive = dir.join("liblayout_calls.a");
     println!("cargo:rerun-if-changed={}", archive.display());
     if !archive.is_file() {
-        panic!("{} is not there: run `rt staticlib layout_calls`, or host/run.sh", archive.display());
+        panic!("{} is not there: run `tools/staticlib.sh layout_calls`, or host/run.sh", archive.display());
     }
     println!("cargo:rustc-link-search=native={}", dir.display());
     println!("cargo:rustc-link-lib=static=layout_calls");

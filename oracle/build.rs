@@ -104,7 +104,7 @@ fn main() {
     }
 }
 
-/// The archives that `rt staticlib` writes of the crates that export calls, for the programs that link them.
+/// The archives that `tools/staticlib.sh` writes of the crates that export calls, for the programs that link them.
 const ARCHIVES: [(&str, &[&str]); 3] = [
     ("bench", &["harness", "harness_runs", "layout_calls"]),
     ("peer", &["harness"]),
@@ -118,7 +118,7 @@ fn link_harness() {
                 .join(format!("../target/staticlib/lib{name}.a"));
             println!("cargo:rerun-if-changed={}", archive.display());
             if !archive.is_file() {
-                println!("cargo:warning={} is not there: run `rt staticlib {name}` for {program}", archive.display());
+                println!("cargo:warning={} is not there: run `tools/staticlib.sh {name}` for {program}", archive.display());
             }
             println!("cargo:rustc-link-arg-bin={program}={}", archive.display());
         }

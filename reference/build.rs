@@ -1,4 +1,4 @@
-//! Names the archive that `rt staticlib` writes of the library's exports, for the program that links it.
+//! Names the archive that `tools/staticlib.sh` writes of the library's exports, for the program that links it.
 use std::env;
 use std::path::Path;
 
@@ -11,7 +11,7 @@ fn main() {
     let archive = Path::new(&root).join("../target/staticlib/libharness.a");
     println!("cargo:rerun-if-changed={}", archive.display());
     if !archive.is_file() {
-        println!("cargo:warning={} is not there: run `rt staticlib harness`", archive.display());
+        println!("cargo:warning={} is not there: run `tools/staticlib.sh harness`", archive.display());
     }
     println!("cargo:rustc-link-arg-bin=compare={}", archive.display());
 }
