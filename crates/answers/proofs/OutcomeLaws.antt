@@ -1,11 +1,12 @@
 -- A refusal gives nothing; what is given has passed every test before it; and one choice of a refusal decides answer and slices alike.
+use Rattle.std.specs.declared.result.Result.TheVariants.{Err}
+use Rattle.answers.specs.Outcome.{Answer}
 use Prim.Native.Nat.{ℕ, ◌<◌}
 use native.Mathlib.Omega.{arith}
 use mathlib.Core.Path.{◌≡◌, refl, sym, ap, ◌∙◌}
 use mathlib.Core.Bool.{Bool, true, false, cond, false≢true}
 use Rattle.loops.proofs.TestLaws.{clash, not_first, not_second}
 use Rattle.answers.specs.Outcome.{Outcome, gives, refused, refused_at, refusal_of, answer_of, given, number_of, place_of}
-use Rattle.answers.specs.declared.Answer.{Answer}
 use Rattle.answers.specs.declared.Refusal.{Refusal}
 use Rattle.answers.specs.declared.Refusal.TheVariants.{Side, ReducedSide, Length, Setting, Height, Receiver, List, Stream, Cells, Stopped, RunOff, Row, Spacings, NoCell, NoBase, Metres, Tiles}
 
@@ -33,7 +34,7 @@ refusal_by_lem P alone at Tiles = alone 36 (omega arith)
 refusal_given : (r : Refusal) → given (refusal_of {A = Unit {0}} r) ≡ false
 refusal_given = refusal_by_lem (λ o n p. given (o (Unit {0})) ≡ false) (λ n l. refl) (λ n p l. refl)
 
-pub refused_given : {a : Answer} {r : Refusal} → a ≡ Answer.Refused r → given (answer_of a) ≡ false
+pub refused_given : {a : Answer} {r : Refusal} → a ≡ Err r → given (answer_of a) ≡ false
 refused_given {a} {r} e = ap (λ (b : Answer). given (answer_of b)) e ∙ refusal_given r
 
 -- what a call gives is no refusal

@@ -1,11 +1,11 @@
 -- Every answer as documents 01 and 02 have it: what the call gives, or the number of a refusal with the cell or
 -- position that it carries.
+use Rattle.std.specs.declared.result.Result.{Result}
+use Rattle.std.specs.declared.result.Result.TheVariants.{Ok, Err}
 use Rattle.std.specs.Prelude.{ℕ, Bool, true, false, not, ◌&&◌, Float}
 use Rattle.std.specs.Float.Ieee.{le}
 use Rattle.answers.specs.declared.Refusal.{Refusal}
 use Rattle.answers.specs.declared.Refusal.TheVariants.{Side, ReducedSide, Length, Setting, Height, Receiver, List, Stream, Cells, Stopped, RunOff, Row, Spacings, NoCell, NoBase, Metres, Tiles}
-use Rattle.answers.specs.declared.Answer.{Answer}
-use Rattle.answers.specs.declared.Value.{Value}
 
 -- The outcome of a call that returns an A: `gives` a result; `refused` by a number alone; `refused_at` by a number that
 -- carries a place.
@@ -60,13 +60,14 @@ number_of r = number_in (refusal_of r)
 abbrev pub place_of : Refusal → ℕ
 place_of r = place_in (refusal_of r)
 
-abbrev pub answer_of : Answer → Outcome (Unit {0})
-answer_of Answer.Done = gives tt
-answer_of (Answer.Refused r) = refusal_of r
+-- the answer of a call that gives no value of its own
+abbrev pub Answer : Type 0
+Answer = Result (Unit {0}) Refusal
 
-abbrev pub value_of : Value → Outcome Float
-value_of (Value.Given x) = gives x
-value_of (Value.Refused r) = refusal_of r
+-- the outcome of an answer: its value, or its refusal
+abbrev pub answer_of : {A : Type 0} → Result A Refusal → Outcome A
+answer_of (Ok x) = gives x
+answer_of (Err r) = refusal_of r
 
 -- x lies outside lo to hi; a NaN lies in no range
 abbrev pub outside_of : Float → Float → Float → Bool

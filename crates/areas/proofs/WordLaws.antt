@@ -4,13 +4,16 @@ use native.Mathlib.Omega.{arith}
 use native.Mathlib.Decide.{ℕ_discrete}
 use mathlib.Core.Path.{◌≡◌, refl, sym, ap, ◌∙◌, subst}
 use mathlib.Core.Bool.{Bool, true, false, not, cond}
-use mathlib.Core.List.{List, ◌∷◌, ◌++◌}
+use mathlib.Core.List.{List, [], ◌∷◌, ◌++◌}
 use lib.ListN.{length, get_or, set, take, drop, length-set, length-replicate, get_or-replicate}
 use lib.Seq.{get_or-set_same, get_or-set_other, split_at, drop-cons, drop-length, ext_get_or}
 use lib.Dec.{T, eqb, le→leb}
 use lib.IntN.{pos}
 use lib.Ieee.{Float, nan, binary32, of_bits, to_bits, is_nan, in_float, in_unsigned, to_unsigned}
 use lib.Ieee.Back.{unsigned_back}
+use Rattle.std.proofs.Common.{length-append, length-drop, get_or-drop}
+use Rattle.std.proofs.Math.ListN.{get_or-append}
+use Rattle.std.proofs.lemmas.List.{get_or-append-add}
 use borrow.Author.Tests.{eqb-true, eqb-false}
 use Rattle.loops.specs.Loops.{tabulate}
 use Rattle.loops.proofs.LoopLaws.{at_end}
@@ -28,7 +31,7 @@ use Rattle.drainage.proofs.AreaLaws.{been, been_receiver, been_other, been_own, 
 use Rattle.areas.specs.Sums.{Along}
 use Rattle.receiver_steps.specs.Step.{step_of, stepped_to, Near, NearReceivers}
 use Rattle.receiver_steps.proofs.StepLaws.{Step, step_back}
-use Rattle.areas.specs.Words.{area_word, area_in, areas_in, receiver_in, passed_on, Word, Words, SteppedNetwork, Passing, WordFor, Worded, AreaWords, WholeArea, WholeAreas, start_area, start_areas, Ahead}
+use Rattle.areas.specs.Words.{area_word, area_in, areas_in, receiver_in, passed_on, passed_back, Word, Words, SteppedNetwork, Passing, WordFor, Worded, AreaWords, WholeArea, WholeAreas, start_area, start_areas, Ahead}
 
 module _ {x : Float} (w : Word x) where
   pub word_plain : T (not (is_nan x))
@@ -60,8 +63,8 @@ module _ {w cells : ℕ} {recv : List ℕ} (net : SteppedNetwork w recv cells) w
   few = omega (arith, net.steps.few)
 
   -- what the word of a cell asks
-  pub given_word : {c area : ℕ} → c < length recv → area ≤ 2 ^ 24 → Near w c (get_or recv c 0) × ((3 ≤ w) × (c < 4096 * 4096) × (get_or recv c 0 < 4096 * 4096) × (area ≤ 2 ^ 24))
-  given_word l a = (net.steps.near _ l, (net.columns, omega (arith, net.steps.few), omega (arith, net.steps.inside _ l, net.steps.few), a))
+  pub given_word : {c area : ℕ} → c < length recv → area ≤ 2 ^ 24 → Near w c (get_or recv c 0) × (3 ≤ w) × ((c < 4096 * 4096) × (get_or recv c 0 < 4096 * 4096)) × (area ≤ 2 ^ 24)
+  given_word l a = (net.steps.near _ l, net.columns, (omega (arith, net.steps.few), omega (arith, net.steps.inside _ l, net.steps.few)), a)
 
 -- ---- words for receivers
 module _ {w cells : ℕ} {recv : List ℕ} (net : SteppedNetwork w recv cells) {words : List Float} (d : Worded w recv words) where
@@ -207,6 +210,31 @@ module _ {w cells : ℕ} {recv list : List ℕ} (net : SteppedNetwork w recv cel
             ∙ ap (λ (t : List ℕ). of_bits binary32 (area_word (been (length recv) recv t y) (step_of w y (get_or recv y 0)))) (sym front);
       }
 
+-- ---- a block of the list
+length_passed : (c r : ℕ) (words : List Float) → length (passed_on c r words) ≡ length words
+length_passed c r words = go (eqb r c)
+  where
+    go : (b : Bool) → length (cond b words (set words r (of_bits binary32 (to_bits binary32 (get_or words r nan) + (to_bits binary32 (get_or words c nan) - to_bits binary32 (get_or words c nan) % 16))))) ≡ length words
+    go true = refl
+    go false = length-set words r _
+
+module _ {w cells : ℕ} {recv list : List ℕ} (net : SteppedNetwork w recv cells) (work : WorkList (length recv) recv list) {k : ℕ} {words : List Float} (s : Summing w recv list k words) where
+  -- the entries of a block that ends at position k are passed on
+  pub summing_back : (block : List ℕ) (m : ℕ) → m + length block ≡ k → ((i : ℕ) → i < length block → get_or block i 0 ≡ get_or list (m + i) 0) → Summing w recv list m (passed_back recv block words)
+  unfolding passed_back
+  summing_back [] m e at = subst (λ (j : ℕ). Summing w recv list j words) (omega (arith, e)) s
+  summing_back (c ∷ block) m e at =
+      let rest : Summing w recv list (suc m) (passed_back recv block words) = summing_back block (suc m) (omega (arith, e)) (λ i l. at (suc i) (omega (arith, l)) ∙ ap (λ (j : ℕ). get_or list j 0) (omega arith)) in
+      let here : c ≡ get_or list (suc m - 1) 0 = at 0 (omega arith) ∙ ap (λ (j : ℕ). get_or list j 0) (omega arith) in
+      subst (λ (j : ℕ). Summing w recv list j (passed_on c (get_or recv c 0) (passed_back recv block words))) (omega arith)
+      (summing_more net rest work (omega arith) (ap (λ (x : ℕ). get_or recv x 0) here) (ap (λ (x : ℕ). passed_on x (get_or recv c 0) (passed_back recv block words)) here) (length_passed c (get_or recv c 0) _))
+
+  pub words_back : (block : List ℕ) (m : ℕ) → m + length block ≡ k → ((i : ℕ) → i < length block → get_or block i 0 ≡ get_or list (m + i) 0)
+      → (j : ℕ) → j ≤ length block → Words (passed_back recv (drop j block) words)
+  words_back block m e at j l =
+      worded_words net (summing_worded net (summing_back (drop j block) (m + j) (omega (arith, e, length-drop j block))
+      (λ i h. get_or-drop j block i 0 ∙ at (j + i) (omega (arith, h, length-drop j block)) ∙ ap (λ (x : ℕ). get_or list x 0) (omega arith))))
+
 -- ---- words of areas that cells start with
 module _ {area : Float} (a : WholeArea area) where
   area_back : T (in_unsigned binary32 32 (whole a.number)) × (to_unsigned 32 (whole a.number) ≡ a.number)
@@ -236,9 +264,6 @@ one_number = area_number one_area
 pub start_length : (given : Bool) (areas : List Float) → length (start_areas given areas) ≡ length areas
 start_length true _ = refl
 start_length false areas = length-replicate (length areas) (whole 1)
-
-pub one_areas : (areas : List Float) → WholeAreas (start_areas false areas)
-one_areas areas c l = subst WholeArea (sym (get_or-replicate (length areas) c (whole 1) nan (omega (arith, start_length false areas)))) one_area
 
 -- a cell starts with the area of its place among all
 module _ (given : Bool) (areas : List Float) {c : ℕ} {x : Float} (e : x ≡ get_or areas c nan) (l : c < length areas) where
@@ -312,27 +337,30 @@ entry_at {recv = recv} {list = list} net d along j l =
     record { passing = worded_passing net d (get_or list j 0) m; leads_to = leads net d (get_or list j 0) m }
 
 module _ {recv list : List ℕ} where
-  pub ahead_none : {k : ℕ} {below : List ℕ} → Ahead recv list k k below
-  ahead_none = record { order = omega arith; few = omega arith; each = λ j a b. absurd (omega arith) }
-
-  -- the last of them
-  pub ahead_at : {lo k : ℕ} {below : List ℕ} → Ahead recv list lo k below → lo < k → get_or below (k - 1 - lo) 0 ≡ get_or recv (get_or list (k - 1) 0) 0
-  ahead_at a l = a.each _ (omega arith) (omega arith)
-
-  -- of one position less
-  pub ahead_less : {lo k : ℕ} {below : List ℕ} → Ahead recv list lo k below → lo < k → Ahead recv list lo (k - 1) below
-  ahead_less a l = record { order = omega arith; few = omega (arith, a.few); each = λ j m n. a.each j m (omega arith) }
-
-  pub ahead_to : {lo j k : ℕ} {below : List ℕ} → Ahead recv list lo j below → j ≡ k → Ahead recv list lo k below
-  ahead_to {lo} {below = below} a e = subst (λ (i : ℕ). Ahead recv list lo i below) e a
+  pub ahead_at : {k : ℕ} {below : List ℕ} → Ahead recv list 0 k below → (j : ℕ) → j < k → get_or below j 0 ≡ get_or recv (get_or list j 0) 0
+  ahead_at {below = below} a j l = ap (λ (i : ℕ). get_or below i 0) (omega arith) ∙ a.each j (omega arith) l
 
   -- while they are read
-  pub ahead_more : {lo j : ℕ} {below : List ℕ} {r : ℕ} → Ahead recv list lo j below → r ≡ get_or recv (get_or list j 0) 0 → j < lo + length below → Ahead recv list lo (j + 1) (set below (j - lo) r)
-  ahead_more {lo} {j} {below} {r} a e l = record { order = omega (arith, a.order); few = omega (arith, length-set below (j - lo) r); each = each }
+  pub ahead_more : {j : ℕ} {below : List ℕ} {r : ℕ} → Ahead recv list 0 j below → r ≡ get_or recv (get_or list j 0) 0 → j < length below → Ahead recv list 0 (j + 1) (set below j r)
+  ahead_more {j} {below} {r} a e l = record { order = omega arith; few = omega (arith, length-set below j r); each = each }
     where
-      each : (i : ℕ) → lo ≤ i → i < j + 1 → get_or (set below (j - lo) r) (i - lo) 0 ≡ get_or recv (get_or list i 0) 0
-      each i m n = go (ℕ_discrete i j)
+      each : (i : ℕ) → 0 ≤ i → i < j + 1 → get_or (set below j r) (i - 0) 0 ≡ get_or recv (get_or list i 0) 0
+      each i m n = ap (λ (k : ℕ). get_or (set below j r) k 0) (omega arith) ∙ go (ℕ_discrete i j)
         where
-          go : Dec (i ≡ j) → get_or (set below (j - lo) r) (i - lo) 0 ≡ get_or recv (get_or list i 0) 0
-          go (yes q) = rw q (get_or-set_same below (j - lo) r 0 (omega (arith, a.order)) ∙ e)
-          go (no q) = get_or-set_other below (j - lo) (i - lo) r 0 (λ z. q (omega (arith, a.order))) ∙ a.each i m (omega arith)
+          go : Dec (i ≡ j) → get_or (set below j r) i 0 ≡ get_or recv (get_or list i 0) 0
+          go (yes q) = rw q (get_or-set_same below j r 0 l ∙ e)
+          go (no q) = get_or-set_other below j i r 0 q ∙ ahead_at a i (omega arith)
+
+-- ---- a list whose first entries `rest` are taken apart before a block of them
+module _ (rest list before block : List ℕ) (held : (i : ℕ) → i < length rest → get_or rest i 0 ≡ get_or list i 0) (e : rest ≡ before ++ block) where
+  pub block_long : length before + length block ≡ length rest
+  block_long = sym (ap length e ∙ length-append before block)
+
+  pub before_at : (i : ℕ) → i < length before → get_or before i 0 ≡ get_or list i 0
+  before_at i l = sym (get_or-append before block 0 i l) ∙ ap (λ (t : List ℕ). get_or t i 0) (sym e) ∙ held i (omega (arith, block_long))
+
+  pub block_at : (i : ℕ) → i < length block → get_or block i 0 ≡ get_or list (length before + i) 0
+  block_at i l = sym (get_or-append-add before block i 0) ∙ ap (λ (t : List ℕ). get_or t (length before + i) 0) (sym e) ∙ held (length before + i) (omega (arith, block_long))
+
+  pub block_along : {n : ℕ} {recv : List ℕ} → length rest ≤ length list → Along n recv list → Along n recv block
+  block_along within along = record { receivers = along.receivers; inside = along.inside; entries = λ i l. omega (arith, block_at i l, along.entries (length before + i) (omega (arith, block_long))) }

@@ -1,6 +1,6 @@
 -- The word of a cell: its area × 16 plus the number of the step to its receiver. The slice of areas holds it as the
 -- bits of a float.
-use Rattle.std.specs.Prelude.{ℕ, ◌+◌, ◌-◌, ◌*◌, ◌/◌, ◌%◌, ◌^◌, ◌≤◌, ◌<◌, ◌≡◌, Bool, cond, List, length, get_or, set, replicate, eqb, Float}
+use Rattle.std.specs.Prelude.{ℕ, ◌+◌, ◌-◌, ◌*◌, ◌/◌, ◌%◌, ◌^◌, ◌≤◌, ◌<◌, ◌≡◌, Bool, cond, List, [], ◌∷◌, length, get_or, set, replicate, eqb, Float}
 use Rattle.std.specs.Float.{nan, binary32}
 use Rattle.std.specs.Float.Ieee.{of_bits, to_bits}
 use Rattle.loops.specs.Loops.{tabulate}
@@ -28,6 +28,11 @@ abbrev pub passed_on : ℕ → ℕ → List Float → List Float
 passed_on c r words =
     let word = to_bits binary32 (get_or words c nan) in
     cond (eqb r c) words (set words r (of_bits binary32 (to_bits binary32 (get_or words r nan) + (word - word % 16))))
+
+-- the words after the areas of cells, the last cell first, are added to those of their receivers
+unfoldable pub passed_back : List ℕ → List ℕ → List Float → List Float
+passed_back recv [] words = words
+passed_back recv (c ∷ cells) words = passed_on c (get_or recv c 0) (passed_back recv cells words)
 
 -- a word with an area of at most 2 ^ 24
 pub record Word (x : Float) : Type 0 where

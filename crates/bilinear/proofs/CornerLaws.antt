@@ -4,9 +4,8 @@ use mathlib.Core.Path.{◌≡◌, ap₂, ◌∙◌}
 use mathlib.Core.Bool.{false, not, ◌&&◌}
 use mathlib.Core.List.{List}
 use native.Mathlib.Omega.{arith}
-use lib.ListN.{get_or}
 use lib.Dec.{eqb, ltb}
-use lib.Ieee.{Float, nan}
+use lib.Ieee.{Float}
 use borrow.Author.Tests.{ltb-true, eqb-true, not-false}
 use Rattle.floats.specs.Stand.{fract_of, index_of}
 use Rattle.loops.proofs.TestLaws.{both, by_test}
@@ -14,7 +13,7 @@ use Rattle.grid.specs.Sides.{bad_sides}
 use Rattle.grid.specs.Directions.{Place}
 use Rattle.grid.proofs.SidesLaws.{row_end, row_few, good_sides}
 use Rattle.bilinear.specs.Places.{Grid}
-use Rattle.bilinear.specs.Samples.{as_source, corner_of, between, across_of, bilinear_at, bilinear_of}
+use Rattle.bilinear.specs.Samples.{as_source, corner_of, bilinear_at, bilinear_of}
 
 pub place_fits : {w h x y : ℕ} → Place w h x y → (y * w + w ≤ w * h) × (w * h ≤ 2 ^ 24)
 place_fits p = row_few p.wide p.high p.row
@@ -24,16 +23,6 @@ corner_in {w} {h} {x} {y} p east south =
     by_test (λ (c : ℕ). c < w * h) (ltb (x + east) w && ltb (y + south) h) _ _
     (λ e. let s = both (ltb (x + east) w) (ltb (y + south) h) e in omega (arith, ltb-true (x + east) w s.0, row_end w h (y + south) (ltb-true (y + south) h s.1)))
     (λ e. omega (arith, p.column, place_fits p))
-
--- the sample from its corners
-module _ (v : List Float) (w h x y : ℕ) (dx : Float) where
-  pub across_is : (south : ℕ) {a b : ℕ} {r : Float} → a ≡ corner_of as_source w h x y 0 south → b ≡ corner_of as_source w h x y 1 south
-      → r ≡ between dx (get_or v a nan) (get_or v b nan) → r ≡ across_of as_source v w h x dx y south
-  across_is south p q e = e ∙ ap₂ (λ (k l : ℕ). between dx (get_or v k nan) (get_or v l nan)) p q
-
-  pub sample_is : (dy : Float) {n s r : Float} → n ≡ across_of as_source v w h x dx y 0 → s ≡ across_of as_source v w h x dx y 1 → r ≡ between dy n s
-      → r ≡ bilinear_at as_source v w h x dx y dy
-  sample_is dy a b e = e ∙ ap₂ (between dy) a b
 
 -- an index of a side lies within it
 pub index_in : (side : ℕ) (x : Float) {i : ℕ} → i ≡ index_of side x → 1 ≤ side → i < side

@@ -4,16 +4,15 @@ use mathlib.Core.Path.{◌≡◌}
 use mathlib.Core.List.{List}
 use native.Mathlib.Omega.{arith}
 use lib.ListN.{length, get_or, replicate}
-use lib.Ieee.{Float, binary32, div}
+use lib.Ieee.{Float}
 use borrow.Rule.Slice.PartMut.{put_mid}
-use Rattle.floats.specs.Stand.{whole}
 use Rattle.loops.proofs.TableLaws.{filled_read}
 use Rattle.loops.proofs.FillLaws.{Filling, stored}
 use Rattle.grid.proofs.SidesLaws.{row_few}
 use Rattle.resample.specs.WorkSize.{Within}
 use Rattle.resample.specs.Places.{Block}
-use Rattle.resample.specs.Blocks.{first_in_block, block_sum, average_of}
-use Rattle.resample.proofs.BlockLaws.{run_of, average_by}
+use Rattle.resample.specs.Blocks.{first_in_block, average_of}
+use Rattle.resample.proofs.BlockLaws.{run_of}
 use Rattle.resample.proofs.FillLaws.{average_at}
 use Rattle.loops.proofs.RowFillLaws.{stored_row_at}
 use Rattle.downsample.specs.Firsts.{firsts_of, averages_of}
@@ -41,14 +40,6 @@ module _ {w h dw dh : ℕ} (g : Within w h dw dh) where
 -- block b runs from one entry to the next
 pub block_run : (s r b : ℕ) {fs : List ℕ} → fs ≡ firsts_of s r → 1 ≤ r → r ≤ s → b < r → (get_or fs b 0 < get_or fs (b + 1) 0) × (get_or fs (b + 1) 0 ≤ s)
 block_run s r b e low high l = run_of s r b _ _ low high l (first_read s r b (omega arith) e) (first_read s r (b + 1) (omega arith) e)
-
--- the average of a block from the entries
-pub average_read : (src : List Float) (w h dw dh bx by : ℕ) {xs ys : List ℕ} {s : Float} → xs ≡ firsts_of w dw → ys ≡ firsts_of h dh → bx < dw → by < dh
-    → s ≡ block_sum src w (get_or xs bx 0) (get_or xs (bx + 1) 0 - get_or xs bx 0) (get_or ys by 0) (get_or ys (by + 1) 0 - get_or ys by 0)
-    → div binary32 s (whole ((get_or xs (bx + 1) 0 - get_or xs bx 0) * (get_or ys (by + 1) 0 - get_or ys by 0))) ≡ average_of src w h dw dh bx by
-average_read src w h dw dh bx by e f l m q =
-    average_by src w h dw dh bx by (first_read w dw bx (omega arith) e) (first_read h dh by (omega arith) f) (first_read w dw (bx + 1) (omega arith) e)
-    (first_read h dh (by + 1) (omega arith) f) q
 
 -- one row more of the averages
 pub averages_more : (src : List Float) (w h dw dh y : ℕ) {old now row : List Float} → Filling (average_at src w h dw dh) (y * dw) old now → y * dw + dw ≤ length old

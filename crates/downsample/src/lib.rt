@@ -3,11 +3,12 @@
 
 ghost use Rattle.std.specs.Prelude.{◌≡◌, ◌+◌, ◌*◌, ◌<◌, ◌≤◌, length};
 ghost use Rattle.resample.specs.WorkSize.{Within};
-ghost use Rattle.resample.specs.Blocks.{first_in_block, row_sum, block_sum, average_of, downsampled, Downsampled};
+ghost use Rattle.resample.specs.Blocks.{first_in_block, count_of, row_sum, block_sum, average_of, downsampled};
+ghost use Rattle.resample.specs.Blocks.{Downsampled};
 ghost use Rattle.resample.specs.Places.{Block, Part};
 ghost use Rattle.downsample.specs.Firsts.{firsts_of, averages_of};
 
-use answers::{Answer, Refusal};
+use answers::Refusal;
 use grid::{Sides, all_finite};
 use resample::map_refusal;
 
@@ -24,11 +25,10 @@ fn row_sum(src: &[f32], at: usize, n: usize, acc: f32) -> f32
     requires { at + n ≤ length src.now }
     ensures { result ≡ row_sum src.now at n acc }
 {
+    // By index: over a part of src blocks of few columns take longer to add up.
     let mut sum = acc;
-    let mut i: usize = 0;
-    while i < n {
-        sum = sum + src[at + i];
-        i += 1;
+    for i in 0..n {
+        sum += src[at + i];
     }
     sum
 }
@@ -39,78 +39,93 @@ fn block_sum(src: &[f32], w: usize, x: usize, n: usize, y: usize, rows: usize) -
     ensures { result ≡ block_sum src.now w x n y rows }
 {
     let mut sum = 0.0;
-    let mut i: usize = 0;
-    while i < rows {
+    for i in 0..rows {
         sum = row_sum(src, x + (y + i) * w, n, sum);
-        i += 1;
     }
     sum
 }
 
-// Returns the first column (or row) of each block, then the end past the last block. Each takes a division, so they are
-// worked out once for a grid, not for each of its blocks.
-fn firsts(side: usize, reduced: usize) -> [usize; 4097]
-    requires { Block side reduced reduced }
-    ensures { result ≡ firsts_of side reduced }
-{
-    let mut fs: [usize; 4097] = [0; 4097];
-    let n = reduced + 1;
-    let mut b: usize = 0;
-    while b < n {
-        fs[b] = first_of(side, reduced, b);
-        b += 1;
+// The first column (or row) of each block of a side, then the end past the last block. Each takes a division, so they
+// are worked out once for a grid, not for each of its blocks.
+#[derive(Drop)]
+struct Firsts {
+    side: usize,
+    reduced: usize,
+    at: [usize; 4097],
+    ghost side_high: { side ≤ 4096 },
+    ghost reduced_low: { 1 ≤ reduced },
+    ghost reduced_high: { reduced ≤ side },
+    ghost made: { at ≡ firsts_of side reduced },
+}
+
+impl Firsts {
+    fn new(side: usize, reduced: usize) -> Firsts
+        requires side_high { side ≤ 4096 }
+        requires reduced_low { 1 ≤ reduced }
+        requires reduced_high { reduced ≤ side }
+        ensures full { result.side ≡ side }
+        ensures small { result.reduced ≡ reduced }
+    {
+        let mut at: [usize; 4097] = [0; 4097];
+        for b in 0..reduced + 1 {
+            at[b] = first_of(side, reduced, b);
+        }
+        Firsts { side, reduced, at }
     }
-    fs
+
+    // The first column of block b.
+    fn first(&self, b: usize) -> usize
+        requires { b < self.now.reduced }
+        ensures { result ≡ first_in_block self.now.side self.now.reduced b }
+    {
+        self.at[b]
+    }
+
+    // The number of columns of block b.
+    fn count(&self, b: usize) -> usize
+        requires { b < self.now.reduced }
+        ensures { result ≡ count_of self.now.side self.now.reduced b }
+    {
+        self.at[b + 1] - self.at[b]
+    }
 }
 
-// The average of block (bx, by): its sum / the number of its cells.
-fn average(
-    src: &[f32],
-    size: Sides,
-    dsize: Sides,
-    xs: &[usize; 4097],
-    ys: &[usize; 4097],
-    bx: usize,
-    by: usize,
-) -> f32
-    requires within { Within size.w size.h dsize.w dsize.h }
-    requires src_len { length src.now ≡ size.w * size.h }
-    requires xs_value { xs.now ≡ firsts_of size.w dsize.w }
-    requires ys_value { ys.now ≡ firsts_of size.h dsize.h }
-    requires bx_lt_w { bx < dsize.w }
-    requires by_lt_h { by < dsize.h }
-    ensures { result ≡ average_of src.now size.w size.h dsize.w dsize.h bx by }
-{
-    let x = xs[bx];
-    let y = ys[by];
-    let nx = xs[bx + 1] - x;
-    let ny = ys[by + 1] - y;
-    block_sum(src, size.w, x, nx, y, ny) / (nx * ny) as f32
+// A map, and the blocks of its columns and of its rows.
+#[derive(Drop)]
+struct Blocks<'a> {
+    src: &'a [f32],
+    columns: Firsts,
+    rows: Firsts,
+    ghost whole: { length src.now ≡ columns.side * rows.side },
 }
 
-// Stores the averages of the blocks of row `by` in `row`.
-fn average_row(
-    src: &[f32],
-    size: Sides,
-    row: &mut [f32],
-    dsize: Sides,
-    xs: &[usize; 4097],
-    ys: &[usize; 4097],
-    by: usize,
-)
-    requires within { Within size.w size.h dsize.w dsize.h }
-    requires src_len { length src.now ≡ size.w * size.h }
-    requires xs_value { xs.now ≡ firsts_of size.w dsize.w }
-    requires ys_value { ys.now ≡ firsts_of size.h dsize.h }
-    requires row_len { length row.old ≡ dsize.w }
-    requires by_lt_h { by < dsize.h }
-    ensures { row.new ≡ averages_of src.now size.w size.h dsize.w dsize.h by }
-{
-    let n = row.len();
-    let mut bx: usize = 0;
-    while bx < n {
-        row[bx] = average(src, size, dsize, xs, ys, bx, by);
-        bx += 1;
+impl Blocks<'_> {
+    // The average of block (bx, by): its sum / the number of its cells.
+    fn average(&self, bx: usize, by: usize) -> f32
+        requires bx_lt_w { bx < self.now.columns.reduced }
+        requires by_lt_h { by < self.now.rows.reduced }
+        ensures { result
+            ≡ average_of self.now.src.now self.now.columns.side self.now.rows.side
+            self.now.columns.reduced self.now.rows.reduced bx by }
+    {
+        let nx = self.columns.count(bx);
+        let ny = self.rows.count(by);
+        let x = self.columns.first(bx);
+        let y = self.rows.first(by);
+        block_sum(self.src, self.columns.side, x, nx, y, ny) / (nx * ny) as f32
+    }
+
+    // Stores the averages of the blocks of row `by` in `row`.
+    fn average_row(&self, by: usize, row: &mut [f32])
+        requires by_lt_h { by < self.now.rows.reduced }
+        requires row_len { length row.old ≡ self.now.columns.reduced }
+        ensures { row.new
+            ≡ averages_of self.now.src.now self.now.columns.side self.now.rows.side
+            self.now.columns.reduced self.now.rows.reduced by }
+    {
+        for (bx, average) in row.iter_mut().enumerate() {
+            *average = self.average(bx, by);
+        }
     }
 }
 
@@ -121,31 +136,27 @@ pub fn downsample_into(src: &[f32], size: Sides, dst: &mut [f32], dsize: Sides)
     requires dst_len { length dst.old ≡ dsize.w * dsize.h }
     ensures { dst.new ≡ downsampled src.now size.w size.h dsize.w dsize.h }
 {
-    let xs = firsts(size.w, dsize.w);
-    let ys = firsts(size.h, dsize.h);
+    let blocks = Blocks {
+        src,
+        columns: Firsts::new(size.w, dsize.w),
+        rows: Firsts::new(size.h, dsize.h),
+    };
     let w = dsize.w;
-    let h = dsize.h;
-    let mut y: usize = 0;
-    while y < h {
+    for y in 0..dsize.h {
         let from = y * w;
-        let to = from + w;
-        average_row(src, size, &mut dst[from..to], dsize, &xs, &ys, y);
-        y += 1;
+        blocks.average_row(y, &mut dst[from..from + w]);
     }
 }
 
 // Block average of src onto dst. Nothing is written on 1 to 5; on 22 dst holds the averages.
-pub fn downsample(src: &[f32], size: Sides, dst: &mut [f32], dsize: Sides) -> Answer
+pub fn downsample(src: &[f32], size: Sides, dst: &mut [f32], dsize: Sides) -> Result<(), Refusal>
     ensures { Downsampled src.now size.w size.h dst.old dsize.w dsize.h result
         dst.new }
 {
-    let refusal = map_refusal(src, size, dsize, dst.len());
-    if let Answer::Refused(_) = refusal {
-        return refusal;
-    }
+    map_refusal(src, size, dsize, dst.len())?;
     downsample_into(src, size, dst, dsize);
     if !all_finite(dst) {
-        return Answer::Refused(Refusal::RunOff);
+        return Err(Refusal::RunOff);
     }
-    Answer::Done
+    Ok(())
 }

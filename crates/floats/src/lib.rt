@@ -10,6 +10,8 @@ ghost use Rattle.std.specs.Float.Ieee.Positive.{above};
 ghost use Rattle.floats.specs.Stand.{max_of, whole_by, rule_of, trunc_of, round_of, ceil_of, whole, fract_of, index_of};
 ghost use Rattle.floats.specs.Key.{key_of};
 
+use std::num::{saturating_f32_to_u64, saturating_f32_to_usize};
+
 // max(a, b): a if a ≥ b, else b.
 pub fn max(a: f32, b: f32) -> f32
     ensures { result ≡ max_of a b }
@@ -21,31 +23,14 @@ pub fn max(a: f32, b: f32) -> f32
 pub fn is_finite(x: f32) -> bool
     ensures { result ≡ finite x }
 {
-    if f32::from_bits(0xff80_0000) < x {
-        return x < f32::from_bits(0x7f80_0000);
-    }
-    false
-}
-
-// x cut to a whole number, as Rust's `as u64` has it: 0 below 1 and at a NaN, 2^64 - 1 from 2^64 on.
-fn to_u64(x: f32) -> u64
-    ensures { result ≡ to_unsigned 64 x }
-{
-    if x > -1.0 {
-        if x < 18446744073709551616.0 {
-            return std::num::truncating_f32_to_u64(x);
-        }
-        return u64::MAX;
-    }
-    0
+    f32::from_bits(0xff80_0000) < x && x < f32::from_bits(0x7f80_0000)
 }
 
 // x cut to a whole number, at least 1.
 pub fn to_count(x: f32) -> usize
     ensures { result ≡ greatest (to_unsigned 64 x) 1 }
 {
-    let n = to_u64(x) as usize;
-    if n <= 1 { 1 } else { n }
+    saturating_f32_to_usize(x).max(1)
 }
 
 // a / b as a float. Both are at most 2^24, so each is exact as a float.
@@ -61,44 +46,37 @@ pub fn ratio(a: usize, b: usize) -> f32
 pub fn index(x: f32, side: usize) -> usize
     ensures { result ≡ index_of side x }
 {
-    let i = to_u64(x) as usize;
-    if i < side {
-        return i;
-    }
-    if side == 0 {
-        return 0;
-    }
-    side - 1
+    saturating_f32_to_usize(x).min(side.saturating_sub(1))
 }
 
 // 2^23: from here on every float is whole.
 const ALL_WHOLE: f32 = 8388608.0;
 
-// x above 0 as a whole number: the nearest, half up, if `nearest`, else x without its fraction. From 2^23 on x is
+// x above 0 as a whole number: the nearest, half up, if `NEAREST`, else x without its fraction. From 2^23 on x is
 // whole; below that x + x is exact.
-fn whole_above(x: f32, nearest: bool) -> f32
+fn whole_above<const NEAREST: bool>(x: f32) -> f32
     requires { T (above x) }
-    ensures { result ≡ whole_by (rule_of nearest) x }
+    ensures { result ≡ whole_by (rule_of NEAREST) x }
 {
     if x >= ALL_WHOLE {
         return x;
     }
-    if nearest {
-        return ((to_u64(x + x) + 1) / 2) as f32;
+    if NEAREST {
+        return ((saturating_f32_to_u64(x + x) + 1) / 2) as f32;
     }
-    to_u64(x) as f32
+    saturating_f32_to_u64(x) as f32
 }
 
-// Any x as a whole number, with x's sign: the nearest, half away from zero, if `nearest`, else x without its fraction.
+// Any x as a whole number, with x's sign: the nearest, half away from zero, if `NEAREST`, else x without its fraction.
 // Infinities and NaN stay as they are.
-fn to_whole(x: f32, nearest: bool) -> f32
-    ensures { result ≡ whole_by (rule_of nearest) x }
+fn to_whole<const NEAREST: bool>(x: f32) -> f32
+    ensures { result ≡ whole_by (rule_of NEAREST) x }
 {
     if x > 0.0 {
-        return whole_above(x, nearest);
+        return whole_above::<NEAREST>(x);
     }
     if x < 0.0 {
-        return -whole_above(-x, nearest);
+        return -whole_above::<NEAREST>(-x);
     }
     x
 }
@@ -107,7 +85,7 @@ fn to_whole(x: f32, nearest: bool) -> f32
 fn trunc(x: f32) -> f32
     ensures { result ≡ trunc_of x }
 {
-    to_whole(x, false)
+    to_whole::<false>(x)
 }
 
 // x's fraction, with x's sign.
@@ -129,7 +107,7 @@ pub fn ceil(x: f32) -> f32
 pub fn round(x: f32) -> f32
     ensures { result ≡ round_of x }
 {
-    to_whole(x, true)
+    to_whole::<true>(x)
 }
 
 // The float of a bit pattern. Every NaN's pattern gives the one NaN.

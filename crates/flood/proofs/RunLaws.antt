@@ -1,17 +1,16 @@
--- Laws of the whole flood: after some turns the slices hold the flood after as many steps as cells have left, and the scan and its heap the
--- waiting cells.
-use Prim.Native.Nat.{ℕ, ◌+◌, ◌-◌, ◌*◌, ◌^◌, ◌≤◌, ◌<◌}
-use mathlib.Core.Path.{◌≡◌, refl, sym, ap, ◌∙◌, subst}
-use mathlib.Core.Bool.{false, cond}
+-- Laws of the whole flood: once some cells have left the slices hold the flood after as many steps, and the scan and its heap the waiting cells.
+use Prim.Native.Nat.{ℕ, ◌+◌, ◌*◌, ◌^◌, ◌≤◌, ◌<◌}
+use mathlib.Core.Path.{◌≡◌, sym, ap, ◌∙◌, subst}
+use mathlib.Core.Bool.{false}
 use mathlib.Core.List.{List, [], ◌∷◌, ◌++◌}
-use native.Mathlib.Decide.{dec_lt}
 use native.Mathlib.Numerals.{add-one}
 use native.Mathlib.Omega.{arith}
 use lib.ListN.{length, get_or, set, take}
 use lib.Seq.{get_or-set_same, get_or-set_other, take-suc-set, take_all}
-use lib.Dec.{eqb, ltb}
+use lib.Dec.{eqb}
+use Rattle.std.specs.Prelude.{Option, Some, None}
 use lib.Ieee.{Float, nan}
-use borrow.Author.Tests.{eq-eqb, ne_eqb, eqb-true, lt-ltb, le-ltb}
+use borrow.Author.Tests.{eq-eqb, ne_eqb, eqb-true}
 use Rattle.float_order.specs.Fit.{Fit}
 use Rattle.loops.proofs.LoopLaws.{at_end}
 use Rattle.grid.proofs.SidesLaws.{cells_bound}
@@ -26,9 +25,9 @@ use Rattle.drainage.proofs.GroundLaws.{grid_stage, grid_stands, grid_heights}
 use Rattle.flood_queue.specs.declared.Scan.{Scan}
 use Rattle.flood_start.specs.Slices.{state_of, slices_of, Started}
 use Rattle.flood.specs.Slices.{AcceptedGrid, Flooded}
-use Rattle.flood_queue.specs.Scans.{at_limit, Remaining, Queued, ScanBegun, Waits, Turned, Leaves}
+use Rattle.flood_queue.specs.Scans.{at_limit, Level, ScanBegun, ScanReady, Waits, Turned, Leaves}
 use Rattle.flood_reach.specs.Reaches.{ReachedAll}
-use Rattle.flood.specs.Steps.{Leaver, Onward}
+use Rattle.flood.specs.Steps.{NextLeaver}
 use Rattle.flood_queue.proofs.ListedLaws.{under_limit, listed_set}
 use Rattle.flood_queue.proofs.ScanLaws.{leaver_level}
 
@@ -36,30 +35,32 @@ pub record Running (w h : ℕ) (land : Land) (hs : List Float) (i : ℕ) (s : Sc
   pub state : state_of status spill recv (take i order) ≡ flood_after floats (grid_ground w h land hs) hs i
   pub begun : ScanBegun hs order status spill s queue
 
-module _ (w h : ℕ) (hs : List Float) (i : ℕ) (s : Scan) (lent : Flood Float) where
-  pub onward_none :
-      (queue : List ℕ) → length hs ≤ s.cell → Queued hs s.limit lent.status lent.spill s.len queue
-      → Onward w h hs i s lent s.len lent queue
-  onward_none queue l q = record {
-    joins = λ m. let z : ⊥ = omega arith in absurd z;
-    reached = λ m. let z : ⊥ = omega arith in absurd z;
-    stays = λ _. refl;
-    queued = q;
+-- Cell c has just left, it raises no cell at the limit or above it, and the order has an entry i.
+pub record Leaver (hs : List Float) (limit c i : ℕ) (status : List ℕ) (spill : List Float) (order : List ℕ) : Type 0 where
+  pub inside : c < length hs
+  pub left : get_or status c 0 ≡ 2
+  pub level : Level hs limit (get_or spill c nan)
+  pub room : i < length order
+
+-- turns until a cell leaves
+module _ (hs : List Float) (list status : List ℕ) (spill : List Float) (s : Scan) (queue : List ℕ) (ready : ScanReady hs list status spill s queue) (t : Scan) (left : Option ℕ) (status' queue' : List ℕ)
+    (turned : Turned hs list s.head status spill t left status' queue') where
+  -- the turn in which it leaves
+  pub leaver_next : (c : ℕ) → left ≡ Some c → NextLeaver hs list status spill t c status' queue'
+  leaver_next c e = record { listed = turned.listed; queued = turned.queued; leaves = turned.leaves c e }
+
+  -- one in which none does
+  pub still_ready : left ≡ None → ScanReady hs list status' spill t queue'
+  still_ready e = record {
+    few = ready.few;
+    statuses = ap length (turned.same e) ∙ ready.statuses;
+    spills = ready.spills;
+    begun = record { listed = turned.listed; queued = turned.queued };
   }
 
-  pub onward_some :
-      s.cell < length hs → (len' : ℕ) (lent' : Flood Float) (queue' : List ℕ) → lent'.order ≡ set lent.order i s.cell
-      → ReachedAll w h hs s.limit s.cell (slices_of lent) len' (slices_of lent') queue' → Onward w h hs i s lent len' lent' queue'
-  onward_some l len' lent' queue' e x = record {
-    joins = λ _. e;
-    reached = λ _. x;
-    stays = λ m. let z : ⊥ = omega arith in absurd z;
-    queued = x.queued;
-  }
-
--- one turn more
+-- the scan after a cell has reached its neighbours
 abbrev pub after : Scan → ℕ → Scan
-after s len = record { head = s.head; limit = s.limit; len = len; cell = s.cell }
+after s len = record { head = s.head; limit = s.limit; len = len }
 
 module _ (w h : ℕ) (land : Land) (hs : List Float) where
   pub running_none :
@@ -93,117 +94,68 @@ module _ (w h : ℕ) (land : Land) (hs : List Float) where
         let stands = grid_stands w h land hs a.sides a.cells fit a.finites some i l in
         ap (λ (t : Flood Float). count_below (w * h) (λ c. eqb (get_or t.status c 0) 2)) r.state ∙ stands.holds.flooding.count ∙ stands.left
 
-    module _ (some : no_base (grid_ground w h land hs) ≡ false) (fit : Fit hs) (l : i < w * h) (t : Scan) (status' queue' : List ℕ)
-        (turned : Turned hs order s.head status spill t status' queue') (sized : length status ≡ w * h) where
-      module _ (m : t.cell < length hs) where
-        abbrev c : ℕ
-        c = t.cell
+    module _ (some : no_base (grid_ground w h land hs) ≡ false) (fit : Fit hs) (l : i < w * h) (t : Scan) (c : ℕ) (status' queue' : List ℕ)
+        (turned : NextLeaver hs order status spill t c status' queue') (sized : length status ≡ w * h) where
+      v : Leaves hs t.limit c status spill status'
+      v = turned.leaves
 
-        v : Leaves hs t.limit c status spill status'
-        v = turned.leaves m
+      inside : c < w * h
+      inside = omega (arith, v.inside, a.cells)
 
-        inside : c < w * h
-        inside = omega (arith, a.cells)
+      left_now : get_or status' c 0 ≡ 2
+      left_now = ap (λ z. get_or z c 0) v.marked ∙ get_or-set_same status c 2 0 (omega (arith, inside, sized))
 
-        left_now : get_or status' c 0 ≡ 2
-        left_now = ap (λ z. get_or z c 0) v.marked ∙ get_or-set_same status c 2 0 (omega (arith, inside, sized))
+      other : (b : ℕ) → (b ≡ c → ⊥) → get_or status' b 0 ≡ get_or status b 0
+      other b d = ap (λ z. get_or z b 0) v.marked ∙ get_or-set_other status c b 2 0 d
 
-        other : (b : ℕ) → (b ≡ c → ⊥) → get_or status' b 0 ≡ get_or status b 0
-        other b d = ap (λ z. get_or z b 0) v.marked ∙ get_or-set_other status c b 2 0 d
+      -- the order has room before the scan's place: the cells that left and those the scan has not passed are different ones
+      pub leaver_room : i < t.head
+      leaver_room =
+          omega (
+            arith,
+            left_count some fit (omega arith),
+            count_more (λ b. eqb (get_or status b 0) 2) (λ b. eqb (get_or status' b 0) 2) (w * h) c inside
+                (ne_eqb (get_or status c 0) 2 (λ z. omega (arith, v.waited))) (eq-eqb (get_or status' c 0) 2 left_now) (λ b d. ap (λ z. eqb z 2) (sym (other b d))),
+            count_apart (λ b. eqb (get_or status' b 0) 2) (at_limit hs t.limit) (w * h)
+                (λ b k e. under_limit hs t.limit b (turned.queued.gone b (eqb-true (get_or status' b 0) 2 e))),
+            ap (λ n. t.head + count_below n (at_limit hs t.limit)) (sym a.cells),
+            turned.listed.many,
+            a.cells,
+          )
 
-        -- the order has room before the scan's place: the cells that left and those the scan has not passed are different ones
-        pub leaver_room : i < t.head
-        leaver_room =
-            omega (
-              arith,
-              left_count some fit (omega arith),
-              count_more (λ b. eqb (get_or status b 0) 2) (λ b. eqb (get_or status' b 0) 2) (w * h) c inside
-                  (ne_eqb (get_or status c 0) 2 (λ z. omega (arith, v.waited))) (eq-eqb (get_or status' c 0) 2 left_now) (λ b d. ap (λ z. eqb z 2) (sym (other b d))),
-              count_apart (λ b. eqb (get_or status' b 0) 2) (at_limit hs t.limit) (w * h)
-                  (λ b k e. under_limit hs t.limit b (turned.queued.gone b (eqb-true (get_or status' b 0) 2 e))),
-              ap (λ n. t.head + count_below n (at_limit hs t.limit)) (sym a.cells),
-              turned.listed.many,
-              a.cells,
-            )
-
-        pub leaver : length order ≡ w * h → Leaver hs t.limit c i status' spill order
-        leaver n = record {
-          left = left_now;
-          level = leaver_level hs spill t.limit c few (λ b k. grid_heights (w * h) hs a.cells fit a.finites b (omega (arith, a.cells))) good v.low;
-          room = omega arith;
-        }
-          where
-            good : Height (get_or spill c nan)
-            good =
-                subst (λ (z : Flood Float). Height (get_or z.spill c nan)) (sym r.state)
-                ((grid_stage w h land hs a.sides a.cells fit a.finites some i (omega arith)).good c inside)
-
-        leaves_next : least_waiting floats (grid_ground w h land hs) hs now_state ≡ c
-        leaves_next =
-            least_waiting_is floats (grid_ground w h land hs) hs now_state (omega (arith, few, a.cells)) c inside (eq-eqb (get_or status c 0) 1 v.waited)
-            (λ b k e. v.least b (eqb-true (get_or status b 0) 1 e))
-
-        running_leaves :
-            (len' : ℕ) (status'' : List ℕ) (spill'' : List Float) (recv'' order'' queue'' : List ℕ) → length order ≡ w * h → order'' ≡ set order i c
-            → ReachedAll w h hs t.limit c (slices_of (state_of status' spill recv order)) len' (slices_of (state_of status'' spill'' recv'' order'')) queue''
-            → Running w h land hs (i + 1) (after t len') status'' spill'' recv'' order'' queue''
-        running_leaves len' status'' spill'' recv'' order'' queue'' n e x = record {
-          state =
-              ap (state_of status'' spill'' recv'') (ap (take (i + 1)) e ∙ ap (λ n. take n (set order i c)) (add-one i) ∙ take-suc-set order i c (omega arith))
-              ∙ x.state land.distances _ (take i order ++ (c ∷ []))
-              ∙ ap (λ z. Rattle.drainage.specs.Flood.push_all floats (grid_ground w h land hs) hs c (state_of z spill recv (take i order ++ (c ∷ [])))) v.marked
-              ∙ sym (step_leaves floats (grid_ground w h land hs) hs now_state c leaves_next inside)
-              ∙ ap (flood_step floats (grid_ground w h land hs) hs) r.state
-              ∙ sym (flood_after_more floats (grid_ground w h land hs) hs i)
-              ∙ ap (flood_after floats (grid_ground w h land hs) hs) (sym (add-one i));
-          begun = record { listed = listed_set hs t.head t.limit order order'' turned.listed i c leaver_room e; queued = x.queued };
-        }
-
-      running_passes :
-          length hs ≤ t.cell → (len' : ℕ) (status'' : List ℕ) (spill'' : List Float) (recv'' order'' queue'' : List ℕ)
-          → state_of status'' spill'' recv'' order'' ≡ state_of status' spill recv order → Queued hs t.limit status'' spill'' len' queue''
-          → Running w h land hs i (after t len') status'' spill'' recv'' order'' queue''
-      running_passes m len' status'' spill'' recv'' order'' queue'' e q = record {
-        state =
-            ap (λ (z : Flood Float). state_of z.status z.spill z.discoverer (take i z.order)) e
-            ∙ ap (λ z. state_of z spill recv (take i order)) (turned.same m)
-            ∙ r.state;
-        begun = record {
-          listed = subst (Remaining hs t.head t.limit) (sym (ap (λ (z : Flood Float). z.order) e)) turned.listed;
-          queued = q;
-        };
+      pub leaver : length order ≡ w * h → Leaver hs t.limit c i status' spill order
+      leaver n = record {
+        inside = v.inside;
+        left = left_now;
+        level = leaver_level hs spill t.limit c few (λ b k. grid_heights (w * h) hs a.cells fit a.finites b (omega (arith, a.cells))) good v.low;
+        room = omega arith;
       }
+        where
+          good : Height (get_or spill c nan)
+          good =
+              subst (λ (z : Flood Float). Height (get_or z.spill c nan)) (sym r.state)
+              ((grid_stage w h land hs a.sides a.cells fit a.finites some i (omega arith)).good c inside)
+
+      leaves_next : least_waiting floats (grid_ground w h land hs) hs now_state ≡ c
+      leaves_next =
+          least_waiting_is floats (grid_ground w h land hs) hs now_state (omega (arith, few, a.cells)) c inside (eq-eqb (get_or status c 0) 1 v.waited)
+          (λ b k e. v.least b (eqb-true (get_or status b 0) 1 e))
 
       pub running_more :
-          length order ≡ w * h → (len' k : ℕ) (status'' : List ℕ) (spill'' : List Float) (recv'' order'' queue'' : List ℕ)
-          → Onward w h hs i t (state_of status' spill recv order) len' (state_of status'' spill'' recv'' order'') queue''
-          → k ≡ cond (ltb t.cell (length hs)) 1 0
-          → Running w h land hs (i + k) (after t len') status'' spill'' recv'' order'' queue''
-      running_more n len' k status'' spill'' recv'' order'' queue'' o e = elim (dec_lt t.cell (length hs)) [
-        | yes m ↦
-            subst (λ j. Running w h land hs j (after t len') status'' spill'' recv'' order'' queue'') (one_more m)
-            (running_leaves m len' status'' spill'' recv'' order'' queue'' n (o.joins m) (o.reached m))
-        | no m ↦
-            subst (λ j. Running w h land hs j (after t len') status'' spill'' recv'' order'' queue'') (no_more (omega arith))
-            (running_passes (omega arith) len' status'' spill'' recv'' order'' queue'' (o.stays (omega arith)) o.queued)
-      ]
-        where
-          one_more : t.cell < length hs → i + 1 ≡ i + k
-          one_more m = ap (λ j. i + j) (sym (e ∙ ap (λ b. cond b 1 0) (lt-ltb t.cell (length hs) m)))
-
-          no_more : length hs ≤ t.cell → i ≡ i + k
-          no_more m = omega (arith, e ∙ ap (λ b. cond b 1 0) (le-ltb t.cell (length hs) m))
-
-      -- a turn brings a cell to the order or the scan onward
-      pub turn_less : (k : ℕ) → k ≡ cond (ltb t.cell (length hs)) 1 0 → (i + k ≤ w * h) × (w * h - (i + k) + (w * h - t.head) < w * h - i + (w * h - s.head))
-      turn_less k e = elim (dec_lt t.cell (length hs)) [
-        | yes m ↦
-            let one-now : k ≡ 1 = e ∙ ap (λ b. cond b 1 0) (lt-ltb t.cell (length hs) m) in
-            (omega arith, omega (arith, turned.onward))
-        | no m ↦
-            let none-now : k ≡ 0 = e ∙ ap (λ b. cond b 1 0) (le-ltb t.cell (length hs) (omega arith)) in
-            (omega arith, omega (arith, turned.passes (omega arith), turned.listed.few, turned.listed.long, a.cells))
-      ]
+          (len' : ℕ) (status'' : List ℕ) (spill'' : List Float) (recv'' order'' queue'' : List ℕ) → length order ≡ w * h → order'' ≡ set order i c
+          → ReachedAll w h hs t.limit c (slices_of (state_of status' spill recv order)) len' (slices_of (state_of status'' spill'' recv'' order'')) queue''
+          → Running w h land hs (i + 1) (after t len') status'' spill'' recv'' order'' queue''
+      running_more len' status'' spill'' recv'' order'' queue'' n e x = record {
+        state =
+            ap (state_of status'' spill'' recv'') (ap (take (i + 1)) e ∙ ap (λ n. take n (set order i c)) (add-one i) ∙ take-suc-set order i c (omega arith))
+            ∙ x.state land.distances _ (take i order ++ (c ∷ []))
+            ∙ ap (λ z. Rattle.drainage.specs.Flood.push_all floats (grid_ground w h land hs) hs c (state_of z spill recv (take i order ++ (c ∷ [])))) v.marked
+            ∙ sym (step_leaves floats (grid_ground w h land hs) hs now_state c leaves_next inside)
+            ∙ ap (flood_step floats (grid_ground w h land hs) hs) r.state
+            ∙ sym (flood_after_more floats (grid_ground w h land hs) hs i)
+            ∙ ap (flood_after floats (grid_ground w h land hs) hs) (sym (add-one i));
+        begun = record { listed = listed_set hs t.head t.limit order order'' turned.listed i c leaver_room e; queued = x.queued };
+      }
 
     pub running_done : i ≤ w * h → w * h ≤ i → length order ≡ w * h → Flooded w h land hs order recv spill
     running_done lo hi n = record {

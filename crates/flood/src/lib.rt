@@ -2,13 +2,12 @@
 // neighbours, until all have left. The result is that of the flood that crates/drainage defines.
 #![tactic(auto)]
 
-ghost use Rattle.std.specs.Prelude.{◌*◌, ◌<◌, ◌≡◌, false, cond, length, ltb};
-ghost use Rattle.grid.specs.Sides.{InRange};
+ghost use Rattle.std.specs.Prelude.{◌*◌, ◌≡◌, false, length};
 ghost use Rattle.drainage.specs.Ground.{grid_ground, no_base};
-ghost use Rattle.flood_queue.specs.Scans.{Queued};
-ghost use Rattle.flood_start.specs.Slices.{state_of, Sizes};
+ghost use Rattle.flood_queue.specs.Scans.{ScanReady, Waits};
+ghost use Rattle.flood_start.specs.Slices.{Sizes};
 ghost use Rattle.flood.specs.Slices.{AcceptedGrid, Flooded};
-ghost use Rattle.flood.specs.Steps.{Leaver, Onward};
+ghost use Rattle.flood.specs.Steps.{NextLeaver};
 
 use drainage::Land;
 use flood_queue::{Scan, begin, turn};
@@ -17,44 +16,27 @@ use flood_sort::sort_cells;
 use flood_start::start;
 use grid::Sides;
 
-// Stores the cell that has left, if there is one, as entry i of the order and lets it reach its neighbours. Returns the
-// number of cells in the heap.
-fn leave(
-    g: Sides,
+// Turns the scan until a cell leaves. Returns the scan then, and that cell.
+fn next_leaver(
     h: &[f32],
-    i: usize,
-    s: Scan,
-    order: &mut [u32],
-    recv: &mut [u32],
-    spill: &mut [f32],
+    list: &[u32],
+    mut scan: Scan,
+    spill: &[f32],
     queue: &mut [u32],
     status: &mut [u8],
-) -> usize
-    requires in_range { InRange g.w g.h }
-    requires sizes { Sizes (g.w * g.h) h.now status.old spill.old recv.old queue.old }
-    requires queued { Queued h.now s.limit status.old spill.old s.len queue.old }
-    requires leaver { s.cell < length h.now → Leaver h.now s.limit s.cell i status.old spill.old order.old }
-    ensures { Onward g.w g.h h.now i s
-        (state_of status.old spill.old recv.old order.old) result
-        (state_of status.new spill.new recv.new order.new)
-        queue.new }
+) -> (Scan, usize)
+    requires scan_ready { ScanReady h.now list.now status.old spill.now scan queue.old }
+    requires waits { Waits status.old }
+    ensures { NextLeaver h.now list.now status.old spill.now result.0 result.1
+        status.new queue.new }
 {
-    let c = s.cell;
-    if h.len() <= c {
-        return s.len;
+    // A `loop`: after how many turns a cell leaves is not known before.
+    loop {
+        match turn(h, list, scan, spill, queue, status) {
+            (next, Some(c)) => return (next, c),
+            (next, None) => scan = next,
+        }
     }
-    order[i] = c as u32;
-    reach_all(g, h, s.limit, c, s.len, status, spill, recv, queue)
-}
-
-// 1 if a cell has left, else 0.
-fn leavers(s: Scan, n: usize) -> usize
-    ensures { result ≡ cond (ltb s.cell n) 1 0 }
-{
-    if s.cell < n {
-        return 1;
-    }
-    0
 }
 
 // The whole flood of a grid where some cell is base level: stores the order, the discoverers (in `recv`) and the spill
@@ -76,20 +58,13 @@ pub fn flood(
     ensures { Flooded g.w g.h land h.now order.new recv.new
         spill.new }
 {
-    let n = h.len();
     let sorted = sort_cells(h, order, recv);
     start(g, h, land, status, spill, recv);
-    let mut s = begin(sorted, h, order, status, spill, queue);
-    let mut i: usize = 0;
-    while i < n {
-        let t = turn(h, order, s, spill, queue, status);
-        let len = leave(g, h, i, t, order, recv, spill, queue, status);
-        i += leavers(t, n);
-        s = Scan {
-            head: t.head,
-            limit: t.limit,
-            len: len,
-            cell: t.cell,
-        };
+    let mut scan = begin(sorted, h, order, status, spill, queue);
+    for i in 0..h.len() {
+        let (next, c) = next_leaver(h, order, scan, spill, queue, status);
+        order[i] = c as u32;
+        let len = reach_all(g, h, next.limit, c, next.len, status, spill, recv, queue);
+        scan = Scan { len, ..next };
     }
 }

@@ -68,8 +68,8 @@ module _ (hs : List Float) (list status : List ℕ) (spill : List Float) (queue 
   waiting_cell c w = omega (arith, waits_inside status c w, b.statuses)
 
   pub begun_sorted :
-      is_sorted hs list ≡ true → (limit n : ℕ) → limit ≡ limit_of hs list 0 → ScanBegun hs list status spill (record { head = 0; limit = limit; len = 0; cell = n }) queue
-  begun_sorted e limit n f = record {
+      is_sorted hs list ≡ true → (limit : ℕ) → limit ≡ limit_of hs list 0 → ScanBegun hs list status spill (record { head = 0; limit = limit; len = 0 }) queue
+  begun_sorted e limit f = record {
     listed = listed_start hs list (sorted hs list e) limit f;
     queued = record {
       heap = heap_none (queue_place spill) (length spill) queue;
@@ -86,7 +86,7 @@ module _ (hs : List Float) (list status : List ℕ) (spill : List Float) (queue 
 
   pub begun_gathered :
       Fit hs → (len n : ℕ) (queue' : List ℕ) → n ≡ length hs → Gathered status spill (length status) len queue'
-      → ScanBegun hs list status spill (record { head = n; limit = endless; len = len; cell = n }) queue'
+      → ScanBegun hs list status spill (record { head = n; limit = endless; len = len }) queue'
   begun_gathered fit len n queue' e g = record {
     listed = subst (λ n. Remaining hs n endless list) (sym e) (listed_end hs list fit b.few b.lists);
     queued = record {

@@ -9,6 +9,7 @@ use native.Mathlib.Omega.{arith}
 use lib.ListN.{length, get_or, set, length-set}
 use lib.Seq.{get_or-set_same, get_or-set_other}
 use lib.Dec.{ltb}
+use Rattle.std.specs.Prelude.{Some, None}
 use lib.Ieee.{Float, nan}
 use borrow.Author.Tests.{lt-ltb, le-ltb, ltb-true, ltb-false}
 use Rattle.floats.specs.Key.{key_of}
@@ -25,7 +26,7 @@ use Rattle.flood_heap.specs.Queue.{queue_place, within, Popped}
 use Rattle.flood_heap.proofs.HeapLaws.{root_least}
 use Rattle.flood_heap.proofs.RoomLaws.{times_at}
 use Rattle.flood_queue.specs.declared.Scan.{Scan}
-use Rattle.flood_queue.specs.Scans.{limit_of, Remaining, Queued, Level, Turned, ScanReady, Waits}
+use Rattle.flood_queue.specs.Scans.{limit_of, Remaining, Queued, Level, Leaves, Turned, ScanReady, Waits}
 use Rattle.flood_queue.proofs.ListedLaws.{below_endless, first_inside, first_place, limit_end, limit_own, limit_rises, listed_next, queued_past, waits_inside}
 
 -- ---- the heap
@@ -145,20 +146,20 @@ module _ (hs : List Float) (list status : List ℕ) (spill : List Float) (s : Sc
   pub turned_heap :
       (b : Bool) → b ≡ (ltb 0 s.len && ltb (queue_place spill (get_or queue 0 0)) s.limit) → b ≡ true → (c : ℕ) (queue' : List ℕ)
       → Popped (queue_place spill) (length spill) s.len queue c queue'
-      → Turned hs list s.head status spill (record { head = s.head; limit = s.limit; len = s.len - 1; cell = c }) (set status c 2) queue'
+      → Turned hs list s.head status spill (record { head = s.head; limit = s.limit; len = s.len - 1 }) (Some c) (set status c 2) queue'
   turned_heap b e f c queue' p = record {
     listed = r.begun.listed;
     queued = queued_popped hs s.limit status spill s.len queue r.begun.queued c queue' p (omega (arith, inside, r.statuses));
     onward = omega arith;
-    leaves = λ _. record {
+    leaves = λ b z. let same : c ≡ b = cc in subst (λ b. Leaves hs s.limit b status spill (set status c 2)) same (record {
       inside = inside;
       waited = waited hs s.limit status spill s.len queue r.begun.queued c queue' p;
       least = least_waiting_lem hs s.limit status spill s.len queue r.begun.queued (queue_place spill c) (omega (arith, low)) p.least;
       marked = refl;
       low = low;
-    };
-    passes = λ (l : length hs ≤ c). let z : ⊥ = omega (arith, inside) in absurd z;
-    same = λ (l : length hs ≤ c). let z : ⊥ = omega (arith, inside) in absurd z;
+    });
+    passes = λ z. let no : ⊥ = cc in absurd no;
+    same = λ z. let no : ⊥ = cc in absurd no;
   }
     where
       inside : c < length hs
@@ -178,14 +179,14 @@ module _ (hs : List Float) (list status : List ℕ) (spill : List Float) (s : Sc
     -- which does not wait
     pub turned_past :
         (get_or status cell 0 ≡ 1 → ⊥)
-        → Turned hs list s.head status spill (record { head = s.head + 1; limit = limit'; len = s.len; cell = length hs }) status queue
+        → Turned hs list s.head status spill (record { head = s.head + 1; limit = limit'; len = s.len }) None status queue
     turned_past d = record {
       listed = listed_next hs list s.head s.limit r.begun.listed l fit r.few limit' e;
       queued =
           queued_past hs list s.head s.limit r.begun.listed l fit r.few limit' e status status spill s.len queue r.begun.queued r.statuses
           (λ c _. refl) d (λ z. z);
       onward = omega arith;
-      leaves = λ (m : length hs < length hs). let z : ⊥ = omega arith in absurd z;
+      leaves = λ b z. let no : ⊥ = cc in absurd no;
       passes = λ _. omega arith;
       same = λ _. refl;
     }
@@ -193,22 +194,22 @@ module _ (hs : List Float) (list status : List ℕ) (spill : List Float) (s : Sc
     -- which leaves
     pub turned_leaves :
         get_or status cell 0 ≡ 1 → ((x : ℕ) → 0 < within x s.len queue → s.limit ≤ queue_place spill x)
-        → Turned hs list s.head status spill (record { head = s.head + 1; limit = limit'; len = s.len; cell = cell }) (set status cell 2) queue
+        → Turned hs list s.head status spill (record { head = s.head + 1; limit = limit'; len = s.len }) (Some cell) (set status cell 2) queue
     turned_leaves w low = record {
       listed = listed_next hs list s.head s.limit ls l fit r.few limit' e;
       queued =
           queued_past hs list s.head s.limit ls l fit r.few limit' e status (set status cell 2) spill s.len queue r.begun.queued
           (length-set status cell 2 ∙ r.statuses) (λ c d. get_or-set_other status cell c 2 0 d) unlike (λ z. absurd (unlike_zero two z));
       onward = omega arith;
-      leaves = λ _. record {
+      leaves = λ b z. let same : cell ≡ b = cc in subst (λ b. Leaves hs limit' b status spill (set status cell 2)) same (record {
         inside = inside;
         waited = w;
         least = λ b v. omega (arith, place, least_waiting_lem hs s.limit status spill s.len queue r.begun.queued s.limit (omega arith) low b v);
         marked = refl;
         low = omega (arith, place, limit_rises hs list s.head s.limit ls l fit r.few limit' e);
-      };
-      passes = λ (m : length hs ≤ cell). let z : ⊥ = omega (arith, inside) in absurd z;
-      same = λ (m : length hs ≤ cell). let z : ⊥ = omega (arith, inside) in absurd z;
+      });
+      passes = λ z. let no : ⊥ = cc in absurd no;
+      same = λ z. let no : ⊥ = cc in absurd no;
     }
       where
         ls : Remaining hs s.head s.limit list

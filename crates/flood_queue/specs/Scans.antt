@@ -1,6 +1,6 @@
 -- The queue of the flood: a scan of the cells in the order of their own heights, and a heap of the waiting cells that
 -- it has passed.
-use Rattle.std.specs.Prelude.{ℕ, ◌+◌, ◌^◌, ◌≤◌, ◌<◌, ◌≡◌, Bool, ◌&&◌, cond, List, length, get_or, set, ltb, leb, Float}
+use Rattle.std.specs.Prelude.{ℕ, ◌+◌, ◌^◌, ◌≤◌, ◌<◌, ◌≡◌, Bool, ◌&&◌, cond, Option, Some, None, List, length, get_or, set, ltb, leb, Float}
 use Rattle.std.specs.Float.{nan}
 use Rattle.floats.specs.Stand.{max_of}
 use Rattle.loops.specs.Counts.{one_if, count_below}
@@ -94,10 +94,10 @@ pub record Leaves (hs : List Float) (limit c : ℕ) (status : List ℕ) (spill :
   pub low : queue_place spill c < limit
 
 -- A turn of the scan: the least waiting cell leaves, or the cell at entry head, which does not wait, is passed.
-pub record Turned (hs : List Float) (list : List ℕ) (head : ℕ) (status : List ℕ) (spill : List Float) (r : Scan) (status' queue' : List ℕ) : Type 0 where
+pub record Turned (hs : List Float) (list : List ℕ) (head : ℕ) (status : List ℕ) (spill : List Float) (r : Scan) (left : Option ℕ) (status' queue' : List ℕ) : Type 0 where
   pub listed : Remaining hs r.head r.limit list
   pub queued : Queued hs r.limit status' spill r.len queue'
   pub onward : head ≤ r.head
-  pub leaves : r.cell < length hs → Leaves hs r.limit r.cell status spill status'
-  pub passes : length hs ≤ r.cell → head < r.head
-  pub same : length hs ≤ r.cell → status' ≡ status
+  pub leaves : (c : ℕ) → left ≡ Some c → Leaves hs r.limit c status spill status'
+  pub passes : left ≡ None → head < r.head
+  pub same : left ≡ None → status' ≡ status

@@ -3,37 +3,27 @@
 // begins at its end, and every waiting cell is in the heap.
 #![tactic(auto)]
 
-ghost use Rattle.std.specs.Prelude.{ℕ, ◌+◌, ◌^◌, ◌≤◌, ◌<◌, ◌≡◌, ◌&&◌, length, get_or, ltb};
-ghost use Rattle.flood_heap.specs.Queue.{queue_place, within, Heap};
+ghost use Rattle.std.specs.Prelude.{◌^◌, ◌≤◌, ◌<◌, ◌≡◌, ◌&&◌, length, get_or, ltb};
+ghost use Rattle.flood_heap.specs.Queue.{queue_place, Heap};
 ghost use Rattle.flood_sort.specs.Sorted.{is_sorted};
 ghost use Rattle.flood_queue.specs.Scans.{limit_of, Gathered, Begins, ScanBegun, ScanReady, Waits, Turned};
 
 use flood_heap::{place, pop, push};
 
+// The statuses of a cell: not pushed yet, waiting, left. Numbers, not an enum: the bytes are lent from outside.
+pub const UNPUSHED: u8 = 0;
+
+pub const WAITING: u8 = 1;
+
+pub const LEFT: u8 = 2;
+
 // The state of a scan: it stands before entry `head` of the sorted list, and `limit` is the place of that entry's cell.
-// The heap holds `len` cells. `cell` is the cell that leaves, or the number of cells if none does.
+// The heap holds `len` cells.
 #[derive(Clone, Copy)]
 pub struct Scan {
     pub head: usize,
     pub limit: u64,
     pub len: usize,
-    pub cell: usize,
-}
-
-// Adds cell c to the heap of len cells if it waits. Returns the number of cells in the heap.
-fn gather(status: &[u8], spill: &[f32], queue: &mut [u32], len: usize, c: usize) -> usize
-    requires gathered { Gathered status.now spill.now c len queue.old }
-    requires c_in_bounds { c < length status.now }
-    requires status_len { length status.now ≡ length spill.now }
-    requires status_in_bounds { length status.now ≤ length queue.old }
-    requires status_len_bound { length status.now ≤ 2 ^ 24 }
-    ensures { Gathered status.now spill.now (c + 1) result queue.new }
-{
-    if status[c] == 1 {
-        push(queue, len, spill, c as u32);
-        return len + 1;
-    }
-    len
 }
 
 // Adds every waiting cell to an empty heap. Returns the number of them.
@@ -44,30 +34,31 @@ fn gather_all(status: &[u8], spill: &[f32], queue: &mut [u32]) -> usize
     ensures { Gathered status.now spill.now (length status.now) result
         queue.new }
 {
-    let n = status.len();
-    let mut len: usize = 0;
-    let mut c: usize = 0;
-    while c < n {
-        len = gather(status, spill, queue, len, c);
-        c += 1;
+    let mut len = 0;
+    for (c, &mark) in status.iter().enumerate() {
+        if mark == WAITING {
+            push(queue, len, spill, c as u32);
+            len += 1;
+        }
     }
     len
 }
 
 // The limit of a scan that stands before entry `head` of the list: the place of that entry's cell by its height; behind
-// the last entry 2^64 - 1, which is above all places.
+// the last entry 2^64 - 1, which is above all places, so that a place is compared with it as with any other limit.
 fn limit_at(h: &[f32], list: &[u32], head: usize) -> u64
     requires { head < length list.now → get_or list.now head 0 < length h.now }
     ensures { result ≡ limit_of h.now list.now head }
 {
-    if list.len() <= head {
-        return 0xffff_ffff_ffff_ffff;
+    match list.get(head) {
+        Some(&c) => place(c, h),
+        None => u64::MAX,
     }
-    place(list[head], h)
 }
 
 // Returns the first state of the scan: before the first entry of a sorted list with nothing in the heap; or behind a
-// list that is not sorted, with every waiting cell in the heap.
+// list that is not sorted, with every waiting cell in the heap. A flag, not an `Option` of the list: the scan stands
+// behind the list that is not sorted too, and the flood fills its slice.
 pub fn begin(
     sorted: bool,
     h: &[f32],
@@ -81,22 +72,17 @@ pub fn begin(
     ensures { ScanBegun h.now list.now status.now spill.now result
         queue.new }
 {
-    let n = h.len();
     if sorted {
-        let limit = limit_at(h, list, 0);
         return Scan {
             head: 0,
-            limit: limit,
+            limit: limit_at(h, list, 0),
             len: 0,
-            cell: n,
         };
     }
-    let len = gather_all(status, spill, queue);
     Scan {
-        head: n,
-        limit: 0xffff_ffff_ffff_ffff,
-        len: len,
-        cell: n,
+        head: h.len(),
+        limit: u64::MAX,
+        len: gather_all(status, spill, queue),
     }
 }
 
@@ -105,45 +91,12 @@ fn heap_first(queue: &[u32], len: usize, spill: &[f32], limit: u64) -> bool
     requires { Heap (queue_place spill.now) (length spill.now) len queue.now }
     ensures { result ≡ ltb 0 len && ltb (queue_place spill.now (get_or queue.now 0 0)) limit }
 {
-    if len == 0 {
-        return false;
-    }
-    place(queue[0], spill) < limit
-}
-
-// Moves the scan past the cell at its entry, which leaves if it waits. Returns the new state; its `cell` is the number
-// of cells if none leaves. The cells that the scan has not passed have their own heights as spill heights, so that only
-// `spill` is read.
-fn pass(h: &[f32], list: &[u32], s: Scan, spill: &[f32], queue: &[u32], status: &mut [u8]) -> Scan
-    requires scan_ready { ScanReady h.now list.now status.old spill.now s queue.now }
-    requires head_in_bounds { s.head < length list.now }
-    requires by_index { (b : ℕ) → 0 < within b s.len queue.now → s.limit ≤ queue_place spill.now b }
-    ensures { Turned h.now list.now s.head status.old spill.now result
-        status.new queue.now }
-{
-    let head = s.head;
-    let c = list[head];
-    let at = c as usize;
-    let limit = limit_at(spill, list, head + 1);
-    if status[at] != 1 {
-        return Scan {
-            head: head + 1,
-            limit: limit,
-            len: s.len,
-            cell: h.len(),
-        };
-    }
-    status[at] = 2;
-    Scan {
-        head: head + 1,
-        limit: limit,
-        len: s.len,
-        cell: at,
-    }
+    len != 0 && place(queue[0], spill) < limit
 }
 
 // One turn of the scan: the heap's first cell leaves if it comes before the cell at the scan's entry; else the scan
-// passes that cell, which leaves if it waits. Returns the new state.
+// passes that cell, which leaves if it waits. Returns the new state and the cell that leaves, if one does. Of `h` the
+// contract alone speaks: the cells that the scan has not passed have their own heights as spill heights.
 pub fn turn(
     h: &[f32],
     list: &[u32],
@@ -151,23 +104,31 @@ pub fn turn(
     spill: &[f32],
     queue: &mut [u32],
     status: &mut [u8],
-) -> Scan
+) -> (Scan, Option<usize>)
     requires scan_ready { ScanReady h.now list.now status.old spill.now s queue.old }
     requires waits { Waits status.old }
-    ensures { Turned h.now list.now s.head status.old spill.now result
+    ensures { Turned h.now list.now s.head status.old spill.now result.0 result.1
         status.new queue.new }
 {
-    let len = s.len;
-    if heap_first(queue, len, spill, s.limit) {
-        let c = pop(queue, len, spill);
-        let at = c as usize;
-        status[at] = 2;
-        return Scan {
-            head: s.head,
-            limit: s.limit,
-            len: len - 1,
-            cell: at,
+    if heap_first(queue, s.len, spill, s.limit) {
+        let c = pop(queue, s.len, spill) as usize;
+        status[c] = LEFT;
+        let next = Scan {
+            len: s.len - 1,
+            ..s
         };
+        return (next, Some(c));
     }
-    pass(h, list, s, spill, queue, status)
+    let c = list[s.head] as usize;
+    let limit = limit_at(spill, list, s.head + 1);
+    let next = Scan {
+        head: s.head + 1,
+        limit,
+        len: s.len,
+    };
+    if status[c] != WAITING {
+        return (next, None);
+    }
+    status[c] = LEFT;
+    (next, Some(c))
 }

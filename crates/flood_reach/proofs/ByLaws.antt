@@ -4,13 +4,10 @@ use mathlib.Core.Path.{◌≡◌, refl, sym, ap, ◌∙◌, subst}
 use mathlib.Core.Bool.{Bool}
 use mathlib.Core.List.{List, [], ◌∷◌, ◌++◌}
 use native.Mathlib.Numerals.{add-one}
-use native.Mathlib.Omega.{arith}
 use lib.ListN.{length, get_or, take}
 use lib.Seq.{take-suc, take_all}
 use lib.Ieee.{Float}
 use Rattle.loops.specs.Loops.{tabulate}
-use Rattle.loops.proofs.LoopLaws.{at_end}
-use Rattle.loops.proofs.TableLaws.{length_tabulate}
 use Rattle.grid.specs.Directions.{neighbour_at}
 use Rattle.grid_spacing.specs.declared.Distances.{Distances}
 use Rattle.drainage.specs.Ground.{floats, ground_by}
@@ -57,12 +54,9 @@ module _ (hs : List Float) (limit c : ℕ) (lent : FloodSlices) where
         (ap (λ l. l ++ (get_or found i 0 ∷ [])) e ∙ sym (take-suc found i 0 l) ∙ ap (λ i. take i found) (sym (add-one i)))
         (reached_cell (get_or found i 0) len₂ lent₂ queue₂ s)
 
-    -- the first `some` of it are reached
-    pub reached_end :
-        (found : List ℕ) (some i : ℕ) → i ≤ some → some ≤ i → cells ≡ take i found
-        → ReachedBy hs limit c (take some found) lent len₁ lent₁ queue₁
-    reached_end found some i a b e =
-        subst (λ l. ReachedBy hs limit c l lent len₁ lent₁ queue₁) (at_end (λ (i : ℕ). take i found) e a b) r
+    -- all of it are reached
+    pub reached_end : (found : List ℕ) (i : ℕ) → length found ≤ i → cells ≡ take i found → ReachedBy hs limit c found lent len₁ lent₁ queue₁
+    reached_end found i b e = subst (λ l. ReachedBy hs limit c l lent len₁ lent₁ queue₁) (e ∙ take_all i found b) r
 
     all_reached :
         (w h : ℕ)
@@ -72,11 +66,10 @@ module _ (hs : List Float) (limit c : ℕ) (lent : FloodSlices) where
     all_reached w h e = record { state = λ ds base order. r.state (ground_by w h ds base) order ∙ e ds base order; queued = r.queued }
 
     -- all the neighbours are reached
-    pub all_near : (w h : ℕ) (found : List ℕ) → found ≡ tabulate 8 (λ i. neighbour_at w h c (suc i)) → cells ≡ take 8 found → ReachedAll w h hs limit c lent len₁ lent₁ queue₁
-    all_near w h found f e =
+    pub all_near : (w h : ℕ) → cells ≡ tabulate 8 (λ i. neighbour_at w h c (suc i)) → ReachedAll w h hs limit c lent len₁ lent₁ queue₁
+    all_near w h e =
         all_reached w h (λ ds base order.
-        ap (λ l. pushed_by floats (ground_by w h ds base) hs c l (state_with lent order))
-        (e ∙ take_all 8 found (omega (arith, ap length f, length_tabulate (λ i. neighbour_at w h c (suc i)) 8)) ∙ f)
+        ap (λ l. pushed_by floats (ground_by w h ds base) hs c l (state_with lent order)) e
         ∙ pushed_by_near floats (ground_by w h ds base) hs c 8 (state_with lent order))
 
     -- so they are once those not pushed yet are

@@ -1,11 +1,12 @@
 -- Laws of the first state: rows of marks are the list of marks, spill heights are heights, and no cell has left.
 use Prim.Native.Nat.{ℕ, ◌*◌, ◌<◌}
-use mathlib.Core.Path.{◌≡◌, sym, ap, ◌∙◌}
+use mathlib.Core.Path.{◌≡◌, refl, sym, ap, ◌∙◌}
 use mathlib.Core.Bool.{Bool, true, false, cond}
 use mathlib.Core.List.{List, []}
 use native.Mathlib.Omega.{arith}
 use lib.ListN.{get_or, get_or-eq_default}
 use lib.Ieee.{Float, nan}
+use mir.Val.{bool_byte}
 use Rattle.loops.specs.Loops.{tabulate}
 use Rattle.loops.proofs.TableLaws.{length_tabulate, get_d_tabulate}
 use Rattle.grid.specs.Sides.{cell_of}
@@ -14,6 +15,11 @@ use Rattle.grid.proofs.BaseLaws.{base_cell}
 use Rattle.drainage.specs.Flood.{Flood, flood_start}
 use Rattle.drainage.specs.declared.Land.{Land}
 use Rattle.flood_start.specs.Slices.{state_of, mark_of, Started}
+
+-- the number of a flag
+pub flag_number : (b : Bool) → bool_byte b ≡ cond b 1 0
+flag_number true = refl
+flag_number false = refl
 
 module _ (w h : ℕ) (hs : List Float) (land : Land) where
   -- the marks of all cells, and that of column x, row y

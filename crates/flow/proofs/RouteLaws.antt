@@ -1,4 +1,6 @@
 -- Laws of the public call: which answer the tests give, what is accepted, and what the slices hold then.
+use Rattle.std.specs.declared.result.Result.TheVariants.{Ok}
+use Rattle.answers.specs.Outcome.{Answer}
 use Prim.Native.Nat.{ℕ, ◌*◌}
 use mathlib.Core.Path.{◌≡◌, refl, sym, ap, ◌∙◌, subst}
 use mathlib.Core.Bool.{Bool, true, false, not, ◌&&◌, cond}
@@ -9,7 +11,6 @@ use lib.Ieee.Scale.{finite}
 use borrow.Author.Tests.{eqb-true, ltb-false, not-true, not-false}
 use Rattle.loops.proofs.TestLaws.{neither, both, clash}
 use Rattle.answers.specs.Outcome.{Outcome, gives, refused, refused_at, answer_of, given}
-use Rattle.answers.specs.declared.Answer.{Answer}
 use Rattle.grid.specs.Sides.{bad_sides}
 use Rattle.grid.specs.Heights.{first_not_finite, all_finite}
 use Rattle.grid.proofs.SidesLaws.{good_sides}
@@ -83,11 +84,11 @@ module _ (w h : ℕ) (hs : List Float) (water : Float) (old : NetSlices) where
   routed_refused r e f =
       record { answer = e; routed = λ y. absurd (clash y (answered w h hs water (lent_by hs old) r e ∙ f)); kept = λ _. refl }
 
-  pub routed_done : answer_of Answer.Done ≡ route_answer w h hs water (lent_by hs old) → (new : NetSlices) {land : Land} → land ≡ square_land water
-      → Holding w h hs land new.order new.recv new.spill new.area → Routed w h hs water old Answer.Done new
+  pub routed_done : answer_of {A = Unit {0}} (Ok tt) ≡ route_answer w h hs water (lent_by hs old) → (new : NetSlices) {land : Land} → land ≡ square_land water
+      → Holding w h hs land new.order new.recv new.spill new.area → Routed w h hs water old (Ok tt) new
   routed_done e new g s =
       record {
         answer = e;
         routed = λ _. subst (λ (l : Land). Holding w h hs l new.order new.recv new.spill new.area) g s;
-        kept = λ f. absurd (clash (answered w h hs water (lent_by hs old) Answer.Done e) f);
+        kept = λ f. absurd (clash (answered w h hs water (lent_by hs old) (Ok tt) e) f);
       }

@@ -1,9 +1,9 @@
 -- `route` of document 01, 'Network': flood, receivers, areas of a grid, with its refusals.
+use Rattle.answers.specs.Outcome.{Answer}
 use Rattle.std.specs.Prelude.{ℕ, ◌*◌, ◌≤◌, ◌≡◌, Bool, true, false, not, ◌||◌, cond, List, length, eqb, ltb, Float}
 use Rattle.std.specs.Float.Ieee.Scale.{finite}
 use Rattle.drainage.specs.Routing.{order_on, receivers_on, spill_on, areas_on}
 use Rattle.answers.specs.Outcome.{Outcome, gives, refused, refused_at, given, answer_of}
-use Rattle.answers.specs.declared.Answer.{Answer}
 use Rattle.grid.specs.Sides.{bad_sides}
 use Rattle.grid.specs.Heights.{first_not_finite, all_finite}
 use Rattle.drainage.specs.Ground.{grid_ground, square_land}

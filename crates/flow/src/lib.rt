@@ -8,7 +8,7 @@ ghost use Rattle.drainage.specs.Ground.{grid_ground, no_base};
 ghost use Rattle.flood.specs.Slices.{AcceptedGrid};
 ghost use Rattle.flow.specs.Route.{bad_net_lengths, route_answer, lent_of, Enough, Holding, Routed};
 
-use answers::{Answer, Refusal};
+use answers::Refusal;
 use areas::areas_along;
 use drainage::{Land, square_land};
 use floats::is_finite;
@@ -32,47 +32,34 @@ pub struct Lent {
 fn bad_lengths(n: usize, l: Lent) -> bool
     ensures { result ≡ bad_net_lengths n l }
 {
-    if l.heights != n {
-        return true;
-    }
-    if l.order != n {
-        return true;
-    }
-    if l.receivers != n {
-        return true;
-    }
-    if l.spill != n {
-        return true;
-    }
-    if l.areas != n {
-        return true;
-    }
-    if l.queue < n {
-        return true;
-    }
-    l.status < n
+    l.heights != n
+        || l.order != n
+        || l.receivers != n
+        || l.spill != n
+        || l.areas != n
+        || l.queue < n
+        || l.status < n
 }
 
-// Returns the first refusal of `route` in document 01's number order, `Done` where there is none.
-fn refusal(size: Sides, h: &[f32], water_level: f32, l: Lent) -> Answer
+// Returns the first refusal of `route` in document 01's number order, `Ok` where there is none.
+fn refusal(size: Sides, h: &[f32], water_level: f32, l: Lent) -> Result<(), Refusal>
     requires { l.heights ≡ length h.now }
     ensures { answer_of result ≡ route_answer size.w size.h h.now water_level l }
 {
     if bad_sides(size) {
-        return Answer::Refused(Refusal::Side);
+        return Err(Refusal::Side);
     }
     let n = size.w * size.h;
     if bad_lengths(n, l) {
-        return Answer::Refused(Refusal::Length);
+        return Err(Refusal::Length);
     }
     if !is_finite(water_level) {
-        return Answer::Refused(Refusal::Setting);
+        return Err(Refusal::Setting);
     }
-    let bad = first_not_finite(size, h);
-    if bad != n {
-        return Answer::Refused(Refusal::Height(bad));
+    if let Some(bad) = first_not_finite(size, h) {
+        return Err(Refusal::Height(bad));
     }
-    Answer::Done
+    Ok(())
 }
 
 // Routes a grid that is not refused and has a base cell: flood, receivers, areas. For whole runs, which check their
@@ -113,7 +100,7 @@ pub fn route(
     area: &mut [f32],
     queue: &mut [u32],
     status: &mut [u8],
-) -> Answer
+) -> Result<(), Refusal>
     ensures { Routed size.w size.h h.now water_level
         (record {
           order = order.old;
@@ -141,11 +128,8 @@ pub fn route(
         queue: queue.len(),
         status: status.len(),
     };
-    let answer = refusal(size, h, water_level, lent);
-    let Answer::Done = answer else {
-        return answer;
-    };
+    refusal(size, h, water_level, lent)?;
     let land = square_land(water_level);
     route_grid(size, h, land, order, recv, spill, area, queue, status);
-    Answer::Done
+    Ok(())
 }

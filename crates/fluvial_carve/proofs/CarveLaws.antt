@@ -1,6 +1,10 @@
 -- A routing that is not refused gives what the incision after it asks, and both together are what `carve` promises.
+use Rattle.std.specs.declared.result.Result.TheVariants.{Ok, Err}
+use Rattle.answers.specs.declared.Refusal.{Refusal}
+use Rattle.answers.proofs.OutcomeLaws.{refused_given}
+use Rattle.answers.specs.Outcome.{Answer}
 use Prim.Native.Nat.{ℕ, ◌*◌}
-use mathlib.Core.Path.{◌≡◌, refl, sym, ap, ◌∙◌}
+use mathlib.Core.Path.{◌≡◌, refl, sym, ap, ◌∙◌, subst}
 use mathlib.Core.Bool.{Bool, true, false}
 use mathlib.Core.List.{List}
 use lib.ListN.{length}
@@ -8,7 +12,6 @@ use lib.Ieee.{Float}
 use Rattle.float_order.specs.Fit.{Fit}
 use Rattle.loops.proofs.TestLaws.{clash}
 use Rattle.answers.specs.Outcome.{answer_of, given}
-use Rattle.answers.specs.declared.Answer.{Answer}
 use Rattle.grid_spacing.specs.Distances.{square_distances}
 use Rattle.grid_spacing.specs.declared.Distances.{Distances}
 use Rattle.drainage.specs.Ground.{ground_by, grid_ground, square_land}
@@ -40,10 +43,12 @@ module _ (w h : ℕ) (hs : List Float) (p : FluvialParams) (old : NetSlices) whe
 
   module _ (r : Answer) {new : NetSlices} (e : Routed w h hs water old r new) where
     -- refused by the routing
-    pub carve_refused : given (answer_of r) ≡ false → CarveMade w h hs p old r new
-    carve_refused f = record { answer = e.answer; carved = λ y. absurd (clash y (answered w h hs water lent r e.answer ∙ f)); kept = e.kept }
+    pub carve_refused : {why : Refusal} → r ≡ Err why → CarveMade w h hs p old (Err why) new
+    carve_refused f =
+        subst (λ (a : Answer). CarveMade w h hs p old a new) f
+        (record { answer = e.answer; carved = λ y. absurd (clash y (answered w h hs water lent r e.answer ∙ refused_given f)); kept = e.kept })
 
-    module _ (told : r ≡ Answer.Done) where
+    module _ (told : r ≡ Ok tt) where
       yes : accepted w h hs water lent ≡ true
       yes = answered w h hs water lent r e.answer ∙ ap (λ (a : Answer). given (answer_of a)) told
 
@@ -68,7 +73,7 @@ module _ (w h : ℕ) (hs : List Float) (p : FluvialParams) (old : NetSlices) whe
       -- the incision along it
       pub carve_done :
           {ds : Distances} {cut drained : List Float} → ds ≡ square_distances → Carved w h hs p ds new.recv new.order (record { out = cut; area = drained })
-          → CarveMade w h hs p old Answer.Done
+          → CarveMade w h hs p old (Ok tt)
           (record { order = new.order; recv = new.recv; spill = cut; area = drained; queue = new.queue; status = new.status })
       carve_done d c = record {
         answer = ap answer_of (sym told) ∙ e.answer;

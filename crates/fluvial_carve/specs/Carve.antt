@@ -1,8 +1,8 @@
 -- A routing and the incision along the network that it found.
+use Rattle.answers.specs.Outcome.{Answer}
 use Rattle.std.specs.Prelude.{ℕ, ◌≡◌, true, false, List, Float}
 use Rattle.drainage.specs.Routing.{order_on, receivers_on, areas_on}
 use Rattle.answers.specs.Outcome.{answer_of}
-use Rattle.answers.specs.declared.Answer.{Answer}
 use Rattle.drainage.specs.Ground.{grid_ground, square_land}
 use Rattle.drainage.specs.declared.Land.{Land}
 use Rattle.flow.specs.Route.{NetSlices, lent_by, route_answer, accepted}

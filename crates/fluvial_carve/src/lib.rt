@@ -7,7 +7,7 @@ ghost use Rattle.flood.specs.Slices.{AcceptedGrid};
 ghost use Rattle.flow.specs.Route.{lent_of, Enough};
 ghost use Rattle.fluvial_carve.specs.Carve.{Carves, CarveMade};
 
-use answers::Answer;
+use answers::Refusal;
 use drainage::Land;
 use flow::{route, route_grid};
 use fluvial_erosion::{FluvialParams, incise_along, incise_into};
@@ -52,7 +52,7 @@ pub fn carve(
     area: &mut [f32],
     queue: &mut [u32],
     status: &mut [u8],
-) -> Answer
+) -> Result<(), Refusal>
     ensures { CarveMade size.w size.h hmap.now params
         (record {
           order = order.old;
@@ -72,11 +72,8 @@ pub fn carve(
         }) }
 {
     let water = params.water_level;
-    let answer = route(size, hmap, water, order, recv, out, area, queue, status);
-    let Answer::Done = answer else {
-        return answer;
-    };
+    route(size, hmap, water, order, recv, out, area, queue, status)?;
     let ds = square_distances();
     incise_into(size, hmap, params, ds, recv, order, out, area);
-    Answer::Done
+    Ok(())
 }

@@ -1,4 +1,6 @@
 -- The refusals of `incise`: each end of its tests, what an accepted input is, and that answer and slices follow from one choice.
+use Rattle.std.specs.declared.result.Result.TheVariants.{Ok, Err}
+use Rattle.answers.specs.Outcome.{Answer}
 use Prim.Native.Nat.{ℕ, ◌+◌, ◌*◌, ◌≤◌, ◌<◌}
 use native.Mathlib.Nat.{mul-le-mul}
 use native.Mathlib.Omega.{arith}
@@ -8,10 +10,9 @@ use mathlib.Core.List.{List, ◌++◌}
 use lib.ListN.{length, get_or, drop}
 use lib.Dec.{eqb, ltb}
 use lib.Ieee.{Float}
-use borrow.Author.Tests.{lt-ltb, le-ltb, ltb-false, eqb-true, not-false}
+use borrow.Author.Tests.{ltb-false, eqb-true, not-false}
 use Rattle.loops.proofs.TestLaws.{neither, through}
 use Rattle.answers.specs.Outcome.{Outcome, gives, refused, refused_at, answer_of}
-use Rattle.answers.specs.declared.Answer.{Answer}
 use Rattle.grid_spacing.specs.Distances.{square_distances}
 use Rattle.grid_spacing.specs.declared.Distances.{Distances}
 use Rattle.drainage.specs.Ground.{ground_by}
@@ -58,13 +59,7 @@ sized n heights recv list result scratch e =
     same : (m : ℕ) → not (eqb m n) ≡ false → m ≡ n
     same m e = eqb-true m n (not-false (eqb m n) e)
 
--- the searches of the code, against n
-pub found : {f c n : ℕ} → c ≡ f → c < n → ltb f n ≡ true
-found {f} {c} {n} e l = lt-ltb f n (omega arith)
-
-pub found_none : {f c n : ℕ} → c ≡ f → n ≤ c → ltb f n ≡ false
-found_none {f} {c} {n} e l = le-ltb f n (omega arith)
-
+-- the search of the code, against n
 pub height_found : (hs : List Float) {c n : ℕ} → length hs ≡ n → c ≡ first_not_finite hs → (c ≡ n → ⊥) → not (all_finite hs) ≡ true
 height_found hs {c} l e h = ap not (not_all_finite hs c e (λ q. h (q ∙ l)))
 
@@ -185,7 +180,7 @@ module _ (w h : ℕ) (hs : List Float) (p : FluvialParams) (recv list : List ℕ
   same = alike w h hs p recv list (length old) (length scratch)
 
   -- a refusal of the input leaves both slices as they were
-  pub made_refused : (r : Answer) (q : Refusal) → answer_of r ≡ decided w h hs p recv list (length old) (length scratch) → r ≡ Answer.Refused q
+  pub made_refused : (r : Answer) (q : Refusal) → answer_of r ≡ decided w h hs p recv list (length old) (length scratch) → r ≡ Err q
       → InciseMade w h hs p recv list (record { out = old; area = scratch }) r (record { out = old; area = scratch })
   made_refused r q d e =
       let none = refused_given e in
@@ -205,8 +200,8 @@ module _ (w h : ℕ) (hs : List Float) (p : FluvialParams) (recv list : List ℕ
         }
 
 -- the answer once the list is done
-pub answer_done : {all : Bool} (out : List Float) → all ≡ all_finite out → all ≡ true → answer_of Answer.Done ≡ cond (all_finite out) (gives tt) (refused 22)
+pub answer_done : {all : Bool} (out : List Float) → all ≡ all_finite out → all ≡ true → answer_of {A = Unit {0}} (Ok tt) ≡ cond (all_finite out) (gives tt) (refused 22)
 answer_done out a e = rw (sym a ∙ e)
 
-pub answer_off : {all : Bool} (out : List Float) → all ≡ all_finite out → all ≡ false → answer_of (Answer.Refused Refusal.RunOff) ≡ cond (all_finite out) (gives tt) (refused 22)
+pub answer_off : {all : Bool} (out : List Float) → all ≡ all_finite out → all ≡ false → answer_of {A = Unit {0}} (Err Refusal.RunOff) ≡ cond (all_finite out) (gives tt) (refused 22)
 answer_off out a e = rw (sym a ∙ e)

@@ -1,10 +1,10 @@
 -- What the public call `incise` answers and leaves in its result slice.
+use Rattle.answers.specs.Outcome.{Answer}
 use Rattle.std.specs.Prelude.{ℕ, ◌*◌, ◌≡◌, Bool, false, not, ◌||◌, cond, List, ◌++◌, length, drop, eqb, ltb, Float}
 use Rattle.std.specs.Float.{binary32}
 use Rattle.std.specs.Float.Ieee.{of_bits, neg}
 use Rattle.std.specs.Float.Ieee.Scale.{finite}
 use Rattle.answers.specs.Outcome.{Outcome, gives, refused, refused_at, answer_of, outside_of}
-use Rattle.answers.specs.declared.Answer.{Answer}
 use Rattle.grid.specs.Sides.{bad_sides}
 use Rattle.grid.specs.Heights.{first_not_finite, all_finite}
 use Rattle.grid_spacing.specs.Distances.{square_distances}

@@ -15,17 +15,15 @@ ghost use Rattle.answers.specs.Outcome.{gives, refused, refused_at, answer_of};
 ghost use Rattle.fluvial_erosion.specs.Incise.{bad_incise_lengths, bad_incision, incise_refusal, InciseMade};
 ghost use Rattle.fluvial_erosion.specs.Along.{on_grid, Drains, Lengths, Incised, Carved};
 
-use answers::{Answer, Refusal, outside};
+use answers::{Refusal, outside};
 use areas::{areas_along, read_areas, to_words, words_along};
 use floats::is_finite;
 use grid::{Sides, all_finite, bad_sides, copy_heights, first_not_finite};
 use grid_spacing::{Distances, square_distances};
-use incision_cell::{Incision, incise_cell, settle_cell};
+use incision_cell::{Incision, IncisionTables, incise_cell};
 use incision_paths::incise_ways;
-use incision_rates::{table, table_size};
 use lent_list::first_bad_entry;
 use lent_receivers::first_bad_receiver;
-use receiver_steps::{step_distances, step_offsets};
 
 // The most cells whose heights are incised along the list; those of larger grids are incised by ways down, which stay
 // near in memory.
@@ -62,11 +60,8 @@ fn incise_plain(by: Incision, area: &[f32], recv: &[u32], order: &[u32], out: &m
     ensures { out.new ≡ made_along nan recv.now
         (cut_down by area.now recv.now) order.now out.old }
 {
-    let len = order.len();
-    let mut i: usize = 0;
-    while i < len {
-        incise_cell(by, area, recv, out, order[i] as usize);
-        i += 1;
+    for &c in order {
+        incise_cell(by, area, recv, out, c as usize);
     }
 }
 
@@ -79,17 +74,11 @@ fn incise_listed(by: Incision, recv: &[u32], words: &[f32], order: &[u32], out: 
     ensures { out.new ≡ made_along nan recv.now
         (cut_down by (areas_in words.now) recv.now) order.now out.old }
 {
-    let by_step = step_distances(by.distances);
-    let offsets = step_offsets(by.width);
-    let m = table_size(words.len());
-    let rates = table(m, by.cells, by.k);
-    let len = order.len();
-    let mut i: usize = 0;
-    while i < len {
-        let c = order[i] as usize;
+    let tables = IncisionTables::new(by, words.len());
+    for &c in order {
+        let c = c as usize;
         let height = out[c];
-        settle_cell(by, &by_step, &offsets, &rates, m, words, out, c, height);
-        i += 1;
+        tables.settle_cell(words, out, c, height);
     }
 }
 
@@ -166,7 +155,7 @@ pub fn incise_along(
         incise_narrow(size, hmap, params, ds, area, recv, order, out);
         return;
     }
-    to_words(size.w, recv, area, true);
+    to_words::<true>(size.w, recv, area);
     incise_words(size, hmap, params, ds, recv, order, out, area);
 }
 
@@ -206,35 +195,19 @@ fn bad_lengths(
 ) -> bool
     ensures { result ≡ bad_incise_lengths n heights recv list res scratch }
 {
-    if heights != n {
-        return true;
-    }
-    if recv != n {
-        return true;
-    }
-    if list != n {
-        return true;
-    }
-    if res != n {
-        return true;
-    }
-    scratch < n
+    heights != n || recv != n || list != n || res != n || scratch < n
 }
 
 // Refusal 4: a setting outside its range.
 fn bad_incision(params: FluvialParams) -> bool
     ensures { result ≡ bad_incision params }
 {
-    if outside(params.k, 0.0, 64.0) {
-        return true;
-    }
-    if outside(params.uplift, -1.0, 1.0) {
-        return true;
-    }
-    !is_finite(params.water_level)
+    outside(params.k, 0.0, 64.0)
+        || outside(params.uplift, -1.0, 1.0)
+        || !is_finite(params.water_level)
 }
 
-// Returns the first refusal of `incise` in number order, `Done` where there is none; `result` and `scratch` are the
+// Returns the first refusal of `incise` in number order, `Ok` where there is none; `res` and `scratch` are the
 // lengths of the slices to write.
 fn refusal(
     size: Sides,
@@ -244,33 +217,30 @@ fn refusal(
     order: &[u32],
     res: usize,
     scratch: usize,
-) -> Answer
+) -> Result<(), Refusal>
     ensures { answer_of result ≡ incise_refusal size.w size.h hmap.now params recv.now
         order.now res scratch refused refused_at (gives tt) }
 {
     if bad_sides(size) {
-        return Answer::Refused(Refusal::Side);
+        return Err(Refusal::Side);
     }
     let n = size.w * size.h;
     if bad_lengths(n, hmap.len(), recv.len(), order.len(), res, scratch) {
-        return Answer::Refused(Refusal::Length);
+        return Err(Refusal::Length);
     }
     if bad_incision(params) {
-        return Answer::Refused(Refusal::Setting);
+        return Err(Refusal::Setting);
     }
-    let height = first_not_finite(size, hmap);
-    if height != n {
-        return Answer::Refused(Refusal::Height(height));
+    if let Some(height) = first_not_finite(size, hmap) {
+        return Err(Refusal::Height(height));
     }
-    let cell = first_bad_receiver(size, recv);
-    if cell < n {
-        return Answer::Refused(Refusal::Receiver(cell));
+    if let Some(cell) = first_bad_receiver(size, recv) {
+        return Err(Refusal::Receiver(cell));
     }
-    let entry = first_bad_entry(n, recv, order);
-    if entry < n {
-        return Answer::Refused(Refusal::List(entry));
+    if let Some(entry) = first_bad_entry(n, recv, order) {
+        return Err(Refusal::List(entry));
     }
-    Answer::Done
+    Ok(())
 }
 
 // One incision of the source along a lent list of lent receivers, from hmap to out, with the areas in the first n
@@ -283,20 +253,17 @@ pub fn incise(
     order: &[u32],
     out: &mut [f32],
     area: &mut [f32],
-) -> Answer
+) -> Result<(), Refusal>
     ensures { InciseMade size.w size.h hmap.now params recv.now order.now
         (record { out = out.old; area = area.old }) result
         (record { out = out.new; area = area.new }) }
 {
-    let answer = refusal(size, hmap, params, recv, order, out.len(), area.len());
-    let Answer::Done = answer else {
-        return answer;
-    };
+    refusal(size, hmap, params, recv, order, out.len(), area.len())?;
     let n = size.w * size.h;
     let ds = square_distances();
     incise_into(size, hmap, params, ds, recv, order, out, &mut area[..n]);
     if all_finite(out) {
-        return Answer::Done;
+        return Ok(());
     }
-    Answer::Refused(Refusal::RunOff)
+    Err(Refusal::RunOff)
 }

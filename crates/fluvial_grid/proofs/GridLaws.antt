@@ -1,4 +1,7 @@
 -- What the parts of a run on its working grid ask follows from what it is given.
+use Rattle.std.specs.declared.result.Result.{Result}
+use Rattle.std.specs.declared.result.Result.TheVariants.{Ok}
+use Rattle.std.specs.Result.{is_ok}
 use Prim.Native.Nat.{ℕ, ◌*◌}
 use mathlib.Core.Path.{◌≡◌, sym, ap, ◌∙◌}
 use mathlib.Core.Bool.{Bool, true, ◌&&◌}
@@ -10,10 +13,10 @@ use Rattle.grid.specs.Heights.{all_finite}
 use Rattle.flood.specs.Slices.{AcceptedGrid}
 use Rattle.flow.specs.Route.{Enough}
 use Rattle.run_plans.proofs.InputLaws.{within_range, own_cells}
+use Rattle.run_parts.specs.declared.Ended.{Ended}
 use Rattle.run_parts.specs.Reached.{Reduced}
 use Rattle.fluvial_loop.specs.declared.FluvialPlan.{FluvialPlan}
-use Rattle.fluvial_grid.specs.Grids.{Erodes}
-use Rattle.fluvial_grid.specs.declared.Scratch.{Scratch}
+use Rattle.fluvial_grid.specs.Grids.{Scratch, Erodes}
 
 module _ {w h dw dh : ℕ} {plan : FluvialPlan} {stop : ℕ} {map : List Float} {s : Scratch} (e : Erodes w h dw dh plan stop map s) where
   -- the slices of the loops, where n is the length of the heights
@@ -27,7 +30,7 @@ module _ {w h dw dh : ℕ} {plan : FluvialPlan} {stop : ℕ} {map : List Float} 
   erodes_map f t = record { sides = within_range e.sides; cells = own_cells e.sides f t e.heights; finites = e.finites }
 
   -- and so may its averages, if they are finite
-  pub erodes_averages : {small : List Float} (eroded : List Float) {finite : Bool} → Reduced w h dw dh map finite small eroded → finite ≡ true → length eroded ≡ s.eroded
+  pub erodes_averages : {small : List Float} (eroded : List Float) {x : Result (Unit {0}) Ended} {u : Unit {0}} → Reduced w h dw dh map (is_ok x) small eroded → x ≡ Ok u → length eroded ≡ s.eroded
       → AcceptedGrid dw dh eroded
   erodes_averages eroded r t f =
-      record { sides = within_range e.sides; cells = f ∙ e.eroded; finites = ap all_finite r.started ∙ sym r.finites ∙ t }
+      record { sides = within_range e.sides; cells = f ∙ e.eroded; finites = ap all_finite r.started ∙ sym r.finites ∙ ap is_ok t }

@@ -6,7 +6,17 @@ use Rattle.resample.specs.WorkSize.{Within}
 use Rattle.run_machine.specs.Nested.{Bounded}
 use Rattle.fluvial_loop.specs.Loops.{course_by}
 use Rattle.fluvial_loop.specs.declared.FluvialPlan.{FluvialPlan}
-use Rattle.fluvial_grid.specs.declared.Scratch.{Scratch}
+
+-- the lengths of the scratch slices
+pub record Scratch : Type 0 where
+  pub small : ℕ
+  pub eroded : ℕ
+  pub copy : ℕ
+  pub area : ℕ
+  pub order : ℕ
+  pub recv : ℕ
+  pub queue : ℕ
+  pub status : ℕ
 
 abbrev pub scratch_of : List Float → List Float → List Float → List Float → List ℕ → List ℕ → List ℕ → List ℕ → Scratch
 scratch_of small eroded copy area order recv queue status =

@@ -28,8 +28,7 @@ use Rattle.run_machine.proofs.KeptLaws.{iterated_sound}
 use Rattle.run_machine.proofs.CutLaws.{incision_sized}
 use Rattle.run_machine.proofs.AskedLaws.{opening_asked, iterated_asked}
 use Rattle.run_machine.proofs.IterationLaws.{due_iterated}
-use Rattle.run_parts.specs.Reached.{Worked, seen, begun, after_made}
-use Rattle.run_parts.specs.declared.Reached.{Reached}
+use Rattle.run_parts.specs.Reached.{Reach, Worked, seen, begun, after_made}
 use Rattle.run_parts.proofs.ReachedLaws.{worked, opened_by, made_cases}
 use Rattle.run_parts.proofs.LoopLaws.{Going, going_none, going_done, going_ended, going_asked, going_incisions, going_opening}
 use Rattle.fluvial_carve.specs.Carve.{carved_of}
@@ -37,7 +36,7 @@ use Rattle.fluvial_opening.specs.Opening.{after_opening, Counts}
 use Rattle.fluvial_opening.proofs.OpeningLaws.{carved_by}
 use Rattle.fluvial_loop.specs.Loops.{course_by, slid_by, Slides}
 use Rattle.fluvial_loop.specs.declared.FluvialPlan.{FluvialPlan}
-use Rattle.fluvial_loop.proofs.SlideLaws.{slid_seen}
+use Rattle.fluvial_loop.proofs.SlideLaws.{slid_none, slid_ended, slid_seen}
 
 -- the lengths of the slices one by one
 pub lent_same : {hs hs' order order' recv recv' copy copy' area area' queue queue' status status' : ℕ}
@@ -48,7 +47,7 @@ lent_same a b c d e f g i =
     record { heights = a i; order = b i; receivers = c i; spill = d i; areas = e i; queue = f i; status = g i }
 
 -- iteration `it` is due, or the run has ended; every slice has kept its length
-pub record Iterating (c : Course) (hs : List Float) (then : Lent) (it : ℕ) (map : List Float) (r : Reached) (now : Lent) : Type 0 where
+pub record Iterating (c : Course) (hs : List Float) (then : Lent) (it : ℕ) (map : List Float) (r : Reach) (now : Lent) : Type 0 where
   pub within : it ≤ c.iterations
   pub held : worked map r ≡ seen (iterated c it hs)
   pub lengths : now ≡ then
@@ -57,10 +56,10 @@ module _ (w h : ℕ) (plan : FluvialPlan) (stop : ℕ) (hs : List Float) (then :
   abbrev course : Course
   course = course_by w h plan stop
 
-  pub iterating_none : {r : Reached} → r ≡ begun → Iterating course hs then 0 hs r then
+  pub iterating_none : {r : Reach} → r ≡ begun → Iterating course hs then 0 hs r then
   iterating_none e = record { within = omega arith; held = ap (worked hs) e ∙ (going_none course hs).held; lengths = refl }
 
-  module _ (it : ℕ) (map : List Float) (r : Reached) (now : Lent) (i : Iterating course hs then it map r now) where
+  module _ (it : ℕ) (map : List Float) (r : Reach) (now : Lent) (i : Iterating course hs then it map r now) where
     -- the loop is left
     pub iterating_done : course.iterations ≤ it → worked map r ≡ seen (nested course hs)
     iterating_done l = going_done course hs i.held i.within l
@@ -70,6 +69,9 @@ module _ (w h : ℕ) (plan : FluvialPlan) (stop : ℕ) (hs : List Float) (then :
 
     pub iterating_enough : Enough (w * h) then → Enough (w * h) now
     iterating_enough e = subst (Enough (w * h)) (sym i.lengths) e
+
+    pub iterating_on : {e : Reach} → r ≡ e → Iterating course hs then it map e now
+    iterating_on f = subst (λ (r : Reach). Iterating course hs then it map r now) f i
 
     -- the heights are those of a grid that may be routed
     pub iterating_accepted : AcceptedGrid w h hs → Fit hs → length map ≡ w * h → AcceptedGrid w h map
@@ -90,7 +92,7 @@ module _ (w h : ℕ) (plan : FluvialPlan) (stop : ℕ) (hs : List Float) (then :
       pub iterating_counts : Counts r
       iterating_counts = record { questions = going_asked course hs it going b l; incisions = going_incisions course hs it going b l }
 
-      module _ (opened : List Float) (o : Reached) (made : worked opened o ≡ after_opening w h plan.land plan.cuts (course.opening it) stop map r) where
+      module _ (opened : List Float) (o : Reach) (made : worked opened o ≡ after_opening w h plan.land plan.cuts (course.opening it) stop map r) where
         -- the opening is that of the state
         iterating_opened : worked opened o ≡ seen (one_opening course (iterated course it hs))
         iterating_opened = going_opening course hs it going b l refl (made ∙ cuts)
@@ -125,7 +127,7 @@ module _ (w h : ℕ) (plan : FluvialPlan) (stop : ℕ) (hs : List Float) (then :
             }
 
         -- and after them the next iteration is due
-        pub iterating_more : (new : List Float) (e : Reached) (later : Lent) → worked new e ≡ slid_by course it plan.passes (worked opened o) → later ≡ now
+        pub iterating_more : (new : List Float) (e : Reach) (later : Lent) → worked new e ≡ slid_by course it plan.passes (worked opened o) → later ≡ now
             → Iterating course hs then (it + 1) new e later
         iterating_more new e later f k =
             record {
@@ -136,3 +138,11 @@ module _ (w h : ℕ) (plan : FluvialPlan) (stop : ℕ) (hs : List Float) (then :
                   ∙ ap seen (sym (turns_more (λ i. one_iteration course) it (start course hs)));
               lengths = k ∙ i.lengths;
             }
+
+        -- a run that ended in the opening makes none of them
+        pub iterating_opened_ended : (o.number ≡ 0 → ⊥) → worked opened o ≡ seen (nested course hs)
+        iterating_opened_ended n =
+            let stays : worked opened o ≡ slid_by course it plan.passes (worked opened o) =
+            slid_ended course it (worked opened o) 0 opened o (length opened) (slid_none course it (worked opened o) refl) n in
+            let more : Iterating course hs then (it + 1) opened o now = iterating_more opened o now stays refl in
+            going_ended course hs (it + 1) more.held more.within n

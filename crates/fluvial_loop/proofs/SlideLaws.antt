@@ -1,6 +1,6 @@
 -- The passes of an iteration: the loop over them, and that what it leaves is the state after them.
 use Prim.Native.Nat.{ℕ, suc, ◌+◌, ◌-◌, ◌*◌, ◌≤◌, ◌<◌}
-use mathlib.Core.Path.{◌≡◌, refl, sym, ap, ◌∙◌}
+use mathlib.Core.Path.{◌≡◌, refl, sym, ap, ◌∙◌, subst}
 use mathlib.Core.Bool.{Bool, true, false}
 use mathlib.Core.List.{List}
 use native.Mathlib.Nat.{mul-le-mul_right}
@@ -22,8 +22,7 @@ use Rattle.run_machine.specs.Machine.{Course, State}
 use Rattle.run_machine.specs.Nested.{one_pass, one_opening, one_iteration, Due, Bounded}
 use Rattle.run_machine.proofs.PassLaws.{pass_ended}
 use Rattle.run_machine.proofs.IterationLaws.{Place, place_opening, place_pass}
-use Rattle.run_parts.specs.Reached.{Worked, seen, halted, after_pass, PassReady}
-use Rattle.run_parts.specs.declared.Reached.{Reached}
+use Rattle.run_parts.specs.Reached.{Reach, Worked, seen, halted, after_pass, PassReady}
 use Rattle.run_parts.proofs.ReachedLaws.{worked, rows_by, pass_seen, made_cases}
 use Rattle.fluvial_loop.specs.Loops.{course_by, passed_by, slid_by, Places, Slides}
 use Rattle.fluvial_loop.specs.declared.FluvialPlan.{FluvialPlan}
@@ -37,7 +36,7 @@ passes_few : (c : Course) → Bounded c → c.passes ≤ 32768
 passes_few c b = omega (arith, b.passes, mul-le-mul_right c.passes b.due)
 
 -- the counts up to its last pass
-pub slides_places : {w h stop it map copy : ℕ} {plan : FluvialPlan} {r : Reached} → Slides (course_by w h plan stop) it map copy r → (q : ℕ) → q ≤ plan.passes → Places plan it q
+pub slides_places : {w h stop it map copy : ℕ} {plan : FluvialPlan} {r : Reach} → Slides (course_by w h plan stop) it map copy r → (q : ℕ) → q ≤ plan.passes → Places plan it q
 slides_places s q l = record {
   iteration = omega (arith, s.due, s.bounded.iterations);
   passed = omega (arith, passes_few _ s.bounded);
@@ -70,7 +69,7 @@ module _ (c : Course) (it q : ℕ) (x : Worked) where
   passed_ended z = rw (ne_eqb x.reached.number 0 z)
 
 -- the loop over the passes: after q of them
-pub record Slid (c : Course) (it : ℕ) (x : Worked) (q : ℕ) (map : List Float) (r : Reached) (copy : ℕ) : Type 0 where
+pub record Slid (c : Course) (it : ℕ) (x : Worked) (q : ℕ) (map : List Float) (r : Reach) (copy : ℕ) : Type 0 where
   pub within : q ≤ c.passes
   pub held : worked map r ≡ slid_by c it q x
   pub long : length map ≡ length x.heights
@@ -88,7 +87,7 @@ module _ (c : Course) (it : ℕ) (x : Worked) where
   unfolding slid_by
   slid_none e = record { within = omega arith; held = sym (turns_none (passed_by c it) x); long = refl; copied = e }
 
-  module _ (q : ℕ) (map : List Float) (r : Reached) (copy : ℕ) (s : Slid c it x q map r copy) where
+  module _ (q : ℕ) (map : List Float) (r : Reach) (copy : ℕ) (s : Slid c it x q map r copy) where
     -- what the next pass asks
     pub slid_ready : {k : ℕ} → Slides c it (length x.heights) k x.reached → q < c.passes → PassReady c.w c.h (length map) copy r
     slid_ready a l =
@@ -107,7 +106,7 @@ module _ (c : Course) (it : ℕ) (x : Worked) where
         }
 
     -- one pass more
-    pub slid_more : {ts : List Float} {from to : Float} {new : List Float} {e : Reached} {k : ℕ} → q < c.passes → r.number ≡ 0
+    pub slid_more : {ts : List Float} {from to : Float} {new : List Float} {e : Reach} {k : ℕ} → q < c.passes → r.number ≡ 0
         → ts ≡ c.thresholds → from ≡ c.begins it q → to ≡ c.begins it (q + 1)
         → worked new e ≡ after_pass map r (rows_of c.w c.h ts c.strength c.water map from to c.stop c.h r.marks)
         → length new ≡ length map → k ≡ copy → Slid c it x (q + 1) new e k
@@ -123,6 +122,9 @@ module _ (c : Course) (it : ℕ) (x : Worked) where
           long = g ∙ s.long;
           copied = k ∙ s.copied;
         }
+
+    pub slid_on : {e : Reach} → r ≡ e → Slid c it x q map e copy
+    slid_on f = subst (λ (r : Reach). Slid c it x q map r copy) f s
 
     -- all are done, or the run has ended
     pub slid_done : c.passes ≤ q → worked map r ≡ slid_by c it c.passes x

@@ -6,8 +6,7 @@ use Rattle.run_machine.specs.Plan.{Plan}
 use Rattle.run_machine.specs.Machine.{Course}
 use Rattle.run_machine.specs.Run.{ours, fluvial_course}
 use Rattle.run_machine.specs.Nested.{Bounded}
-use Rattle.run_parts.specs.Reached.{Worked, after_pass}
-use Rattle.run_parts.specs.declared.Reached.{Reached}
+use Rattle.run_parts.specs.Reached.{Reach, Worked, after_pass}
 use Rattle.fluvial_loop.specs.declared.FluvialPlan.{FluvialPlan}
 
 abbrev pub plan_of : FluvialPlan → Plan
@@ -38,7 +37,7 @@ pub record Places (p : FluvialPlan) (it pass : ℕ) : Type 0 where
   pub passes : p.passes ≤ 32768
 
 -- what the passes of an iteration require of the lengths of the map and its copy, and of the counts before them
-pub record Slides (c : Course) (it map copy : ℕ) (r : Reached) : Type 0 where
+pub record Slides (c : Course) (it map copy : ℕ) (r : Reach) : Type 0 where
   pub bounded : Bounded c
   pub due : it < c.iterations
   pub heights : map ≡ c.w * c.h

@@ -4,17 +4,18 @@
 ghost use Rattle.std.specs.Prelude.{◌≡◌, ◌*◌, length};
 ghost use Rattle.grid.specs.Base.{all_open};
 ghost use Rattle.flood.specs.Slices.{AcceptedGrid};
-ghost use Rattle.flow.specs.Route.{lent_of, Enough};
+ghost use Rattle.flow.specs.Route.{Enough};
+ghost use Rattle.fluvial_opening.specs.Opening.{lent_to, SameSlices};
 ghost use Rattle.run_machine.specs.Run.{fluvial_begins};
 ghost use Rattle.run_machine.specs.Nested.{nested, Bounded};
-ghost use Rattle.run_parts.specs.Reached.{Worked, seen};
+ghost use Rattle.run_parts.specs.Reached.{going, worked_of, seen};
 ghost use Rattle.fluvial_loop.specs.Loops.{course_by, slid_by, Places, Slides};
 
 use drainage::Land;
 use fluvial_erosion::FluvialParams;
-use fluvial_opening::open_iteration;
+use fluvial_opening::{Scratch, open_iteration};
 use grid::Sides;
-use run_parts::{Reached, begun, run_pass};
+use run_parts::{Ended, Reached, begun, run_pass};
 use talus::thresholds;
 use thermal_erosion::ThermalParams;
 
@@ -36,8 +37,7 @@ fn pass_begins(plan: FluvialPlan, it: usize, pass: usize) -> f32
     (it as f32 + 0.5 + 0.5 * pass as f32 / plan.passes as f32) / plan.iterations as f32
 }
 
-// Runs the talus passes of an iteration until 21 or 22 ends the run; a run that has ended does none. Returns what the
-// run has reached.
+// Runs the talus passes of an iteration, until one ends the run.
 fn talus_passes(
     size: Sides,
     hmap: &mut [f32],
@@ -46,63 +46,44 @@ fn talus_passes(
     it: usize,
     stop: u32,
     reached: Reached,
-) -> Reached
-    requires { Slides (course_by size.w size.h plan stop) it (length hmap.old) (length copy.old) reached }
-    ensures { ◌≡◌ {A = Worked} (record { heights = hmap.new; reached = result }) (slid_by
-        (course_by size.w size.h plan stop) it plan.passes
-        (record { heights = hmap.old; reached = reached })) }
+) -> Result<Reached, Ended>
+    requires { Slides (course_by size.w size.h plan stop) it (length hmap.old) (length copy.old) (going reached) }
+    ensures { worked_of hmap.new result ≡ slid_by (course_by size.w size.h plan stop) it plan.passes
+        (record { heights = hmap.old; reached = going reached }) }
 {
     let ts = thresholds(plan.slides.threshold, plan.land.distances);
     let passes = plan.passes;
     let mut r = reached;
-    let mut q: usize = 0;
-    while q < passes {
-        if r.number != 0 {
-            return r;
-        }
+    for q in 0..passes {
         let from = pass_begins(plan, it, q);
         let to = pass_begins(plan, it, q + 1);
-        r = run_pass(size, &ts, hmap, copy, plan.slides, from, to, stop, r);
-        q += 1;
+        r = run_pass(size, &ts, hmap, copy, plan.slides, from, to, stop, r)?;
     }
-    r
+    Ok(r)
 }
 
-// Runs the iterations on the working grid until 21 or 22 ends the run. Returns what the run has reached. All slices
-// after stop are scratch.
+// Runs the iterations on the working grid, until one ends the run.
 pub fn run_iterations(
     size: Sides,
     hmap: &mut [f32],
     plan: FluvialPlan,
     stop: u32,
-    copy: &mut [f32],
-    area: &mut [f32],
-    order: &mut [u32],
-    recv: &mut [u32],
-    queue: &mut [u32],
-    status: &mut [u8],
-) -> Reached
+    s: &mut Scratch,
+) -> Result<Reached, Ended>
     requires bounded { Bounded (course_by size.w size.h plan stop) }
     requires accepted_grid { AcceptedGrid size.w size.h hmap.old }
-    requires enough { Enough (size.w * size.h)
-        (lent_of hmap.old order.old recv.old copy.old area.old queue.old status.old) }
+    requires enough { Enough (size.w * size.h) (lent_to hmap.old s.old) }
     requires sides_value { plan.land.sides ≡ all_open }
-    ensures { ◌≡◌ {A = Worked} (record { heights = hmap.new; reached = result })
-        (seen (nested (course_by size.w size.h plan stop) hmap.old)) }
+    ensures same { SameSlices s.old s.new }
+    ensures lengths { lent_to hmap.new s.new ≡ lent_to hmap.old s.old }
+    ensures ran { worked_of hmap.new result ≡ seen (nested (course_by size.w size.h plan stop) hmap.old) }
 {
     let iterations = plan.iterations;
     let mut r = begun();
-    let mut it: usize = 0;
-    while it < iterations {
-        if r.number != 0 {
-            return r;
-        }
+    for it in 0..iterations {
         let p = it as f32 / iterations as f32;
-        r = open_iteration(
-            size, hmap, plan.land, plan.cuts, p, stop, r, copy, area, order, recv, queue, status,
-        );
-        r = talus_passes(size, hmap, copy, plan, it, stop, r);
-        it += 1;
+        r = open_iteration(size, hmap, plan.land, plan.cuts, p, stop, r, s)?;
+        r = talus_passes(size, hmap, s.copy, plan, it, stop, r)?;
     }
-    r
+    Ok(r)
 }

@@ -1,6 +1,8 @@
 -- The run on its working grid, and the whole call: what its parts ask follows from what they are given, and its ends are the run's.
+use Rattle.std.specs.declared.result.Result.TheVariants.{Ok}
+use Rattle.answers.specs.Outcome.{Answer}
 use Prim.Native.Nat.{ℕ, ◌*◌, ◌≤◌, min}
-use mathlib.Core.Path.{◌≡◌, refl, sym, ap, ◌∙◌, subst}
+use mathlib.Core.Path.{◌≡◌, sym, ap, ◌∙◌, subst}
 use mathlib.Core.Bool.{Bool}
 use mathlib.Core.List.{List}
 use native.Mathlib.Nat.{le_trans}
@@ -9,8 +11,6 @@ use lib.ListN.{take}
 use lib.Seq.{length-take-le}
 use lib.Ieee.{Float}
 use Rattle.answers.specs.Outcome.{Outcome, answer_of}
-use Rattle.answers.specs.declared.Answer.{Answer}
-use Rattle.answers.specs.declared.Refusal.{Refusal}
 use Rattle.float_order.specs.Fit.{Fit}
 use Rattle.grid.specs.Sides.{InRange}
 use Rattle.grid.specs.declared.Sides.{Sides}
@@ -27,17 +27,15 @@ use Rattle.run_settings.specs.Accepted as Input
 use Rattle.run_settings.specs.Accepted.{refusal_on}
 use Rattle.run_settings.proofs.RefusalLaws.{accepted_by, decided_by, fluvial_iterations}
 use Rattle.run_plans.proofs.InputLaws.{within_range, within_cells, accepted_within}
-use Rattle.run_parts.specs.Reached.{whole_run}
-use Rattle.run_parts.specs.Ending.{refused_to, Answered}
-use Rattle.run_parts.specs.declared.Reached.{Reached}
+use Rattle.run_parts.specs.Reached.{Reach, whole_run}
+use Rattle.run_parts.specs.Ending.{Answered}
 use Rattle.answers.specs.declared.RunAnswer.{RunAnswer}
 use Rattle.run_parts.proofs.ReachedLaws.{worked}
-use Rattle.run_parts.proofs.EndingLaws.{ending_refused, ending_ran, done_accepts, done_keeps}
+use Rattle.run_parts.proofs.EndingLaws.{ending_ran, done_accepts, done_keeps}
 use Rattle.run_parts.proofs.WholeLaws.{whole_run_lem}
 use Rattle.fluvial_loop.specs.Loops.{plan_of, course_by}
 use Rattle.fluvial_loop.specs.declared.FluvialPlan.{FluvialPlan}
-use Rattle.fluvial_grid.specs.Grids.{scratch_of, Erodes}
-use Rattle.fluvial_grid.specs.declared.Scratch.{Scratch}
+use Rattle.fluvial_grid.specs.Grids.{Scratch, scratch_of, Erodes}
 use Rattle.fluvial_run.specs.FluvialRun.{shortest_of, fluvial_input_refusal, FluvialScratch, lengths_of, FluvialRun}
 
 -- a plan by its parts
@@ -68,10 +66,7 @@ pub record Rooms (n : ℕ) (s : Scratch) : Type 0 where
   pub status : n ≤ s.status
 
 -- the whole call
-module _ (w h : ℕ) (conf : FluvialSettings) (stop : ℕ) (map small eroded copy area : List Float) (order recv queue status : List ℕ) where
-  abbrev scratch : FluvialScratch
-  scratch = record { small = small; eroded = eroded; copy = copy; area = area; order = order; recv = recv; queue = queue; status = status }
-
+module _ (w h : ℕ) (conf : FluvialSettings) (stop : ℕ) (map : List Float) (scratch : FluvialScratch) where
   abbrev lengths : Scratch
   lengths = lengths_of scratch
 
@@ -79,18 +74,10 @@ module _ (w h : ℕ) (conf : FluvialSettings) (stop : ℕ) (map small eroded cop
   outcome = fluvial_input_refusal w h conf map lengths
 
   -- by the test of the settings and the length of the shortest scratch slice
-  pub decided : {o : Outcome (Unit {0})} {bad : Bool} {scratch : ℕ} → o ≡ refusal_on w h bad map scratch → bad ≡ bad_fluvial conf → scratch ≡ shortest_of lengths → o ≡ outcome
+  pub decided : {o : Outcome (Unit {0})} {bad : Bool} {n : ℕ} → o ≡ refusal_on w h bad map n → bad ≡ bad_fluvial conf → n ≡ shortest_of lengths → o ≡ outcome
   decided = decided_by w h map
 
-  pub run_refused : {r : RunAnswer} {early : Answer} (why : Refusal) → answer_of early ≡ outcome → early ≡ Answer.Refused why → r ≡ refused_to why → Fit map
-      → FluvialRun w h conf stop map scratch r map scratch
-  run_refused {r} {early} why f e g fit = record {
-    ended = ending_refused why early outcome map (run_by w h conf stop ours map) e f g;
-    fit = fit;
-    kept = λ _. refl;
-  }
-
-  module _ {early : Answer} (f : answer_of early ≡ outcome) (e : early ≡ Answer.Done) where
+  module _ {early : Answer} (f : answer_of early ≡ outcome) (e : early ≡ Ok tt) where
     pub run_accepted : Input.AcceptedRun w h (bad_fluvial conf) map (shortest_of lengths)
     run_accepted = accepted_by w h (bad_fluvial conf) map _ (done_accepts f e)
 
@@ -121,7 +108,7 @@ module _ (w h : ℕ) (conf : FluvialSettings) (stop : ℕ) (map small eroded cop
 
         pub run_erodes :
             Erodes w h work.w work.h plan stop map
-            (scratch_of (take cells small) (take cells eroded) (take cells copy) (take cells area) (take cells order) (take cells recv) queue status)
+            (scratch_of (take cells scratch.small) (take cells scratch.eroded) (take cells scratch.copy) (take cells scratch.area) (take cells scratch.order) (take cells scratch.recv) scratch.queue scratch.status)
         run_erodes =
             let a = run_accepted in
             let r = run_rooms in
@@ -131,12 +118,12 @@ module _ (w h : ℕ) (conf : FluvialSettings) (stop : ℕ) (map small eroded cop
               sides_open = ap (λ (q : Plan). q.land.sides) p;
               heights = a.cells;
               finites = a.finites;
-              small = length-take-le cells small r.small;
-              eroded = length-take-le cells eroded r.eroded;
-              copy = length-take-le cells copy r.copy;
-              area = length-take-le cells area r.area;
-              order = length-take-le cells order r.order;
-              recv = length-take-le cells recv r.recv;
+              small = length-take-le cells scratch.small r.small;
+              eroded = length-take-le cells scratch.eroded r.eroded;
+              copy = length-take-le cells scratch.copy r.copy;
+              area = length-take-le cells scratch.area r.area;
+              order = length-take-le cells scratch.order r.order;
+              recv = length-take-le cells scratch.recv r.recv;
               queue = r.queue;
               status = r.status;
             }
@@ -147,11 +134,10 @@ module _ (w h : ℕ) (conf : FluvialSettings) (stop : ℕ) (map small eroded cop
             ap (λ (c : Course). run_on as_source w h c map) (course_is work.w work.h conf stop p)
             ∙ ap (λ (work : Sides). run_on as_source w h (fluvial_course work.w work.h (fluvial_plan work.w work.h conf) stop ours) map) g
 
-        pub run_done : {r : Reached} {a : RunAnswer} (map' small' eroded' copy' area' : List Float) (order' recv' queue' status' : List ℕ) → Answered r a
+        pub run_done : {r : Reach} {a : RunAnswer} (map' : List Float) (scratch' : FluvialScratch) → Answered r a
             → worked map' r ≡ whole_run w h (course_by work.w work.h plan stop) map → Fit map
-            → FluvialRun w h conf stop map scratch a map'
-            (record { small = small'; eroded = eroded'; copy = copy'; area = area'; order = order'; recv = recv'; queue = queue'; status = status' })
-        run_done {r} {a} map' small' eroded' copy' area' order' recv' queue' status' s t fit =
+            → FluvialRun w h conf stop map scratch a map' scratch'
+        run_done {r} {a} map' scratch' s t fit =
             let ran = whole_run_lem w h (course_by work.w work.h plan stop) map t run_within.dh_low run_erodes.bounded.some in
             record {
               ended = ending_ran r a outcome map map' (run_by w h conf stop ours map) s (ran ∙ whole_is) (done_accepts f e);

@@ -8,8 +8,7 @@ use Rattle.run_settings.specs.declared.FluvialSettings.{FluvialSettings}
 use Rattle.run_settings.specs.Accepted.{refusal_on}
 use Rattle.run_parts.specs.Ending.{ending_of, ended_with}
 use Rattle.answers.specs.declared.RunAnswer.{RunAnswer}
-use Rattle.fluvial_grid.specs.Grids.{scratch_of}
-use Rattle.fluvial_grid.specs.declared.Scratch.{Scratch}
+use Rattle.fluvial_grid.specs.Grids.{Scratch, scratch_of}
 
 abbrev pub shortest_of : Scratch → ℕ
 shortest_of s =

@@ -1,42 +1,30 @@
 // The source's gen_fluvial_erosion: a whole fluvial run, with what it refuses.
 #![tactic(auto)]
 
-ghost use Rattle.std.specs.Prelude.{◌≡◌, ◌≤◌};
+ghost use Rattle.std.specs.Prelude.{◌≡◌};
 ghost use Rattle.run_machine.specs.Plan.{fluvial_plan};
 ghost use Rattle.fluvial_loop.specs.Loops.{plan_of};
-ghost use Rattle.fluvial_run.specs.FluvialRun.{shortest_of, FluvialRun};
+ghost use Rattle.fluvial_run.specs.FluvialRun.{FluvialRun};
 
-use answers::{Answer, RunAnswer};
-use fluvial_grid::{Scratch, erode};
+use answers::RunAnswer;
+use fluvial_grid::erode;
 use fluvial_loop::FluvialPlan;
-use grid::{Sides, least};
+use fluvial_opening::Scratch;
+use grid::Sides;
 use resample::work_sides;
 use run_parts::{answered, refused};
-use run_plans::{fluvial_iterations, fluvial_land, fluvial_passes, fluvial_plan, talus_plan};
+use run_plans::{Working, fluvial_iterations, fluvial_land};
 use run_settings::{FluvialSettings, bad_fluvial, refusal};
 
-// The length of the shortest scratch slice.
-fn shortest(s: Scratch) -> usize
-    ensures { result ≡ shortest_of s }
-{
-    let maps = least(least(s.small, s.eroded), least(s.copy, s.area));
-    least(
-        maps,
-        least(least(s.order, s.recv), least(s.queue, s.status)),
-    )
-}
-
 // The settings converted to the working grid.
-fn plan_on(work: Sides, conf: FluvialSettings) -> FluvialPlan
-    requires w_bound { work.w ≤ 4096 }
-    requires h_bound { work.h ≤ 4096 }
-    ensures { plan_of result ≡ fluvial_plan work.w work.h conf }
+fn plan_on(grid: Working, conf: FluvialSettings) -> FluvialPlan
+    ensures { plan_of result ≡ fluvial_plan grid.sides.w grid.sides.h conf }
 {
     FluvialPlan {
-        iterations: fluvial_iterations(work, conf),
-        passes: fluvial_passes(work, conf),
-        cuts: fluvial_plan(work, conf),
-        slides: talus_plan(work, conf),
+        iterations: fluvial_iterations(conf),
+        passes: grid.passes(1),
+        cuts: grid.fluvial_plan(conf),
+        slides: grid.talus_plan(conf),
         land: fluvial_land(conf),
     }
 }
@@ -79,23 +67,25 @@ pub fn gen_fluvial_erosion(
           status = status.new;
         }) }
 {
-    let scratch = Scratch {
-        small: small.len(),
-        eroded: eroded.len(),
-        copy: copy.len(),
-        area: area.len(),
-        order: order.len(),
-        recv: recv.len(),
-        queue: queue.len(),
-        status: status.len(),
-    };
-    let early = refusal(size, hmap, bad_fluvial(conf), shortest(scratch));
-    if let Answer::Refused(why) = early {
+    let maps = small.len().min(eroded.len());
+    let values = copy.len().min(area.len());
+    let lists = order.len().min(recv.len());
+    let marks = queue.len().min(status.len());
+    let shortest = maps.min(values).min(lists.min(marks));
+    if let Err(why) = refusal(size, hmap, bad_fluvial(conf), shortest) {
         return refused(why);
     }
     let work = work_sides(size, conf.work_res);
-    let plan = plan_on(work, conf);
+    let plan = plan_on(Working::on(work), conf);
     let m = work.w * work.h;
+    let mut scratch = Scratch {
+        copy: &mut copy[..m],
+        area: &mut area[..m],
+        order: &mut order[..m],
+        recv: &mut recv[..m],
+        queue,
+        status,
+    };
     let done = erode(
         size,
         hmap,
@@ -104,12 +94,7 @@ pub fn gen_fluvial_erosion(
         stop,
         &mut small[..m],
         &mut eroded[..m],
-        &mut copy[..m],
-        &mut area[..m],
-        &mut order[..m],
-        &mut recv[..m],
-        queue,
-        status,
+        &mut scratch,
     );
     answered(done)
 }

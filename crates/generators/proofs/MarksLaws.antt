@@ -1,4 +1,6 @@
 -- Laws of a report: what it does in each of its three cases, and what the layers above need of the record after it.
+use Rattle.std.specs.declared.result.Result.{Result}
+use Rattle.std.specs.declared.result.Result.TheVariants.{Err}
 use Prim.Native.Nat.{ℕ, ◌+◌, ◌-◌, ◌^◌, ◌≤◌, ◌<◌}
 use mathlib.Core.Path.{◌≡◌, refl, sym, ap, ◌∙◌}
 use mathlib.Core.Bool.{Bool, true, false, not, cond}
@@ -61,9 +63,9 @@ asked_fits m p h =
     omega arith
 
 module _ (m : Progress) (p : Float) (s : ℕ) where
-  pub report_refused : bad_report m p ≡ true → ReportMade m p s (record { go = Go.Refused Refusal.Setting; progress = m })
+  pub report_refused : bad_report m p ≡ true → ReportMade m p s (record { go = Err Refusal.Setting; progress = m })
   report_refused h = record { answer = rw h; handed = rw h }
 
-  pub report_made : (g : Go) (r : Progress)
+  pub report_made : (g : Result Go Refusal) (r : Progress)
       → bad_report m p ≡ false → r ≡ report_of m p s → go_of g ≡ gives (not r.stopped) → ReportMade m p s (record { go = g; progress = r })
   report_made g r h e t = record { answer = rw h (t ∙ ap (λ (q : Progress). gives (not q.stopped)) e); handed = rw h e }

@@ -1,13 +1,12 @@
 -- `get_min_max` and `normalize` of document 01, on lists of any length.
+use Rattle.answers.specs.Outcome.{Answer}
 use Rattle.std.specs.Prelude.{◌≡◌, Bool, not, ◌||◌, cond, List, [], ◌∷◌, map, Float}
 use Rattle.std.specs.Float.{binary32}
 use Rattle.std.specs.Float.Ieee.{of_bits, add, sub, mul, div, lt, eq}
 use Rattle.std.specs.Float.Ieee.Scale.{finite}
-use Rattle.answers.specs.Outcome.{Outcome, gives, refused, refused_at, refusal_of, given, answer_of}
-use Rattle.answers.specs.declared.Answer.{Answer}
+use Rattle.answers.specs.Outcome.{Outcome, gives, refused, refused_at, given, answer_of}
 use Rattle.grid.specs.Heights.{first_not_finite, all_finite}
 use Rattle.generators.specs.declared.MinMax.{MinMax}
-use Rattle.generators.specs.declared.Extent.{Extent}
 
 -- min and max with the value x added: above max it becomes max, else below min it becomes min
 abbrev pub widened : MinMax → Float → MinMax
@@ -22,10 +21,6 @@ unfoldable pub min_max_of : List Float → MinMax
 unfolding widened_by
 min_max_of [] = record { min = of_bits binary32 0; max = of_bits binary32 0 }
 min_max_of (x ∷ xs) = widened_by (record { min = x; max = x }) xs
-
-abbrev pub extent_of : Extent → Outcome MinMax
-extent_of (Extent.Of m) = gives m
-extent_of (Extent.Refused r) = refusal_of r
 
 -- the answer of `get_min_max`: (min, max), or 5 with the first height that is not finite
 abbrev pub get_min_max_answer : List Float → Outcome MinMax

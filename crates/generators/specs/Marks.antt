@@ -1,5 +1,8 @@
 -- Document 01, 'Stop marks': a question is asked when p - last ≥ 0.01; last then becomes p; the S-th question asked
 -- gets yes, 0 means never; a stopped record asks none and stays stopped.
+use Rattle.std.specs.declared.result.Result.{Result}
+use Rattle.std.specs.declared.result.Result.TheVariants.{Ok, Err}
+use Rattle.answers.specs.declared.Refusal.{Refusal}
 use Rattle.std.specs.Prelude.{ℕ, ◌+◌, ◌^◌, ◌≡◌, Bool, true, false, not, ◌||◌, cond, eqb, ltb, Float}
 use Rattle.std.specs.Float.{binary32}
 use Rattle.std.specs.Float.Ieee.{of_bits, neg, sub, le}
@@ -27,10 +30,10 @@ bad_report m p =
     outside_of p (of_bits binary32 0) (of_bits binary32 0x3f80_0000)
     || (outside_of m.last (neg (of_bits binary32 0x3f80_0000)) (of_bits binary32 0x3f80_0000) || ltb (2 ^ 31) m.asked)
 
-abbrev pub go_of : Go → Outcome Bool
-go_of Go.On = gives true
-go_of Go.Stop = gives false
-go_of (Go.Refused r) = refusal_of r
+abbrev pub go_of : Result Go Refusal → Outcome Bool
+go_of (Ok Go.On) = gives true
+go_of (Ok Go.Stop) = gives false
+go_of (Err r) = refusal_of r
 
 -- the answer of a report: whether to go on, or 4
 abbrev pub report_answer : Progress → Float → ℕ → Outcome Bool

@@ -2,7 +2,7 @@
 use Prim.Native.Nat.{ℕ, zero, suc, ◌+◌, ◌≤◌, ◌<◌}
 use native.Mathlib.Omega.{arith}
 use native.Mathlib.Numerals.{add-one}
-use mathlib.Core.Path.{◌≡◌, refl, sym, ◌∙◌, ap, ap₂}
+use mathlib.Core.Path.{◌≡◌, refl, sym, ◌∙◌, ap, ap₂, subst}
 use mathlib.Core.Bool.{Bool, true, false, cond, ◌&&◌, and_assoc, and-true}
 use mathlib.Core.List.{List, [], ◌∷◌, ◌++◌}
 use lib.ListN.{length, get_or}
@@ -11,6 +11,10 @@ use lib.Ieee.{Float, nan}
 use lib.Ieee.Scale.{finite}
 use borrow.Author.Tests.{eq-eqb, ne_eqb, eqb-true}
 use Rattle.loops.specs.Loops.{tabulate}
+use Rattle.std.specs.declared.option.Option.{Option}
+use Rattle.std.specs.declared.option.Option.TheVariants.{Some, None}
+use Rattle.loops.specs.Loops.{place_among}
+use Rattle.loops.proofs.PlaceLaws.{place_here, place_past, place_some, place_none}
 use Rattle.loops.proofs.LoopLaws.{at_end, below_suc}
 use Rattle.loops.proofs.TableLaws.{tabulate_get_d}
 use Rattle.grid.specs.Heights.{first_not_finite, all_finite, FiniteBelow, FirstBad}
@@ -88,6 +92,26 @@ pub all_at : (hs : List Float) → all_finite hs ≡ true → (i : ℕ) → i < 
 all_at hs e = (all_below hs e).each
 
 -- what the search for a bad height gives says whether there is one
+module _ (hs : List Float) {r : Option ℕ} (e : r ≡ place_among (length hs) (first_not_finite hs)) where
+  pub no_bad_height : r ≡ None → all_finite hs ≡ true
+  unfolding all_finite
+  no_bad_height s = eq-eqb _ _ (omega (arith, place_none {n = length hs} {c = first_not_finite hs} (sym e ∙ s), first_le hs))
+
+  module _ {c : ℕ} (s : r ≡ Some c) where
+    pub bad_height : all_finite hs ≡ false
+    unfolding all_finite
+    bad_height = ne_eqb _ _ (λ q. omega (arith, (place_some {n = length hs} {c = first_not_finite hs} (sym e ∙ s)).1, q))
+
+    pub bad_height_is : c ≡ first_not_finite hs
+    bad_height_is = (place_some {n = length hs} {c = first_not_finite hs} (sym e ∙ s)).0
+
+-- and a search that ends at the first bad height, or behind the last one, gives it
+pub bad_place : (hs : List Float) (n : ℕ) {c : ℕ} → c < n → c ≡ first_not_finite hs → Some c ≡ place_among n (first_not_finite hs)
+bad_place hs n l e = subst (λ (k : ℕ). Some k ≡ place_among n (first_not_finite hs)) (sym e) (place_here (omega (arith, l, e)))
+
+pub no_bad_place : (hs : List Float) (n : ℕ) {m : ℕ} → n ≤ m → m ≡ first_not_finite hs → None ≡ place_among n (first_not_finite hs)
+no_bad_place hs n l e = place_past (omega (arith, l, e))
+
 pub all_finite_lem : (hs : List Float) (c : ℕ) → c ≡ first_not_finite hs → c ≡ length hs → all_finite hs ≡ true
 unfolding all_finite
 all_finite_lem hs c e h = eq-eqb _ _ (sym e ∙ h)

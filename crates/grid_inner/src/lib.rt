@@ -23,10 +23,7 @@ pub fn inner_cells(size: Sides, y: usize) -> usize
     ensures { result ≡ inner_of size.w size.h y }
 {
     let w = size.w;
-    if w < 3 {
-        return 0;
-    }
-    if at_end(y, size.h) {
+    if w < 3 || at_end(y, size.h) {
         return 0;
     }
     w - 2
@@ -38,8 +35,5 @@ pub fn is_inner(size: Sides, c: usize) -> bool
     ensures { result ≡ not (border_at size.w size.h c) }
 {
     let w = size.w;
-    if at_end(c % w, w) {
-        return false;
-    }
-    !at_end(c / w, size.h)
+    !at_end(c % w, w) && !at_end(c / w, size.h)
 }

@@ -1,10 +1,10 @@
 -- An answer in one u64: the refusal number × 2^32 plus the place that it carries, cut to 32 bits; where nothing is
 -- refused, the result alone.
-use Rattle.std.specs.Prelude.{ℕ, ◌+◌, ◌*◌, ◌%◌, ◌^◌, ◌≡◌, Bool, cond}
+use Rattle.answers.specs.Outcome.{Answer}
+use Rattle.std.specs.Prelude.{ℕ, ◌+◌, ◌*◌, ◌%◌, ◌^◌, ◌≡◌}
 use Rattle.std.specs.Float.{binary32}
 use Rattle.std.specs.Float.Ieee.{to_bits}
 use Rattle.answers.specs.Outcome.{Outcome, gives, refused, refused_at, answer_of}
-use Rattle.answers.specs.declared.Answer.{Answer}
 use Rattle.generators.specs.declared.MinMax.{MinMax}
 
 abbrev pub export_word : {A : Type 0} → (A → ℕ) → Outcome A → ℕ
@@ -17,10 +17,6 @@ least_bits m = to_bits binary32 m.min
 
 abbrev pub greatest_bits : MinMax → ℕ
 greatest_bits m = to_bits binary32 m.max
-
--- the bits of the greatest or of the least value
-abbrev pub end_bits : Bool → MinMax → ℕ
-end_bits greatest m = to_bits binary32 (cond greatest m.max m.min)
 
 -- The exported function does what the public call does, and returns the word of that call's answer. `Made` is the
 -- call's own promise as a property of its answer; that promise fixes the answer by an equation, and so the word.

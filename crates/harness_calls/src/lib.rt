@@ -2,86 +2,59 @@
 // the oracle's comparison with the source: an answer is one u64 (specs/Word.antt). No part of the public calls.
 #![tactic(auto)]
 
-ghost use Rattle.std.specs.Prelude.{◌+◌, ◌*◌, ◌%◌, ◌^◌, ◌≡◌, cond};
+ghost use Rattle.std.specs.Prelude.{◌+◌, ◌*◌, ◌%◌, ◌^◌, ◌≡◌};
 ghost use Rattle.std.specs.Float.{binary32};
 ghost use Rattle.std.specs.Float.Ieee.{to_bits};
-ghost use Rattle.answers.specs.Outcome.{number_of, place_of, answer_of, value_of};
+ghost use Rattle.answers.specs.Outcome.{number_of, place_of, answer_of};
 ghost use Rattle.generators.specs.Marks.{go_of};
-ghost use Rattle.generators.specs.Extents.{extent_of, get_min_max_answer, NormalizeMade};
+ghost use Rattle.generators.specs.Extents.{get_min_max_answer, NormalizeMade};
 ghost use Rattle.resample.specs.Blocks.{Downsampled};
 ghost use Rattle.bilinear.specs.Samples.{bilinear_answer};
 ghost use Rattle.upsample.specs.Samples.{Added};
-ghost use Rattle.harness_calls.specs.Word.{export_word, least_bits, greatest_bits, end_bits, Exported};
+ghost use Rattle.harness_calls.specs.Word.{export_word, least_bits, greatest_bits, Exported};
 ghost use Rattle.harness_calls.specs.Reporting.{go_value, Reporting};
 
-use answers::{Answer, Refusal, Value};
-use generators::{Extent, Go, MinMax, Progress};
+use answers::Refusal;
+use generators::{Go, Progress};
 use grid::Sides;
 
 // A refusal's number and place in one word.
 fn refusal_word(r: Refusal) -> u64
     ensures { result ≡ number_of r * 2 ^ 32 + place_of r % 2 ^ 32 }
 {
-    let place = answers::place(r) % 0x1_0000_0000;
-    answers::number(r) as u64 * 0x1_0000_0000 + place as u64
+    let place = r.place() % 0x1_0000_0000;
+    u32::from(r) as u64 * 0x1_0000_0000 + place as u64
 }
 
-// An answer's word, 0 if it is no refusal.
-pub fn word(a: Answer) -> u64
-    ensures { result ≡ export_word (λ _. 0) (answer_of a) }
+// An answer's word: its value, or the refusal's number and place.
+fn answer_word(a: Result<u32, Refusal>) -> u64
+    ensures { result ≡ export_word (λ v. v) (answer_of a) }
 {
     match a {
-        Answer::Done => 0,
-        Answer::Refused(r) => refusal_word(r),
+        Ok(value) => value as u64,
+        Err(r) => refusal_word(r),
     }
 }
 
-// The bits of a value, or a refusal's word.
-fn value_word(v: Value) -> u64
-    ensures { result ≡ export_word (to_bits binary32) (value_of v) }
+// The word of an answer that gives nothing: 0 if it is no refusal.
+pub fn word(a: Result<(), Refusal>) -> u64
+    ensures { result ≡ export_word (λ _. 0) (answer_of a) }
 {
-    match v {
-        Value::Given(x) => floats::to_bits(x) as u64,
-        Value::Refused(r) => refusal_word(r),
-    }
-}
-
-// Returns one end of an extent: max where `greatest` is true, else min.
-fn end_of(m: MinMax, greatest: bool) -> f32
-    ensures { result ≡ cond greatest m.max m.min }
-{
-    if greatest { m.max } else { m.min }
-}
-
-// The bits of one end of an extent, or a refusal's word.
-fn extent_word(e: Extent, greatest: bool) -> u64
-    ensures { result ≡ export_word (end_bits greatest) (extent_of e) }
-{
-    match e {
-        Extent::Of(m) => floats::to_bits(end_of(m, greatest)) as u64,
-        Extent::Refused(r) => refusal_word(r),
-    }
-}
-
-// `get_min_max`: the bits of one end.
-fn end_word(v: &[f32], greatest: bool) -> u64
-    ensures { result ≡ export_word (end_bits greatest) (get_min_max_answer v.now) }
-{
-    extent_word(generators::get_min_max(v), greatest)
+    answer_word(a.map(|_| 0))
 }
 
 // `get_min_max`: the bits of min.
 pub fn harness_least(v: &[f32]) -> u64
     ensures { result ≡ export_word least_bits (get_min_max_answer v.now) }
 {
-    end_word(v, false)
+    answer_word(generators::get_min_max(v).map(|m| floats::to_bits(m.min)))
 }
 
 // `get_min_max`: the bits of max.
 pub fn harness_greatest(v: &[f32]) -> u64
     ensures { result ≡ export_word greatest_bits (get_min_max_answer v.now) }
 {
-    end_word(v, true)
+    answer_word(generators::get_min_max(v).map(|m| floats::to_bits(m.max)))
 }
 
 // `normalize`.
@@ -128,18 +101,17 @@ pub fn harness_add_upsampled(
 pub fn harness_bilinear(v: &[f32], x: f32, y: f32, w: usize, h: usize) -> u64
     ensures { result ≡ export_word (to_bits binary32) (bilinear_answer v.now x y w h) }
 {
-    value_word(bilinear::bilinear(v, x, y, Sides { w, h }))
+    answer_word(bilinear::bilinear(v, x, y, Sides { w, h }).map(|sample| floats::to_bits(sample)))
 }
 
 // Returns the word of a report's answer: 1 to go on, 0 to stop, or the refusal's word.
-fn go_word(go: Go) -> u64
+fn go_word(go: Result<Go, Refusal>) -> u64
     ensures { result ≡ export_word go_value (go_of go) }
 {
-    match go {
+    answer_word(go.map(|go| match go {
         Go::On => 1,
         Go::Stop => 0,
-        Go::Refused(r) => refusal_word(r),
-    }
+    }))
 }
 
 // `report`; the record is read and written in place.
@@ -158,6 +130,5 @@ pub fn harness_report(last: &mut f32, asked: &mut u32, stopped: &mut bool, p: f3
     *last = after.last;
     *asked = after.asked;
     *stopped = after.stopped;
-    let go = reported.go;
-    go_word(go)
+    go_word(reported.go)
 }

@@ -4,13 +4,13 @@
 ghost use Rattle.std.specs.Prelude.{◌+◌, ◌*◌, ◌%◌, ◌^◌, ◌≡◌, cond};
 ghost use Rattle.std.specs.Float.{binary32};
 ghost use Rattle.std.specs.Float.Ieee.{to_bits};
-ghost use Rattle.answers.specs.Outcome.{number_of, place_of, answer_of, value_of};
+ghost use Rattle.answers.specs.Outcome.{number_of, place_of, answer_of};
 ghost use Rattle.generators.specs.Marks.{go_of};
-ghost use Rattle.generators.specs.Extents.{extent_of, get_min_max_answer, NormalizeMade};
+ghost use Rattle.generators.specs.Extents.{get_min_max_answer, NormalizeMade};
 ghost use Rattle.resample.specs.Blocks.{Downsampled};
 ghost use Rattle.bilinear.specs.Samples.{bilinear_answer};
 ghost use Rattle.upsample.specs.Samples.{Added};
-ghost use Rattle.harness_calls.specs.Word.{export_word, least_bits, greatest_bits, end_bits, Exported};
+ghost use Rattle.harness_calls.specs.Word.{export_word, least_bits, greatest_bits, Exported};
 ghost use Rattle.harness_calls.specs.Reporting.{go_value, Reporting};
 
 // `get_min_max`: the bits of min.

@@ -1,8 +1,8 @@
 -- The word of a run's end, from its number and its place.
+use Rattle.answers.specs.Outcome.{Answer}
 use Prim.Native.Nat.{ℕ, ◌+◌, ◌*◌, ◌%◌, ◌^◌}
 use mathlib.Core.Path.{◌≡◌, ap, ◌∙◌}
 use Rattle.answers.specs.Outcome.{number_in, place_in, answer_of}
-use Rattle.answers.specs.declared.Answer.{Answer}
 use Rattle.harness_runs.specs.Exported.{end_word}
 
 pub end_word_lem :

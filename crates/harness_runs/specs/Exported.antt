@@ -1,7 +1,7 @@
 -- What an exported whole run promises: it leaves what the public call leaves, and gives that call's answer in one u64.
+use Rattle.answers.specs.Outcome.{Answer}
 use Rattle.std.specs.Prelude.{ℕ, ◌+◌, ◌*◌, ◌%◌, ◌^◌, ◌≡◌}
 use Rattle.answers.specs.Outcome.{number_in, place_in, answer_of}
-use Rattle.answers.specs.declared.Answer.{Answer}
 use Rattle.answers.specs.declared.RunAnswer.{RunAnswer}
 
 -- From the top, 16 bits each: document 01's number, 0 if nothing is refused, then the incisions, passes and questions.

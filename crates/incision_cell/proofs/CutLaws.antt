@@ -4,7 +4,7 @@ use native.Mathlib.Omega.{arith}
 use mathlib.Core.Path.{◌≡◌, ap, ap₂, ◌∙◌}
 use mathlib.Core.List.{List}
 use lib.ListN.{length, get_or, set}
-use lib.Ieee.{Float, nan, binary32, to_bits, div}
+use lib.Ieee.{Float, nan, binary32, to_bits}
 use Rattle.receiver_steps.specs.Distance.{apart}
 use Rattle.receiver_steps.specs.Step.{step_distances}
 use Rattle.receiver_steps.proofs.StepLaws.{step_distance}
@@ -12,11 +12,6 @@ use Rattle.areas.specs.Words.{areas_in, receiver_in, SteppedNetwork, Worded}
 use Rattle.areas.proofs.WordLaws.{area_is, stepped, leads}
 use Rattle.incision_cell.specs.Cut.{incision_coef, drained_to, cut_of, cut_down, cut_by_word}
 use Rattle.incision_cell.specs.declared.Incision.{Incision}
-
--- a cell is set to what the code works out
-pub cell_cut : (out : List Float) (c : ℕ) (own uplift water : Float) {rate rate' d d' down down' v : Float} → v ≡ cut_of own uplift water (div binary32 rate d) down → rate ≡ rate' → d ≡ d' → down ≡ down'
-    → set out c v ≡ set out c (cut_of own uplift water (div binary32 rate' d') down')
-cell_cut out c own uplift water e a b f = ap (set out c) (e ∙ ap₂ (cut_of own uplift water) (ap₂ (div binary32) a b) f)
 
 module _ (by : Incision) {cells : ℕ} {recv : List ℕ} (net : SteppedNetwork by.width recv cells) {words : List Float} (d : Worded by.width recv words) where
   distance_is : (c : ℕ) → c < length recv → get_or (step_distances by.distances) (to_bits binary32 (get_or words c nan) % 16) nan ≡ apart by.distances by.width c (get_or recv c 0)

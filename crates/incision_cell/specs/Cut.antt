@@ -1,12 +1,12 @@
 -- The incision of one cell, with the two formulas of document 01, 'Incision'.
-use Rattle.std.specs.Prelude.{ℕ, ◌%◌, ◌≤◌, ◌<◌, ◌≡◌, cond, List, length, get_or, eqb, Float}
+use Rattle.std.specs.Prelude.{ℕ, ◌%◌, ◌<◌, cond, List, length, get_or, eqb, Float}
 use Rattle.std.specs.Float.{nan, binary32}
 use Rattle.std.specs.Float.Ieee.{of_bits, to_bits, add, mul, div, le}
 use Rattle.floats.specs.Stand.{max_of}
 use Rattle.receiver_steps.specs.Distance.{apart}
-use Rattle.receiver_steps.specs.Step.{step_distances, step_offsets}
+use Rattle.receiver_steps.specs.Step.{step_distances}
 use Rattle.areas.specs.Words.{area_in, receiver_in}
-use Rattle.incision_rates.specs.Rate.{rate_of, rates_of}
+use Rattle.incision_rates.specs.Rate.{rate_of}
 use Rattle.incision_cell.specs.declared.Incision.{Incision}
 
 -- k × root(max(area, 1e-4 × n) / n) / d
@@ -40,13 +40,6 @@ cut_by_word by words c own below =
     cut_of own by.uplift by.water
     (incision_coef (area_in (get_or words c nan)) by.cells by.k (get_or (step_distances by.distances) (to_bits binary32 (get_or words c nan) % 16) nan))
     (drained_to c (receiver_in by.width c words) below by.water)
-
--- ds are the distances of steps, os their offsets, and `rates` holds the rates of the whole areas below m
-pub record Tables (by : Incision) (m : ℕ) (ds : List Float) (os : List ℕ) (rates : List Float) : Type 0 where
-  pub few : m ≤ 1024
-  pub distances : ds ≡ step_distances by.distances
-  pub offsets : os ≡ step_offsets by.width
-  pub small : rates ≡ rates_of m by.cells by.k
 
 -- c is a cell of the slices, and so is its receiver
 pub record CellOf (areas : List Float) (recv : List ℕ) (out : List Float) (c : ℕ) : Type 0 where

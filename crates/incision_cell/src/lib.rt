@@ -2,15 +2,16 @@
 // that holds both.
 #![tactic(auto)]
 
-ghost use Rattle.std.specs.Prelude.{◌≡◌, ◌<◌, length, get_or, set};
+ghost use Rattle.std.specs.Prelude.{◌≡◌, ◌≤◌, ◌<◌, length, get_or, set};
 ghost use Rattle.std.specs.Float.{nan};
+ghost use Rattle.receiver_steps.specs.Step.{step_distances};
 ghost use Rattle.areas.specs.Words.{receiver_in, Passing};
-ghost use Rattle.incision_cell.specs.Cut.{drained_to, cut_of, cut_down, cut_by_word, Tables, CellOf};
+ghost use Rattle.incision_cell.specs.Cut.{drained_to, cut_of, cut_down, cut_by_word, CellOf};
 
 use floats::max;
 use grid_spacing::Distances;
-use incision_rates::{RATES, rate, rate_at};
-use receiver_steps::{receiver_distance, stepped_to};
+use incision_rates::{Rates, rate, table_size};
+use receiver_steps::{Steps, receiver_distance, step_distances};
 
 // An incision on its grid: the columns, the number of cells as a float, the settings, and the distances to neighbours.
 #[derive(Clone, Copy)]
@@ -59,29 +60,46 @@ pub fn incise_cell(by: Incision, area: &[f32], recv: &[u32], out: &mut [f32], c:
     out[c] = cut(out[c], by.uplift, by.water, coef, down);
 }
 
-// Writes the incised height of cell c to `out`, from `height`, the area and the step in its word, and its receiver's
-// height in `out`. `rates` holds the rates of whole areas below m.
-pub fn settle_cell(
-    by: Incision,
-    by_step: &[f32; 16],
-    offsets: &[usize; 16],
-    rates: &[f32; RATES],
-    m: usize,
-    words: &[f32],
-    out: &mut [f32],
-    c: usize,
-    height: f32,
-)
-    requires tables { Tables by m by_step.now offsets.now rates.now }
-    requires passing { Passing by.width words.now c }
-    requires out_len { length out.old ≡ length words.now }
-    ensures { out.new ≡ set out.old c (cut_by_word by words.now c height
-        (get_or out.old (receiver_in by.width c words.now) nan)) }
-{
-    let word = f32::to_bits(words[c]);
-    let step = (word % 16) as usize;
-    let below = stepped_to(offsets, c, step, by.width);
-    let coef = rate_at(rates, m, (word / 16) as usize, by.cells, by.k) / by_step[step];
-    let down = drains_to(c, below, out[below], by.water);
-    out[c] = cut(height, by.uplift, by.water, coef, down);
+// An incision with what it reads for each cell: the distances of steps, the cells that they lead to, and the rates.
+#[derive(Drop)]
+pub struct IncisionTables {
+    pub by: Incision,
+    distances: [f32; 16],
+    pub steps: Steps,
+    rates: Rates,
+    pub ghost distances_made: { distances ≡ step_distances by.distances },
+    pub ghost steps_made: { steps.width ≡ by.width },
+    pub ghost cells_kept: { rates.cells ≡ by.cells },
+    pub ghost k_kept: { rates.k ≡ by.k },
+}
+
+impl IncisionTables {
+    // The tables of an incision on a grid of n cells.
+    pub fn new(by: Incision, n: usize) -> Self
+        requires { by.width ≤ 4096 }
+        ensures { result.by ≡ by }
+    {
+        IncisionTables {
+            by,
+            distances: step_distances(by.distances),
+            steps: Steps::new(by.width),
+            rates: Rates::new(table_size(n), by.cells, by.k),
+        }
+    }
+
+    // Writes the incised height of cell c to `out`, from `height`, the area and the step in its word, and its
+    // receiver's height in `out`.
+    pub fn settle_cell(&self, words: &[f32], out: &mut [f32], c: usize, height: f32)
+        requires passing { Passing self.now.by.width words.now c }
+        requires out_len { length out.old ≡ length words.now }
+        ensures { out.new ≡ set out.old c (cut_by_word self.now.by words.now c height
+            (get_or out.old (receiver_in self.now.by.width c words.now) nan)) }
+    {
+        let word = f32::to_bits(words[c]);
+        let step = (word % 16) as usize;
+        let below = self.steps.leads_to(c, step);
+        let coef = self.rates.of((word / 16) as usize) / self.distances[step];
+        let down = drains_to(c, below, out[below], self.by.water);
+        out[c] = cut(height, self.by.uplift, self.by.water, coef, down);
+    }
 }

@@ -85,6 +85,10 @@ module _ {recv : List ℕ} {words old out : List Float} {i j steps : ℕ} (s : D
   pub descent_at : j < length recv
   descent_at = trail_inside s.trail
 
+  pub descent_fresh : done_in words j ≡ false
+  unfolding times
+  descent_fresh = s.fresh j (omega (arith, one_same j j refl))
+
 module _ (words : List Float) (j r : ℕ) (e : ends_at words j r ≡ false) where
   -- a walk goes on from no cell that is its own receiver
   goes_on : r ≡ j → ⊥
@@ -132,9 +136,6 @@ module _ {recv : List ℕ} (o : Ordered recv) where
     module _ {r : ℕ} (z : r ≡ get_or recv j 0) where
       pub next_inside : r < length recv
       next_inside = omega (arith, receiver_lt o.work j (descent_at s))
-
-      pub next_fresh : ends_at words j r ≡ false → done_in words r ≡ false
-      next_fresh e = goes_into words j r e
 
       pub descent_ends : ends_at words j r ≡ true → Descended recv words old i out j steps
       descent_ends e = record { walk = s; ends = ap (ends_at words j) (sym z) ∙ e }
@@ -289,11 +290,6 @@ module _ {w i : ℕ} {recv : List ℕ} {areas : List Float} {made : ℕ → Floa
       go : (c : ℕ) → Held i made words out c → Dec (c ≡ i) → Held (i + 1) made words out c
       go c k (yes q) = record { earlier = λ l. subst (λ (c : ℕ). done_in words c ≡ true) (sym q) m; already = k.already }
       go c k (no d) = record { earlier = λ l. k.earlier (omega arith); already = k.already }
-
--- areas that are the same
-pub upto_areas : {i : ℕ} (by : Incision) (hs : List Float) (recv : List ℕ) {a b words out : List Float} → a ≡ b
-    → Upto by.width recv a i (settled_height by hs a recv) words out → Upto by.width recv b i (settled_height by hs b recv) words out
-upto_areas {i} by hs recv {a} {b} {words} {out} e = subst (λ (t : List Float). Upto by.width recv t i (settled_height by hs t recv) words out) e
 
 -- all cells are done
 pub upto_done : {w i : ℕ} (by : Incision) (hs : List Float) (recv : List ℕ) (old : List Float) {words out : List Float} → Upto w recv (areas_in old) i (settled_height by hs (areas_in old) recv) words out

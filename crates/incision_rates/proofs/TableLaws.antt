@@ -3,16 +3,11 @@ use Prim.Native.Nat.{ℕ, ◌≤◌, ◌<◌}
 use mathlib.Core.Path.{◌≡◌, ap, ◌∙◌}
 use mathlib.Core.List.{List}
 use lib.ListN.{get_or, replicate}
-use lib.Ieee.{Float, nan, binary32, of_bits, mul, div}
+use lib.Ieee.{Float, nan, binary32, of_bits}
 use Rattle.loops.proofs.TableLaws.{filled_at}
 use Rattle.loops.proofs.FillLaws.{Filling, stored}
-use Rattle.floats.specs.Stand.{max_of, whole}
-use Rattle.square_root.specs.Root.{root_of}
+use Rattle.floats.specs.Stand.{whole}
 use Rattle.incision_rates.specs.Rate.{rate_of, rates_of}
-
--- the rate as the code works it out
-pub rate_is : (area n k : Float) {most r : Float} → most ≡ max_of area (mul binary32 (of_bits binary32 0x38d1_b717) n) → r ≡ root_of (div binary32 most n) → mul binary32 k r ≡ rate_of area n k
-rate_is area n k e f = ap (mul binary32 k) (f ∙ ap (λ (x : Float). root_of (div binary32 x n)) e)
 
 module _ (n k : Float) (m : ℕ) where
   -- the table once it is filled

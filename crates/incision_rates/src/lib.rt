@@ -21,40 +21,56 @@ pub fn rate(area: f32, n_cells: f32, k: f32) -> f32
 }
 
 // The most entries of a table of rates: 4 KB of it stay in the nearest cache.
-pub const RATES: usize = 1024;
+const RATES: usize = 1024;
 
 // Returns how many whole areas, from 0 on, the table of a grid of n cells has: n / 64, at most 1,024, so that filling
 // it costs little.
 pub fn table_size(n: usize) -> usize
     ensures { result ≡ min (n / 64) 1024 }
 {
-    let some = n / 64;
-    if some < RATES { some } else { RATES }
+    (n / 64).min(RATES)
 }
 
-// The rates of the whole areas below m.
-pub fn table(m: usize, n_cells: f32, k: f32) -> [f32; RATES]
-    requires { m ≤ 1024 }
-    ensures { result ≡ rates_of m n_cells k }
-{
-    let mut rates: [f32; RATES] = [0.0; RATES];
-    let mut i: usize = 0;
-    while i < m {
-        rates[i] = rate(i as f32, n_cells, k);
-        i += 1;
-    }
-    rates
+// The rates on a grid of `cells` cells with the coefficient k: those of the whole areas below `size` in a table, the
+// others worked out.
+#[derive(Drop)]
+pub struct Rates {
+    size: usize,
+    pub cells: f32,
+    pub k: f32,
+    table: [f32; RATES],
+    pub ghost few: { size ≤ 1024 },
+    pub ghost made: { table ≡ rates_of size cells k },
 }
 
-// The rate of the whole area i, read from the table where i is below m.
-pub fn rate_at(rates: &[f32; RATES], m: usize, i: usize, n_cells: f32, k: f32) -> f32
-    requires m_bound { m ≤ 1024 }
-    requires rates_value { rates.now ≡ rates_of m n_cells k }
-    requires i_bound { i ≤ 2 ^ 24 }
-    ensures { result ≡ rate_of (whole i) n_cells k }
-{
-    if i < m {
-        return rates[i];
+impl Rates {
+    pub fn new(size: usize, cells: f32, k: f32) -> Self
+        requires { size ≤ 1024 }
+        ensures size_kept { result.size ≡ size }
+        ensures cells_kept { result.cells ≡ cells }
+        ensures k_kept { result.k ≡ k }
+    {
+        let mut table: [f32; RATES] = [0.0; RATES];
+        // By index: an area is the place of its rate.
+        for i in 0..size {
+            table[i] = rate(i as f32, cells, k);
+        }
+        Rates {
+            size,
+            cells,
+            k,
+            table,
+        }
     }
-    rate(i as f32, n_cells, k)
+
+    // The rate of the whole area i.
+    pub fn of(&self, i: usize) -> f32
+        requires { i ≤ 2 ^ 24 }
+        ensures { result ≡ rate_of (whole i) self.now.cells self.now.k }
+    {
+        if i < self.size {
+            return self.table[i];
+        }
+        rate(i as f32, self.cells, self.k)
+    }
 }

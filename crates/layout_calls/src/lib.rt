@@ -7,10 +7,8 @@ ghost use Rattle.std.specs.Prelude.{◌≤◌, ◌≡◌};
 ghost use Rattle.answers.specs.Outcome.{number_of};
 ghost use Rattle.layout_calls.specs.Word.{packed, sides_value, root_word, sides_word, check_word};
 
-use answers::{Refusal, Value};
+use answers::Refusal;
 use grid::Sides;
-use resample::Work;
-use stream::Read;
 
 // A refusal number and a value in one word.
 fn pack(number: u32, value: u32) -> u64
@@ -23,7 +21,7 @@ fn pack(number: u32, value: u32) -> u64
 fn refused(refusal: Refusal) -> u64
     ensures { result ≡ packed (number_of refusal) 0 }
 {
-    pack(answers::number(refusal), 0)
+    pack(u32::from(refusal), 0)
 }
 
 // Two sides in one value.
@@ -41,8 +39,8 @@ pub fn milofavurn_square_root(x: f32) -> u64
 {
     let answer = square_root::root(x);
     match answer {
-        Value::Given(root) => pack(0, floats::to_bits(root)),
-        Value::Refused(refusal) => refused(refusal),
+        Ok(root) => pack(0, floats::to_bits(root)),
+        Err(refusal) => refused(refusal),
     }
 }
 
@@ -53,8 +51,8 @@ pub fn milofavurn_working_sides(w: usize, h: usize, max_res: u32) -> u64
 {
     let answer = resample::work_size(Sides { w, h }, max_res);
     match answer {
-        Work::Of(size) => pack(0, sides_value(size)),
-        Work::Refused(refusal) => refused(refusal),
+        Ok(size) => pack(0, sides_value(size)),
+        Err(side) => refused(side),
     }
 }
 
@@ -64,7 +62,7 @@ pub fn milofavurn_stream_check(bytes: &[u8]) -> u64
 {
     let answer = stream::read_stream(false, bytes);
     match answer {
-        Read::Accepted(_) => pack(0, 0),
-        Read::Refused(refusal) => refused(refusal),
+        Ok(_) => pack(0, 0),
+        Err(refusal) => refused(refusal),
     }
 }

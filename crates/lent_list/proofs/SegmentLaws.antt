@@ -7,9 +7,14 @@ use mathlib.Core.Path.{◌≡◌, refl, sym, ap, ◌∙◌, subst}
 use mathlib.Core.Bool.{Bool, true, false, true≢false}
 use mathlib.Core.List.{List}
 use lib.ListN.{length, get_or, take}
-use lib.Dec.{ltb}
+use lib.Dec.{ltb, leb}
+use Rattle.std.proofs.Common.{Option, Some, None, position}
+use Rattle.std.specs.Option.{unwrap_or, option_or}
+use Rattle.std.proofs.lemmas.List.Sums.{position_or_len_is}
+use Rattle.loops.specs.Loops.{Searched}
+use Rattle.loops.proofs.PlaceLaws.{searched_at, searched_none, searched_some, searched_past, searched_or}
 use borrow.Author.Count.{below_more}
-use borrow.Author.Tests.{lt-ltb, ltb-true, ltb-false}
+use borrow.Author.Tests.{lt-ltb, ltb-true, ltb-false, le-leb, lt-leb}
 use Rattle.loops.proofs.CountLaws.{one_same, one_other, times_more}
 use Rattle.loops.specs.Counts.{one_if, times}
 use Rattle.lent_list.specs.Entries.{every_cell, good_entry, first_bad_entry, GoodAt}
@@ -17,8 +22,8 @@ use Rattle.lent_list_marks.specs.Seen.{segment, span}
 use Rattle.lent_list.specs.Walks.{GoodWithin, Scanned, Stood, Walk, ListLengths, WithinOverlap}
 use Rattle.lent_list_marks.proofs.SeenLaws.{Put}
 use Rattle.lent_list_blocks.specs.Blocks.{CellsBefore}
-use Rattle.loops.specs.Firsts.{First}
-use Rattle.loops.proofs.FirstLaws.{first_is, first_end}
+use Rattle.loops.specs.Firsts.{First, first_failing}
+use Rattle.loops.proofs.FirstLaws.{first_is, first_end, first_of_lem}
 use Rattle.loops.proofs.LoopLaws.{all_pass}
 use Rattle.lent_list.proofs.ListLaws.{good_at_lem, at_good}
 
@@ -161,6 +166,16 @@ pub every_first : {n : ℕ} (list : List ℕ) → every_cell n list ≡ true →
 unfolding every_cell
 every_first {n} list e k = first_end (λ i l. all_pass (length list) (λ p. ltb (get_or list p 0) n) e i (omega arith))
 
+-- and the search along the list finds the first that is none
+pub search_first : {n : ℕ} (list : List ℕ) → length list ≡ n → {o : Option ℕ} → o ≡ position (leb n) list → Searched n (First n (λ p. ltb (get_or list p 0) n)) o
+search_first {n} list k e =
+    let s = first_of_lem n (λ p. ltb (get_or list p 0) n) in
+    let f : ℕ = first_failing n (λ p. ltb (get_or list p 0) n) in
+    let at = position_or_len_is (leb n) list f 0 (omega (arith, s.bound))
+    (λ i l. lt-leb n (get_or list i 0) (ltb-true _ n (s.earlier i l)))
+    (λ l. le-leb n (get_or list f 0) (ltb-false _ n (s.fails (omega arith)))) in
+    record { place = f; fact = s; is = e ∙ rw (at, k) }
+
 pub segments_none : {n : ℕ} {recv list : List ℕ} {f : ℕ} → First n (λ p. ltb (get_or list p 0) n) f → Segments n recv list 0 f
 segments_none {n} {recv} {list} {f} s =
     record {
@@ -214,3 +229,25 @@ segments_done {n} {recv} {list} {lo} {f} s h =
     good i k u =
         let inside : get_or list i 0 < n = u.cell in
         record { cell = inside; fresh = u.fresh (omega arith); after = λ d. u.leaves d (omega arith) }
+
+-- the search for a segment below the place found so far
+module _ {n : ℕ} {recv list : List ℕ} {lo : ℕ} {bad : Option ℕ} (s : Searched n (Segments n recv list lo) bad) where
+  pub segments_at : {limit : ℕ} → limit ≡ unwrap_or bad n → Segments n recv list lo limit
+  segments_at e = rw e (searched_or (λ f t. t.bound) s)
+
+  pub segments_next : WithinOverlap n recv → {limit : ℕ} → limit ≡ unwrap_or bad n → {found next : Option ℕ} → Searched limit (Scanned n recv list lo (lo + span) limit) found
+      → next ≡ option_or found bad → Searched n (Segments n recv list (lo + segment)) next
+  segments_next near {limit} e {found} {next} t q = rw q (go found refl)
+    where
+      before : Segments n recv list lo limit
+      before = segments_at e
+
+      still : limit ≤ t.place → (b : Option ℕ) → limit ≡ unwrap_or b n → Searched n (Segments n recv list lo) b → Searched n (Segments n recv list (lo + segment)) b
+      still l (Some k) f r =
+          let same : t.place ≡ k = omega (arith, f, t.fact.bound) in
+          searched_at (rw same at (segments_more near before t.fact)) (searched_some r refl).1
+      still l None f r = searched_none (segments_more near before t.fact) (omega (arith, f))
+
+      go : (o : Option ℕ) → found ≡ o → Searched n (Segments n recv list (lo + segment)) (option_or o bad)
+      go (Some k) f = let u = searched_some t f in searched_at (segments_more near before u.0) (omega (arith, u.1, before.bound))
+      go None f = still (searched_past t f) bad e s

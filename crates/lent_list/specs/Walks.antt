@@ -1,7 +1,8 @@
 -- The walk along a list for a segment of cells: what the marks say of the entries passed.
-use Rattle.std.specs.Prelude.{ℕ, ◌+◌, ◌^◌, ◌≤◌, ◌<◌, ◌≡◌, Bool, true, false, List, length, get_or, take, ltb}
+use Rattle.std.specs.Prelude.{ℕ, ◌+◌, ◌-◌, ◌^◌, ◌≤◌, ◌<◌, ◌≡◌, Bool, true, false, not, ◌||◌, List, length, get_or, slice_index, take, ltb}
+use Rattle.loops.specs.Loops.{turns}
 use Rattle.loops.specs.Counts.{times}
-use Rattle.lent_list_marks.specs.Seen.{segment, span, is_marked, in_segment}
+use Rattle.lent_list_marks.specs.Seen.{segment, span, is_marked, marking, in_segment, missing_in}
 use Rattle.lent_list.specs.Entries.{good_entry}
 
 -- the entry at a position is good as far as the cells lo to hi - 1 show: it is one of n cells; if it is one of lo to hi
@@ -33,6 +34,20 @@ pub record Walk (long n : ℕ) (recv list : List ℕ) (lo limit p : ℕ) (m : �
 pub record WalkEnded (n : ℕ) (recv list : List ℕ) (lo to : ℕ) (seen : List ℕ) (f : ℕ) : Type 0 where
   pub found : Scanned n recv list lo (lo + span) to f
   pub marks : f ≡ to → Stood span list lo to (is_marked seen)
+
+-- every one of the cells lies in the segment from lo
+pub record CellsWithin (lo : ℕ) (cells : List ℕ) : Type 0 where
+  pub each : (i : ℕ) → i < length cells → in_segment span lo (slice_index cells i) ≡ true
+
+-- the marks after the first i of the cells, which lie in the segment from lo
+abbrev pub marked_by : ℕ → List ℕ → List ℕ → ℕ → List ℕ
+marked_by lo cells seen i = turns i (λ j s. marking s (slice_index cells j - lo)) seen
+
+-- the i-th of the cells is good by the marks: it has not stood yet, and its receiver has, if it lies in the segment
+abbrev pub good_by_marks : ℕ → List ℕ → List ℕ → List ℕ → ℕ → Bool
+good_by_marks lo recv cells seen i =
+    let c = slice_index cells i in
+    not (is_marked (marked_by lo cells seen i) (c - lo) || missing_in (marking (marked_by lo cells seen i) (c - lo)) lo (slice_index recv c))
 
 -- recv and list have n entries each, and every receiver is one of the n cells
 pub record ListLengths (n : ℕ) (recv list : List ℕ) : Type 0 where

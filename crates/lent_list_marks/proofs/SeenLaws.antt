@@ -105,9 +105,6 @@ blank size = ap (λ (k : ℕ). replicate k 0) (sym (length-replicate {A = ℕ} s
 pub clear_at : (size : ℕ) {n : ℕ} → n ≤ size * 64 → Clear n (replicate size 0)
 clear_at size l = record { none = blank size; enough = omega (arith, length-replicate {A = ℕ} size 0) }
 
-pub blank_at : (size : ℕ) {n : ℕ} → n ≤ size → Blank n (replicate size 0)
-blank_at size l = record { none = blank size; enough = omega (arith, length-replicate {A = ℕ} size 0) }
-
 -- where a cell lies
 module _ (long lo c : ℕ) where
   pub segment_before : c < lo → in_segment long lo c ≡ false

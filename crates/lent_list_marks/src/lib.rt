@@ -27,48 +27,39 @@ fn mark(seen: &mut [u64], i: usize)
     ensures { seen.new ≡ marking seen.old i }
 {
     let word = i / 64;
-    seen[word] = seen[word] | (1 << (i % 64));
+    seen[word] |= 1 << (i % 64);
 }
 
-// Whether cell c lies in the segment from lo. Where `known` is true, it does, and that is not tested.
-fn in_segment(lo: usize, c: usize, known: bool) -> bool
-    requires { known ≡ true → in_segment span lo c ≡ true }
+// Whether cell c lies in the segment from lo. Where `KNOWN` is true, it does, and that is not tested.
+fn in_segment<const KNOWN: bool>(lo: usize, c: usize) -> bool
+    requires { KNOWN ≡ true → in_segment span lo c ≡ true }
     ensures { result ≡ in_segment span lo c }
 {
-    if known {
-        return true;
-    }
-    if c < lo {
-        return false;
-    }
-    c - lo < SPAN
+    KNOWN || lo <= c && c - lo < SPAN
 }
 
-// Whether cell r lies in the segment from lo and has not stood yet. Where `known` is true, it lies there, and that is
+// Whether cell r lies in the segment from lo and has not stood yet. Where `KNOWN` is true, it lies there, and that is
 // not tested.
-fn missing(seen: &[u64], lo: usize, r: usize, known: bool) -> bool
+fn missing<const KNOWN: bool>(seen: &[u64], lo: usize, r: usize) -> bool
     requires span_in_bounds { span ≤ length seen.now * 64 }
-    requires r_value { known ≡ true → in_segment span lo r ≡ true }
+    requires r_value { KNOWN ≡ true → in_segment span lo r ≡ true }
     ensures { result ≡ missing_in seen.now lo r }
 {
-    if in_segment(lo, r, known) {
-        return !marked(seen, r - lo);
-    }
-    false
+    in_segment::<KNOWN>(lo, r) && !marked(seen, r - lo)
 }
 
 // Marks cell c of the segment from lo. Returns whether its entry is bad by the marks: c stood already, or its receiver
 // r lies in the segment too and has not stood. c is marked before r is looked up, so that a cell that is its own
-// receiver counts as stood.
-pub fn bad_in_segment(seen: &mut [u64], lo: usize, c: usize, r: usize, known: bool) -> bool
+// receiver counts as stood. Where `KNOWN` is true, r lies in the segment, and that is not tested.
+pub fn bad_in_segment<const KNOWN: bool>(seen: &mut [u64], lo: usize, c: usize, r: usize) -> bool
     requires span_in_bounds { span ≤ length seen.old * 64 }
     requires c_value { in_segment span lo c ≡ true }
-    requires r_value { known ≡ true → in_segment span lo r ≡ true }
-    ensures { (result ≡ (is_marked seen.old (c - lo) || missing_in seen.new lo r)) ×
-        (seen.new ≡ marking seen.old (c - lo)) }
+    requires r_value { KNOWN ≡ true → in_segment span lo r ≡ true }
+    ensures verdict { result ≡ (is_marked seen.old (c - lo) || missing_in seen.new lo r) }
+    ensures put { seen.new ≡ marking seen.old (c - lo) }
 {
     let i = c - lo;
     let stood = marked(seen, i);
     mark(seen, i);
-    stood | missing(seen, lo, r, known)
+    stood | missing::<KNOWN>(seen, lo, r)
 }

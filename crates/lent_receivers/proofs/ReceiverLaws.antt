@@ -1,11 +1,11 @@
 -- A good receiver by its place: the cell itself or a neighbour, which lies in one of three short bands of cell numbers.
-use Rattle.std.proofs.Common.{◌≡◌, ℕ, zero, suc, ◌+◌, ◌-◌, ◌*◌, ◌^◌, ◌<◌, ◌≤◌, min, Bool, true, false, not, ◌&&◌, ◌||◌, eqb, ltb, ◌⊎◌, ℤ, pos, negsuc, nat_abs, sym, refl, ap, ◌∙◌, subst, inl, inr, true≢false, mul-le-mul_right, suc-mul, mul_comm, zero-mul, arith, lit≤, ltb-true, le-ltb, lt-ltb, eq-eqb, eqb-true}
+use Rattle.std.proofs.Common.{◌≡◌, ℕ, zero, suc, ◌+◌, ◌-◌, ◌*◌, ◌<◌, ◌≤◌, min, Bool, true, false, not, ◌&&◌, ◌||◌, eqb, ltb, ◌⊎◌, ℤ, pos, negsuc, nat_abs, sym, refl, ap, ◌∙◌, subst, inl, inr, true≢false, mul-le-mul_right, suc-mul, mul_comm, zero-mul, arith, lit≤, leb, leb-true, le-leb, ltb-true, le-ltb, lt-ltb, eq-eqb, eqb-true}
 use native.Mathlib.Decide.{dec_lt, ℕ_discrete}
-use Rattle.loops.proofs.TestLaws.{both}
+use Rattle.loops.proofs.TestLaws.{both, alike}
 use Rattle.loops.specs.Loops.{turns}
 use Rattle.grid.specs.Sides.{cell_of}
-use Rattle.grid.specs.Directions.{Place, shifted_of, neighbour_of, neighbour_at, Adjacent}
-use Rattle.grid.proofs.SidesLaws.{cell_lt, cells_bound}
+use Rattle.grid.specs.Directions.{shifted_of, neighbour_of, neighbour_at, Adjacent}
+use Rattle.grid.proofs.SidesLaws.{cell_lt}
 use Rattle.grid.proofs.NeighbourLaws.{step_x, step_y, Beside, neighbour_beside, outside_or_beside, neighbour_cell, step_of, close_step, shift_ahead, shift_behind}
 use Rattle.grid.proofs.ReachLaws.{beside_adjacent}
 use Rattle.lent_receivers.specs.Receivers.{good_receiver}
@@ -71,6 +71,21 @@ module _ (w h c r : ℕ) where
       go : (b : Bool) → good_receiver w h c r ≡ b → b ≡ false
       go true e = absurd (n e)
       go false e = refl
+
+-- one of three tests is met
+met₁ : (a b c : Bool) → a ≡ true → (a || b || c) ≡ true
+met₁ true b c e = refl
+met₁ false b c e = absurd (true≢false (sym e))
+
+met₂ : (a b c : Bool) → b ≡ true → (a || b || c) ≡ true
+met₂ true b c e = refl
+met₂ false true c e = refl
+met₂ false false c e = absurd (true≢false (sym e))
+
+met₃ : (a b c : Bool) → c ≡ true → (a || b || c) ≡ true
+met₃ true b c e = refl
+met₃ false true c e = refl
+met₃ false false c e = e
 
 -- ---- one step along a side
 data Step (x side n : ℕ) : Type 0 where
@@ -181,31 +196,29 @@ module _ (w h x y : ℕ) (cx : x < w) (cy : y < h) where
 
   -- by the first and the last cell of the band in the cell's own row, as the code finds them
   module _ (r from to : ℕ) (ef : from ≡ x + y * w - min x 1) (et : to ≡ x + y * w + min (w - 1 - x) 1) where
-    pub off_bands : (from ≤ r + w → r + w ≤ to → ⊥) → (from ≤ r → r ≤ to → ⊥) → (from + w ≤ r → r ≤ to + w → ⊥) → true ≡ not (good_receiver w h (cell_of w x y) r)
-    off_bands a b c = ap not (sym (not_good w h (cell_of w x y) r (λ e. go (good_band r e))))
-      where
-        go : Band r → ⊥
-        go (above p q) = a (omega arith) (omega arith)
-        go (level p q) = b (omega arith) (omega arith)
-        go (below p q) = c (omega arith) (omega arith)
-
     module _ (l : r < w * h) where
-      on : Band r → false ≡ not (good_receiver w h (cell_of w x y) r)
-      on b = ap not (sym (band_good r l b))
+      -- the code's test of the three bands
+      abbrev band_test : Bool
+      band_test = (leb from (r + w) && leb (r + w) to) || (leb from r && leb r to) || (leb (from + w) r && leb r (to + w))
 
-      pub on_above : from ≤ r + w → r + w ≤ to → false ≡ not (good_receiver w h (cell_of w x y) r)
-      on_above p q = on (above (omega arith) (omega arith))
+      band_met : band_test ≡ true → Band r
+      band_met e = go (leb from (r + w) && leb (r + w) to) refl (leb from r && leb r to) refl (leb (from + w) r && leb r (to + w)) refl e
+        where
+          go : (a : Bool) → (leb from (r + w) && leb (r + w) to) ≡ a → (b : Bool) → (leb from r && leb r to) ≡ b
+              → (c : Bool) → (leb (from + w) r && leb r (to + w)) ≡ c → (a || b || c) ≡ true → Band r
+          go true p b q c s e = let k = both (leb from (r + w)) (leb (r + w) to) p in above (omega (arith, leb-true from (r + w) k.0)) (omega (arith, leb-true (r + w) to k.1))
+          go false p true q c s e = let k = both (leb from r) (leb r to) q in level (omega (arith, leb-true from r k.0)) (omega (arith, leb-true r to k.1))
+          go false p false q true s e = let k = both (leb (from + w) r) (leb r (to + w)) s in below (omega (arith, leb-true (from + w) r k.0)) (omega (arith, leb-true r (to + w) k.1))
+          go false p false q false s e = absurd (true≢false (sym e))
 
-      pub on_level : from ≤ r → r ≤ to → false ≡ not (good_receiver w h (cell_of w x y) r)
-      on_level p q = on (level (omega arith) (omega arith))
+      met_band : Band r → band_test ≡ true
+      met_band (above p q) = met₁ (leb from (r + w) && leb (r + w) to) (leb from r && leb r to) (leb (from + w) r && leb r (to + w)) (rw (le-leb from (r + w) (omega arith), le-leb (r + w) to (omega arith)))
+      met_band (level p q) = met₂ (leb from (r + w) && leb (r + w) to) (leb from r && leb r to) (leb (from + w) r && leb r (to + w)) (rw (le-leb from r (omega arith), le-leb r to (omega arith)))
+      met_band (below p q) = met₃ (leb from (r + w) && leb (r + w) to) (leb from r && leb r to) (leb (from + w) r && leb r (to + w)) (rw (le-leb (from + w) r (omega arith), le-leb r (to + w) (omega arith)))
 
-      pub on_below : from + w ≤ r → r ≤ to + w → false ≡ not (good_receiver w h (cell_of w x y) r)
-      on_below p q = on (below (omega arith) (omega arith))
+      pub off_bands : not band_test ≡ not (good_receiver w h (cell_of w x y) r)
+      off_bands = ap not (alike _ _ (λ e. band_good r l (band_met e)) (λ e. met_band (good_band r e)))
 
 pub no_cell : (w h c r : ℕ) → w * h ≤ r → true ≡ not (good_receiver w h c r)
 unfolding good_receiver
 no_cell w h c r l = rw (le-ltb r (w * h) l)
-
--- a cell of the grid, and how many there are
-pub place_bound : {w h x y : ℕ} → Place w h x y → (cell_of w x y < w * h) × (w * h ≤ 2 ^ 24)
-place_bound {w} {h} {x} {y} p = (cell_lt w x y p.column h p.row, cells_bound w h p.wide p.high)

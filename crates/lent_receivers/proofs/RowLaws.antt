@@ -1,7 +1,7 @@
 -- A row that passes the quick test has no bad receiver.
-use Rattle.std.proofs.Common.{◌≡◌, ℕ, zero, suc, ◌+◌, ◌-◌, ◌*◌, ◌%◌, ◌^◌, ◌<◌, ◌≤◌, Bool, true, false, cond, not, ◌&&◌, ◌||◌, eqb, ltb, leb, List, get_or, sym, refl, ap, ◌∙◌, subst, ap₂, true≢false, arith, ltb-false, ltb-true, le-ltb, lt-ltb, ne_eqb, le-leb, leb-true}
-use native.Mathlib.Decide.{dec_lt, ℕ_discrete}
-use borrow.Author.Tests.{eqb-false, lt-leb}
+use Rattle.std.proofs.Common.{◌≡◌, ℕ, zero, suc, ◌+◌, ◌-◌, ◌*◌, ◌<◌, ◌≤◌, Bool, true, false, cond, not, ◌&&◌, ◌||◌, eqb, ltb, leb, List, get_or, sym, refl, ap, ◌∙◌, subst, true≢false, arith, ltb-false, ltb-true, le-ltb, ne_eqb, leb-true}
+use native.Mathlib.Decide.{ℕ_discrete}
+use borrow.Author.Tests.{eqb-false}
 use Rattle.loops.proofs.TestLaws.{both, chosen, passed}
 use Rattle.loops.proofs.LoopLaws.{all_pass}
 use Rattle.grid.specs.Sides.{InRange, cell_of}
@@ -10,29 +10,6 @@ use Rattle.loops.specs.Firsts.{First}
 use Rattle.lent_receivers.specs.Receivers.{among_three, beside_inner, inner_pass, row_passes, good_receiver, receiver_test}
 use Rattle.lent_receivers.proofs.ReceiverLaws.{above, level, below, band_good}
 use Rattle.loops.proofs.FirstLaws.{first_end}
-
--- ---- the code's test of three cells: the difference wraps below the first
-three_is : (from r d : ℕ) → from ≤ 4096 * 4096 → d < 2 ^ 32 → (d + from) % 2 ^ 32 ≡ r → ltb d 3 ≡ among_three from r
-three_is from r d l f e = go (dec_lt d 3) (dec_lt r from)
-  where
-    go : Dec (d < 3) → Dec (r < from) → ltb d 3 ≡ among_three from r
-    go (yes k) b = rw (lt-ltb d 3 k, le-leb from r (omega arith), lt-ltb r (from + 3) (omega arith))
-    go (no k) (yes b) = let m : 3 ≤ d = omega arith in rw (le-ltb d 3 m, lt-leb from r b)
-    go (no k) (no b) =
-        let m : 3 ≤ d = omega arith in
-        let n : from + 3 ≤ r = omega arith in
-        rw (le-ltb d 3 m, le-leb from r (omega arith), le-ltb r (from + 3) n)
-
--- and of the nine: past is how far r lies beyond the first of them, second and third how far it lies beyond the first of the next rows
-pub beside_is : (w from r past second third : ℕ) → from + w + w ≤ 4096 * 4096 → past < 2 ^ 32 → second < 2 ^ 32 → third < 2 ^ 32
-    → (past + from) % 2 ^ 32 ≡ r → (second + w) % 2 ^ 32 ≡ past → (third + (w + w)) % 2 ^ 32 ≡ past
-    → (ltb past 3 || ltb second 3 || ltb third 3) ≡ beside_inner w (from + (w + 1)) r
-beside_is w from r past second third l a b c e f g =
-    let back : from ≡ from + (w + 1) - (w + 1) = omega arith in
-    ap₂ ◌||◌
-    (ap₂ ◌||◌ (three_is from r past (omega arith) a e) (three_is (from + w) r second (omega arith) b (omega arith)))
-    (three_is (from + w + w) r third (omega arith) c (omega arith))
-    ∙ ap (λ (k : ℕ). among_three k r || among_three (k + w) r || among_three (k + w + w) r) back
 
 among : (from r : ℕ) → among_three from r ≡ true → (from ≤ r) × (r < from + 3)
 among from r e = let p = both (leb from r) (ltb r (from + 3)) e in (leb-true from r p.0, ltb-true r (from + 3) p.1)

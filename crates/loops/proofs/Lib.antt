@@ -5,5 +5,6 @@ pub mod LoopLaws
 pub mod TableLaws
 pub mod FillLaws
 pub mod FirstLaws
+pub mod PlaceLaws
 pub mod RowFillLaws
 pub mod CountLaws

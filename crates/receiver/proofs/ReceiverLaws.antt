@@ -2,16 +2,16 @@
 use Prim.Native.Nat.{ℕ, suc, ◌+◌, ◌*◌, ◌≤◌, ◌<◌}
 use mathlib.Core.Path.{◌≡◌, sym, ap, ap₂, ◌∙◌}
 use mathlib.Core.Logic.{◌⊎◌, inl, inr}
-use mathlib.Core.Bool.{Bool, true, false, ◌&&◌, cond}
+use mathlib.Core.Bool.{Bool, true, ◌&&◌, cond}
 use mathlib.Core.List.{List}
 use native.Mathlib.Numerals.{add-one}
 use native.Mathlib.Omega.{arith}
 use lib.ListN.{length, get_or}
 use lib.Dec.{ltb}
 use lib.Ieee.{Float, nan, lt}
-use borrow.Author.Tests.{lt-ltb, le-ltb, eq-eqb, ne_eqb}
+use borrow.Author.Tests.{lt-ltb, eq-eqb, ne_eqb}
 use Rattle.loops.specs.Loops.{turns}
-use Rattle.loops.proofs.TestLaws.{either, through, through₂}
+use Rattle.loops.proofs.TestLaws.{either, through}
 use Rattle.loops.proofs.TurnLaws.{turns_none, turns_more}
 use Rattle.loops.proofs.LoopLaws.{at_end}
 use Rattle.grid.specs.Directions.{neighbour_at, Adjacent}
@@ -24,20 +24,6 @@ use Rattle.receiver.specs.Passes.{steepest_as, slope_down, compared_as, Compared
 use Rattle.receiver_steps.specs.Distance.{apart}
 use Rattle.receiver_steps.proofs.DistanceLaws.{distance_by_cells}
 
-abbrev best_of : ℕ → Float → Best
-best_of k s = record { cell = k; slope = s }
-
-pub compared_parts :
-    (by-direction spill : List Float) (c d m cell : ℕ) (best : Best) {s : Float} {k : ℕ}
-    → k ≡ cond (lt (get_or spill m nan) (get_or spill c nan) && lt best.slope (slope_down spill c m (get_or by-direction d nan))) cell best.cell
-    → s ≡ cond (lt (get_or spill m nan) (get_or spill c nan) && lt best.slope (slope_down spill c m (get_or by-direction d nan))) (slope_down spill c m (get_or by-direction d nan)) best.slope
-    → ◌≡◌ {A = Best} (record { cell = k; slope = s }) (compared_as by-direction spill c d m cell best)
-compared_parts by-direction spill c d m cell best e f =
-    rw (e, f)
-    (through₂ best_of
-    (lt (get_or spill m nan) (get_or spill c nan) && lt best.slope (slope_down spill c m (get_or by-direction d nan)))
-    cell best.cell (slope_down spill c m (get_or by-direction d nan)) best.slope)
-
 module _ (ds : Distances) (w h : ℕ) (spill : List Float) (c d m : ℕ) (best : Best) (long : length spill ≡ w * h) where
   abbrev slope : Float
   slope = slope_down spill c m (distance_in ds d)
@@ -48,9 +34,6 @@ module _ (ds : Distances) (w h : ℕ) (spill : List Float) (c d m : ℕ) (best :
 
   by_test : (a : Bool) → ltb m (w * h) ≡ a → (base : ℕ → Bool) → chosen a ≡ compared floats (ground_by w h ds base) spill c d m (steepest_as best)
   by_test a e base = ap chosen (sym e)
-
-  pub compared_outside : length spill ≤ m → Compared ds w h spill c d m best best
-  compared_outside l = record { is = by_test false (le-ltb m (w * h) (omega arith)); inside = λ i. i }
 
   pub compared_inside : (r : Best) → m < length spill → {by-direction : List Float} → by-direction ≡ nine_of ds → r ≡ compared_as by-direction spill c d m m best → Compared ds w h spill c d m best r
   compared_inside r l {by-direction} t e = record {

@@ -2,15 +2,39 @@
 // which the slope is the greatest.
 #![tactic(auto)]
 
-ghost use Rattle.std.specs.Prelude.{◌*◌, ◌^◌, ◌≤◌, ◌<◌, ◌≡◌, cond, length};
+ghost use Rattle.std.specs.Prelude.{◌*◌, ◌^◌, ◌≤◌, ◌<◌, ◌≡◌, length};
 ghost use Rattle.grid.specs.Sides.{cell_of};
 ghost use Rattle.grid.specs.Directions.{Place, Adjacent};
 ghost use Rattle.grid_spacing.specs.Distances.{nine_of};
+ghost use Rattle.receiver_steps.specs.Step.{place_distances};
 ghost use Rattle.receiver.specs.Passes.{compared_as, Compared, Received};
 
-use grid::{DIRX, DIRY, Sides, neighbour};
-use grid_spacing::Distances;
-use receiver_steps::receiver_distance;
+use grid::{DIRX, DIRY, Map, neighbour};
+use grid_spacing::{Distances, direction_distances};
+use receiver_steps::{place_distances, receiver_distance};
+
+// Distances to neighbours, and the tables of them that the loops read: by the place of a step and by its direction.
+#[derive(Clone, Copy)]
+pub struct DistanceTables {
+    pub distances: Distances,
+    pub by_place: [f32; 5],
+    pub by_direction: [f32; 9],
+    ghost placed: { by_place ≡ place_distances distances },
+    ghost directed: { by_direction ≡ nine_of distances },
+}
+
+impl DistanceTables {
+    // The tables of these distances.
+    pub fn new(distances: Distances) -> Self
+        ensures { result.distances ≡ distances }
+    {
+        DistanceTables {
+            distances,
+            by_place: place_distances(distances),
+            by_direction: direction_distances(distances),
+        }
+    }
+}
 
 // The receiver of a cell so far, by its number or its offset, and the slope down to it.
 #[derive(Clone, Copy)]
@@ -19,21 +43,9 @@ pub struct Best {
     pub slope: f32,
 }
 
-// Returns a if `first`, else b: a select, not a branch. `slope_where` does the same for slopes.
-fn cell_where(first: bool, a: u32, b: u32) -> u32
-    ensures { result ≡ cond first a b }
-{
-    if first { a } else { b }
-}
-
-fn slope_where(first: bool, a: f32, b: f32) -> f32
-    ensures { result ≡ cond first a b }
-{
-    if first { a } else { b }
-}
-
 // Compares neighbour m of cell c, in direction d, with the receiver so far. Returns m, by `cell`, with its slope if its
-// spill height is strictly lower and its slope strictly greater; else the receiver so far.
+// spill height is strictly lower and its slope strictly greater; else the receiver so far. Both tests are made before
+// the choice: a select, not a branch.
 pub fn compare(
     by_direction: &[f32; 9],
     spill: &[f32],
@@ -52,69 +64,54 @@ pub fn compare(
     let to = spill[m];
     let slope = (from - to) / by_direction[d];
     let steeper = (to < from) & (slope > best.slope);
-    Best {
-        cell: cell_where(steeper, cell, best.cell),
-        slope: slope_where(steeper, slope, best.slope),
-    }
+    if steeper { Best { cell, slope } } else { best }
 }
 
 // Compares m, the neighbour of any cell c in direction d, with the receiver so far, as `compare` does. Returns the
 // receiver so far where m lies outside the grid.
 fn compare_toward(
-    g: Sides,
-    ds: Distances,
-    by_direction: &[f32; 9],
-    spill: &[f32],
+    spill: &Map,
+    tables: &DistanceTables,
     c: usize,
     d: usize,
     m: usize,
     best: Best,
 ) -> Best
-    requires by_direction_value { by_direction.now ≡ nine_of ds }
-    requires spill_len { length spill.now ≡ g.w * g.h }
-    requires h_bound { g.w * g.h ≤ 2 ^ 24 }
-    requires c_bound { c < g.w * g.h }
+    requires h_bound { spill.now.size.w * spill.now.size.h ≤ 2 ^ 24 }
+    requires c_bound { c < spill.now.size.w * spill.now.size.h }
     requires d_bound { d < 9 }
-    ensures { Compared ds g.w g.h spill.now c d m best result }
+    ensures { Compared tables.now.distances spill.now.size.w spill.now.size.h spill.now.heights.now
+        c d m best result }
 {
-    if spill.len() <= m {
+    if spill.heights.len() <= m {
         return best;
     }
-    compare(by_direction, spill, c, d, m, m as u32, best)
+    compare(&tables.by_direction, spill.heights, c, d, m, m as u32, best)
 }
 
 // The receiver of column x, row y, whose discoverer is f: the steepest strictly lower neighbour if it is steeper than
 // f, else f; a base cell is its own receiver.
-pub fn receiver(
-    g: Sides,
-    ds: Distances,
-    by_direction: &[f32; 9],
-    spill: &[f32],
-    x: usize,
-    y: usize,
-    f: u32,
-) -> u32
-    requires by_direction_value { by_direction.now ≡ nine_of ds }
-    requires place { Place g.w g.h x y }
-    requires spill_len { length spill.now ≡ g.w * g.h }
-    requires adjacent { (f ≡ cell_of g.w x y → ⊥) → Adjacent g.w g.h (cell_of g.w x y) f }
-    ensures { Received ds g.w g.h spill.now (cell_of g.w x y) f result }
+pub fn receiver(spill: &Map, tables: &DistanceTables, x: usize, y: usize, f: u32) -> u32
+    requires place { Place spill.now.size.w spill.now.size.h x y }
+    requires adjacent { (f ≡ cell_of spill.now.size.w x y → ⊥)
+        → Adjacent spill.now.size.w spill.now.size.h (cell_of spill.now.size.w x y) f }
+    ensures { Received tables.now.distances spill.now.size.w spill.now.size.h spill.now.heights.now
+        (cell_of spill.now.size.w x y) f result }
 {
-    let w = g.w;
+    let w = spill.size.w;
     let c = x + y * w;
     let found = f as usize;
     if found == c {
         return f;
     }
+    let down = spill.heights[c] - spill.heights[found];
     let mut best = Best {
         cell: f,
-        slope: (spill[c] - spill[found]) / receiver_distance(c, found, w, ds),
+        slope: down / receiver_distance(c, found, w, tables.distances),
     };
-    let mut d: usize = 0;
-    while d < 8 {
-        let m = neighbour(g, x, y, DIRX[d + 1], DIRY[d + 1]);
-        best = compare_toward(g, ds, by_direction, spill, c, d + 1, m, best);
-        d += 1;
+    for d in 0..8 {
+        let m = neighbour(spill.size, x, y, DIRX[d + 1], DIRY[d + 1]);
+        best = compare_toward(spill, tables, c, d + 1, m, best);
     }
     best.cell
 }

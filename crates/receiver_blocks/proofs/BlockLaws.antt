@@ -1,6 +1,6 @@
 -- A block of inner cells: what its three passes leave.
 use Prim.Native.Nat.{ℕ, ◌+◌, ◌-◌, ◌*◌, ◌^◌, ◌≤◌, ◌<◌}
-use mathlib.Core.Path.{◌≡◌, refl, ap, ap₂, ◌∙◌, subst}
+use mathlib.Core.Path.{◌≡◌, ap, ap₂, ◌∙◌, subst}
 use mathlib.Core.Logic.{◌⊎◌}
 use mathlib.Core.Bool.{Bool, cond}
 use mathlib.Core.List.{List, ◌++◌}
@@ -11,7 +11,7 @@ use lib.ListN.{length, get_or, set, drop, length-set}
 use lib.Seq.{get_or-set_same, get_or-set_other}
 use lib.Ieee.{Float, nan}
 use Rattle.loops.specs.Loops.{tabulate}
-use Rattle.loops.proofs.TableLaws.{filled_length, filled_read}
+use Rattle.loops.proofs.TableLaws.{filled_read}
 use Rattle.loops.proofs.FillLaws.{Filling, filling_next}
 use Rattle.grid.specs.Directions.{Adjacent}
 use Rattle.grid_inner.specs.Inner.{InnerRun}
@@ -22,13 +22,6 @@ use Rattle.drainage.specs.Receivers.{receiver_of}
 use Rattle.receiver.specs.Passes.{Received}
 use Rattle.receiver_blocks.specs.Runs.{discoverer_as, steepest_from, steepest_at, NearDiscoverers, Begun, Leads, Stored, RunReceived}
 use Rattle.receiver_blocks.proofs.OffsetLaws.{offset_enough, offset_below, offset_received}
-
--- the lists keep their lengths
-pub begun_long :
-    {ds : Distances} {w : ℕ} {spill : List Float} {recv : List ℕ} {c n : ℕ} {cells cells' : List ℕ} {slopes slopes' : List Float}
-    → Begun ds w spill recv c n (record { cells = cells; slopes = slopes }) (record { cells = cells'; slopes = slopes' })
-    → n ≤ length cells → length cells' ≡ length cells
-begun_long {ds} {w} {spill} {recv} {c} {n} {cells} b l = ap length b.offsets ∙ filled_length (λ i. (discoverer_as ds w spill (c + i) (get_or recv (c + i) 0)).cell) n cells l
 
 -- one cell more: the offset so far is still the one at the start
 pub steepest_next :
@@ -72,9 +65,6 @@ module _
 
 -- the loop of the stores
 module _ {w c : ℕ} {cells r : List ℕ} where
-  pub stored_none : Stored w c 0 cells r r
-  stored_none = record { done = λ i l. absurd (omega arith); earlier = λ k l. refl; later = λ k l. refl; long = refl }
-
   module _ {i : ℕ} {s : List ℕ} (p : Stored w c i cells r s) where
     pub stored_more :
         c + i < length r
@@ -106,9 +96,6 @@ module _ {w c : ℕ} {cells r : List ℕ} where
             ∙ e
             ∙ ap (λ (f : ℕ). cond (eqb f (c + i)) f (c + i + get_or cells i 0 - (w + 1))) (p.later (c + i) (omega arith)))
         at k m (no q) = get_or-set_other s (c + i) (c + k) v 0 (apart k q) ∙ p.done k (omega arith)
-
-    pub stored_done : {n : ℕ} → i ≤ n → n ≤ i → Stored w c n cells r s
-    stored_done {n} a b = let e : i ≡ n = omega arith in subst (λ (k : ℕ). Stored w c k cells r s) e p
 
 -- the stores of a whole block leave its receivers
 module _

@@ -1,26 +1,35 @@
 // Replaces the discoverers of a block of inner cells by their receivers, in three loops: the offset of each discoverer
 // and the slope down to it; the offset of each steepest neighbour, with no test and no branch; the stores.
+// Each loop goes by an index: it reaches into several slices, and needs the number of the cell.
 #![tactic(auto)]
 
 ghost use Rattle.std.specs.Prelude.{◌+◌, ◌-◌, ◌*◌, ◌^◌, ◌≤◌, ◌<◌, ◌≡◌, cond, ◌++◌, eqb, length, drop};
 ghost use Rattle.loops.specs.Loops.{tabulate};
 ghost use Rattle.grid_inner.specs.Inner.{Inner, InnerRun};
-ghost use Rattle.receiver_steps.specs.Step.{place_distances, Near};
-ghost use Rattle.grid_spacing.specs.Distances.{nine_of};
+ghost use Rattle.receiver_steps.specs.Step.{Near};
 ghost use Rattle.receiver_blocks.specs.Runs.{offset_from, discoverer_as, steepest_from, steepest_at, NearDiscoverers};
 ghost use Rattle.receiver_blocks.specs.Runs.{Begun, Leads, Stored, RunReceived};
 
-use grid::{DIRX, DIRY, Sides};
+use grid::{DIRX, DIRY, Map, Sides};
 use grid_inner::beside;
-use grid_spacing::Distances;
-use receiver::{Best, compare};
+use receiver::{Best, DistanceTables, compare};
 use receiver_steps::step_place;
 
 // The cells of a block: their offsets and slopes, 512 bytes, stay in the nearest cache from one loop to the next.
 pub const RECEIVER_BLOCK: usize = 64;
 
+// A block of a map: `count` inner cells from cell `first` on, at most 64.
+#[derive(Clone, Copy)]
+pub struct Block<'a> {
+    pub spill: Map<'a>,
+    pub first: usize,
+    pub count: usize,
+    ghost inner: { InnerRun spill.size.w spill.size.h first count },
+    ghost few: { count ≤ 64 },
+}
+
 // The offset of cell m for an inner cell c on a grid of that width: m minus the north-west neighbour of c. It has as
-// many bits as a slope, so that as many offsets as slopes are selected at a time.
+// many bits as a slope, so that a vector holds as many offsets as slopes.
 fn offset(width: usize, c: usize, m: usize) -> u32
     requires width_bound { width ≤ 4096 }
     requires c_bound { c ≤ m + (width + 1) }
@@ -32,104 +41,78 @@ fn offset(width: usize, c: usize, m: usize) -> u32
 }
 
 // The slope from cell c down to its discoverer f.
-fn discoverer_slope(
-    width: usize,
-    ds: Distances,
-    by_place: &[f32; 5],
-    spill: &[f32],
-    c: usize,
-    f: usize,
-) -> f32
-    requires near { Near width c f }
-    requires le_width { 3 ≤ width }
-    requires by_place_value { by_place.now ≡ place_distances ds }
-    requires c_in_bounds { c < length spill.now }
-    requires f_in_bounds { f < length spill.now }
-    ensures { result ≡ (discoverer_as ds width spill.now c f).slope }
+fn discoverer_slope(spill: &Map, tables: &DistanceTables, c: usize, f: usize) -> f32
+    requires near { Near spill.now.size.w c f }
+    requires le_width { 3 ≤ spill.now.size.w }
+    requires c_in_bounds { c < length spill.now.heights.now }
+    requires f_in_bounds { f < length spill.now.heights.now }
+    ensures { result
+        ≡ (discoverer_as tables.now.distances spill.now.size.w spill.now.heights.now c f).slope }
 {
-    let place = step_place(c, f, width);
-    (spill[c] - spill[f]) / by_place[place]
+    let place = step_place(c, f, spill.size.w);
+    (spill.heights[c] - spill.heights[f]) / tables.by_place[place]
 }
 
-// Stores the offsets of the discoverers of n inner cells from cell c on, and the slopes down to them.
+// Stores the offsets of the discoverers of the cells of a block, and the slopes down to them.
 fn discoverer_block(
-    size: Sides,
-    ds: Distances,
-    by_place: &[f32; 5],
-    spill: &[f32],
+    block: &Block,
+    tables: &DistanceTables,
     recv: &[u32],
-    c: usize,
-    n: usize,
     cells: &mut [u32; RECEIVER_BLOCK],
     slopes: &mut [f32; RECEIVER_BLOCK],
 )
-    requires inner_run { InnerRun size.w size.h c n }
-    requires near_discoverers { NearDiscoverers size.w size.h c (c + n) recv.now }
-    requires by_place_value { by_place.now ≡ place_distances ds }
-    requires spill_len { length spill.now ≡ size.w * size.h }
-    requires recv_len { length recv.now ≡ size.w * size.h }
-    requires n_bound { n ≤ 64 }
-    requires cells_len { length cells.old ≡ 64 }
-    requires slopes_len { length slopes.old ≡ 64 }
-    ensures { Begun ds size.w spill.now recv.now c n
+    requires near_discoverers { NearDiscoverers block.now.spill.size.w block.now.spill.size.h
+        block.now.first (block.now.first + block.now.count) recv.now }
+    requires recv_len { length recv.now ≡ block.now.spill.size.w * block.now.spill.size.h }
+    ensures { Begun tables.now.distances block.now.spill.size.w block.now.spill.heights.now recv.now
+        block.now.first block.now.count
         (record { cells = cells.old; slopes = slopes.old })
         (record { cells = cells.new; slopes = slopes.new }) }
 {
-    let w = size.w;
-    let mut i: usize = 0;
-    while i < n {
-        let f = recv[c + i] as usize;
-        slopes[i] = discoverer_slope(w, ds, by_place, spill, c + i, f);
-        cells[i] = offset(w, c + i, f);
-        i += 1;
+    let w = block.spill.size.w;
+    for i in 0..block.count {
+        let c = block.first + i;
+        let f = recv[c] as usize;
+        slopes[i] = discoverer_slope(&block.spill, tables, c, f);
+        cells[i] = offset(w, c, f);
     }
 }
 
 // Compares the neighbours of an inner cell with the receiver so far, by their offsets. Returns the offset of the
 // steepest strictly lower one if it is steeper than the receiver so far, else that of the receiver so far.
-fn steepest_inside(size: Sides, by_direction: &[f32; 9], spill: &[f32], c: usize, best: Best) -> u32
-    requires inner { Inner size.w size.h c }
-    requires spill_len { length spill.now ≡ size.w * size.h }
+fn steepest_inside(spill: &Map, by_direction: &[f32; 9], c: usize, best: Best) -> u32
+    requires inner { Inner spill.now.size.w spill.now.size.h c }
     ensures { result
-        ≡ (steepest_from by_direction.now size.w size.h spill.now c best).cell }
+        ≡ (steepest_from by_direction.now spill.now.size.w spill.now.size.h spill.now.heights.now
+        c best).cell }
 {
-    let w = size.w;
+    let w = spill.size.w;
     let mut b = best;
-    let mut d: usize = 0;
-    while d < 8 {
-        let m = beside(size, c, DIRX[d + 1], DIRY[d + 1]);
-        b = compare(by_direction, spill, c, d + 1, m, offset(w, c, m), b);
-        d += 1;
+    for d in 0..8 {
+        let m = beside(spill.size, c, DIRX[d + 1], DIRY[d + 1]);
+        b = compare(by_direction, spill.heights, c, d + 1, m, offset(w, c, m), b);
     }
     b.cell
 }
 
-// Replaces the offsets in `cells` by those of the steepest neighbours of n inner cells from cell c on. Spill heights
-// and receivers are not written in the loop, so that several cells are worked out at a time.
+// Replaces the offsets in `cells` by those of the steepest neighbours of the cells of a block. Spill heights and
+// receivers are not written in the loop, so that several cells can be worked out at a time.
 fn steepest_block(
-    size: Sides,
+    block: &Block,
     by_direction: &[f32; 9],
-    spill: &[f32],
-    c: usize,
-    n: usize,
     cells: &mut [u32; RECEIVER_BLOCK],
     slopes: &[f32; RECEIVER_BLOCK],
 )
-    requires inner_run { InnerRun size.w size.h c n }
-    requires spill_len { length spill.now ≡ size.w * size.h }
-    requires n_bound { n ≤ 64 }
-    requires cells_len { length cells.old ≡ 64 }
-    ensures { cells.new ≡ tabulate n (steepest_at by_direction.now size.w size.h
-        spill.now c cells.old slopes.now) ++ drop n cells.old }
+    ensures { cells.new ≡ tabulate block.now.count (steepest_at by_direction.now
+        block.now.spill.size.w block.now.spill.size.h block.now.spill.heights.now block.now.first
+        cells.old slopes.now) ++ drop block.now.count cells.old }
 {
-    let mut i: usize = 0;
-    while i < n {
+    for i in 0..block.count {
         let best = Best {
             cell: cells[i],
             slope: slopes[i],
         };
-        cells[i] = steepest_inside(size, by_direction, spill, c + i, best);
-        i += 1;
+        cells[i] = steepest_inside(&block.spill, by_direction, block.first + i, best);
     }
 }
 
@@ -145,55 +128,32 @@ fn receiver_inside(size: Sides, c: usize, f: u32, offset: u32) -> u32
     (c + offset as usize - (size.w + 1)) as u32
 }
 
-// Stores the receivers of n inner cells from cell c on in the place of their discoverers, by the offsets in `cells`.
-fn store_block(size: Sides, recv: &mut [u32], c: usize, n: usize, cells: &[u32; RECEIVER_BLOCK])
-    requires inner_run { InnerRun size.w size.h c n }
-    requires recv_len { length recv.old ≡ size.w * size.h }
-    requires n_bound { n ≤ 64 }
-    requires leads { Leads size.w c n cells.now }
-    ensures { Stored size.w c n cells.now recv.old recv.new }
+// Stores the receivers of the cells of a block in the place of their discoverers, by the offsets in `cells`.
+fn store_block(block: &Block, recv: &mut [u32], cells: &[u32; RECEIVER_BLOCK])
+    requires recv_len { length recv.old ≡ block.now.spill.size.w * block.now.spill.size.h }
+    requires leads { Leads block.now.spill.size.w block.now.first block.now.count cells.now }
+    ensures { Stored block.now.spill.size.w block.now.first block.now.count cells.now recv.old
+        recv.new }
 {
-    let mut i: usize = 0;
-    while i < n {
-        recv[c + i] = receiver_inside(size, c + i, recv[c + i], cells[i]);
-        i += 1;
+    for i in 0..block.count {
+        let c = block.first + i;
+        recv[c] = receiver_inside(block.spill.size, c, recv[c], cells[i]);
     }
 }
 
-// Stores the receivers of n inner cells from cell c on, at most 64, in the place of their discoverers.
-pub fn receive_block(
-    size: Sides,
-    ds: Distances,
-    by_place: &[f32; 5],
-    by_direction: &[f32; 9],
-    spill: &[f32],
-    recv: &mut [u32],
-    c: usize,
-    n: usize,
-)
-    requires inner_run { InnerRun size.w size.h c n }
-    requires near_discoverers { NearDiscoverers size.w size.h c (c + n) recv.old }
-    requires by_place_value { by_place.now ≡ place_distances ds }
-    requires spill_len { length spill.now ≡ size.w * size.h }
-    requires recv_len { length recv.old ≡ size.w * size.h }
-    requires n_bound { n ≤ 64 }
-    requires by_direction_value { by_direction.now ≡ nine_of ds }
-    ensures { RunReceived ds size.w size.h spill.now c (c + n) recv.old
+// Stores the receivers of the cells of a block in the place of their discoverers.
+pub fn receive_block(block: &Block, tables: &DistanceTables, recv: &mut [u32])
+    requires near_discoverers { NearDiscoverers block.now.spill.size.w block.now.spill.size.h
+        block.now.first (block.now.first + block.now.count) recv.old }
+    requires recv_len { length recv.old ≡ block.now.spill.size.w * block.now.spill.size.h }
+    ensures { RunReceived tables.now.distances block.now.spill.size.w block.now.spill.size.h
+        block.now.spill.heights.now block.now.first (block.now.first + block.now.count) recv.old
         recv.new }
 {
+    // Two arrays, not one of `Best`: over an array of pairs the same loops take an eighth more time.
     let mut cells: [u32; RECEIVER_BLOCK] = [0; RECEIVER_BLOCK];
     let mut slopes: [f32; RECEIVER_BLOCK] = [0.0; RECEIVER_BLOCK];
-    discoverer_block(
-        size,
-        ds,
-        by_place,
-        spill,
-        recv,
-        c,
-        n,
-        &mut cells,
-        &mut slopes,
-    );
-    steepest_block(size, by_direction, spill, c, n, &mut cells, &slopes);
-    store_block(size, recv, c, n, &cells);
+    discoverer_block(block, tables, recv, &mut cells, &mut slopes);
+    steepest_block(block, &tables.by_direction, &mut cells, &slopes);
+    store_block(block, recv, &cells);
 }

@@ -83,21 +83,9 @@ module _ {w i r : ℕ} (near : Near w i r) where
       (subst (λ (k : ℕ). Wide w (column_of w i) (row_of w i) (column_of w r) (row_of w r) (gap (cell_of w (column_of w i) (row_of w i)) k)) (cell_back w r)
       (wide_gap w (column_of w i) (row_of w i) (column_of w r) (row_of w r) l near.west near.east near.north near.south))
 
-  -- the code's sum and difference
+  -- the sum in the code
   pub gap_bound : 3 ≤ w → gap i r ≤ w + 1
   gap_bound l = (gap_wide l).bound
-
-  pub gap_enough : 3 ≤ w → 2 ≤ gap i r → w ≤ gap i r + 3
-  gap_enough l k = go (ℕ_discrete (row_of w r) (row_of w i)) (ℕ_discrete (column_of w r) (column_of w i)) (gap_wide l)
-    where
-      more : (gap i r + 3 - w ≡ 2) ⊎ (gap i r + 3 - w ≡ 4) → w ≤ gap i r + 3
-      more (inl q) = omega arith
-      more (inr q) = omega arith
-
-      go : Dec (row_of w r ≡ row_of w i) → Dec (column_of w r ≡ column_of w i) → Wide w (column_of w i) (row_of w i) (column_of w r) (row_of w r) (gap i r) → w ≤ gap i r + 3
-      go (yes e) c s = absurd (omega (arith, s.level e))
-      go (no e) (yes c) s = omega (arith, s.straight e c)
-      go (no e) (no c) s = more (s.aslant e c)
 
   module _ (ds : Distances) where
     wide : 3 ≤ w → Wide w (column_of w i) (row_of w i) (column_of w r) (row_of w r) (gap i r) → Holds ds (cond (ltb (gap i r) 2) (gap i r) (gap i r + 3 - w)) (apart ds w i r)

@@ -4,27 +4,11 @@
 #![tactic(auto)]
 
 ghost use Rattle.std.specs.Prelude.{◌≡◌, cond, ◌+◌, ◌-◌, ◌*◌, ◌/◌, ◌%◌, ◌≤◌, ◌<◌};
-ghost use Rattle.grid_spacing.specs.Distances.{cell_side};
 ghost use Rattle.receiver_steps.specs.Distance.{apart};
-ghost use Rattle.receiver_steps.specs.Step.{place_distances, step_distances, step_offsets, gap, distance_place};
+ghost use Rattle.receiver_steps.specs.Step.{place_distances, step_distances, step_offsets, distance_place};
 ghost use Rattle.receiver_steps.specs.Step.{step_of, stepped_to, Near};
 
 use grid_spacing::Distances;
-
-// The distance between two cells of one column: that of the rows, or 1 where they have the same row.
-fn along_column(same_row: bool, ds: Distances) -> f32
-    ensures { result ≡ cond same_row cell_side ds.row }
-{
-    if same_row { 1.0 } else { ds.row }
-}
-
-// The distance between two cells of different columns: the column distance if they have the same row, else the
-// diagonal.
-fn across_columns(same_row: bool, ds: Distances) -> f32
-    ensures { result ≡ cond same_row ds.column ds.diagonal }
-{
-    if same_row { ds.column } else { ds.diagonal }
-}
 
 // Returns the distance from cell i to its receiver r, by the distances `ds`: 1 if r is i itself, else that to the
 // neighbour r.
@@ -32,11 +16,14 @@ pub fn receiver_distance(i: usize, r: usize, width: usize, ds: Distances) -> f32
     requires { 0 < width }
     ensures { result ≡ apart ds width i r }
 {
+    let same_column = i % width == r % width;
     let same_row = i / width == r / width;
-    if i % width == r % width {
-        return along_column(same_row, ds);
+    match (same_column, same_row) {
+        (true, true) => 1.0,
+        (true, false) => ds.row,
+        (false, true) => ds.column,
+        (false, false) => ds.diagonal,
     }
-    across_columns(same_row, ds)
 }
 
 // The table of distances for `step_place`: of cells whose numbers differ by 0, by 1, and by w - 1, w and w + 1.
@@ -46,20 +33,13 @@ pub fn place_distances(ds: Distances) -> [f32; 5]
     [1.0, ds.column, ds.diagonal, ds.row, ds.diagonal]
 }
 
-// By how much two numbers differ.
-fn difference(a: usize, b: usize) -> usize
-    ensures { result ≡ gap a b }
-{
-    if a < b { b - a } else { a - b }
-}
-
 // The entry of `place_distances` for cell i and its receiver r, which is i itself or one of its 8 neighbours.
 pub fn step_place(i: usize, r: usize, width: usize) -> usize
     requires near { Near width i r }
     requires le_width { 3 ≤ width }
     ensures { result ≡ distance_place width i r }
 {
-    let between = difference(i, r);
+    let between = i.abs_diff(r);
     if between < 2 {
         return between;
     }
@@ -70,7 +50,8 @@ pub fn step_place(i: usize, r: usize, width: usize) -> usize
 // counted from the one north of i.
 pub fn step_of(i: u32, r: u32, width: u32) -> u32
     requires near { Near width i r }
-    requires le_width { (3 ≤ width) × (i < 4096 * 4096) × (r < 4096 * 4096) }
+    requires columns { 3 ≤ width }
+    requires cells { (i < 4096 * 4096) × (r < 4096 * 4096) }
     ensures { result ≡ step_of width i r }
 {
     let past = r + width + 1 - i;
@@ -83,29 +64,36 @@ pub fn step_of(i: u32, r: u32, width: u32) -> u32
     past + 8 - width - width
 }
 
-// For each step, the number of the cell that it leads to minus the number of the north-west neighbour; a table, since
-// it is read for each cell.
-pub fn step_offsets(width: usize) -> [usize; 16]
-    requires { width ≤ 4096 }
-    ensures { result ≡ step_offsets width }
-{
-    let mut offsets: [usize; 16] = [0; 16];
-    let mut s: usize = 0;
-    while s < 16 {
-        offsets[s] = s % 4 + s / 4 * width;
-        s += 1;
-    }
-    offsets
+// The steps on a grid of `width` columns: for each, the number of the cell that it leads to minus the number of the
+// north-west neighbour. A table, since it is read for each cell.
+#[derive(Drop)]
+pub struct Steps {
+    pub width: usize,
+    offsets: [usize; 16],
+    pub ghost wide: { width ≤ 4096 },
+    pub ghost made: { offsets ≡ step_offsets width },
 }
 
-// The cell that a step from cell c leads to.
-pub fn stepped_to(offsets: &[usize; 16], c: usize, step: usize, width: usize) -> usize
-    requires offsets_value { offsets.now ≡ step_offsets width }
-    requires width_bound { (width ≤ 4096) × (c < 4096 * 4096) × (step < 16) }
-    requires width_bound_2 { width + 1 ≤ c + step % 4 + step / 4 * width }
-    ensures { result ≡ stepped_to width c step }
-{
-    c + offsets[step] - width - 1
+impl Steps {
+    pub fn new(width: usize) -> Self
+        requires { width ≤ 4096 }
+        ensures { result.width ≡ width }
+    {
+        let mut offsets: [usize; 16] = [0; 16];
+        for (s, offset) in offsets.iter_mut().enumerate() {
+            *offset = s % 4 + s / 4 * width;
+        }
+        Steps { width, offsets }
+    }
+
+    // The cell that a step from cell c leads to.
+    pub fn leads_to(&self, c: usize, step: usize) -> usize
+        requires c_bound { (c < 4096 * 4096) × (step < 16) }
+        requires past { self.now.width + 1 ≤ c + step % 4 + step / 4 * self.now.width }
+        ensures { result ≡ stepped_to self.now.width c step }
+    {
+        c + self.offsets[step] - self.width - 1
+    }
 }
 
 // The table of distances by the number of the step; 1 for a number that is no step.

@@ -3,8 +3,7 @@
 // values as any grid of the list has cells; whole runs are streams for `relief`.
 #![tactic(auto)]
 
-use answers::Written;
-use floats::{from_bits, to_bits};
+use floats::to_bits;
 use harness::{harness_incise, harness_route, harness_slide_pass};
 use harness_calls::{
     harness_add_upsampled, harness_bilinear, harness_downsample, harness_greatest, harness_least,
@@ -12,36 +11,66 @@ use harness_calls::{
 };
 use layout_calls::{milofavurn_square_root, milofavurn_working_sides};
 use std::io::{Read, Write};
-use stream_words::{
-    as_index, bytes_held, cell_buffer, cells_held, float_buffer, floats_held, state_buffer,
-};
+use stream_bytes::read_full;
+use stream_words::{Word, buffer, held, word_at, words_from, words_into};
 
-// Reads until buf is full, the input ends or a read fails.
-fn read_full<R: Read>(input: &mut R, buf: &mut [u8]) {
-    let mut done = 0;
-    for _ in 0..u64::MAX {
-        if done == buf.len() {
-            break;
+// The calls of the list.
+#[derive(Clone, Copy)]
+enum Call {
+    Least,
+    Greatest,
+    Normalize,
+    Downsample,
+    AddUpsampled,
+    Bilinear,
+    SquareRoot,
+    WorkingSides,
+    Report,
+    Incise,
+    SlidePass,
+    Route,
+}
+
+// What the number that begins a task says: the end of the list, a stream for `relief`, or a call.
+#[derive(Clone, Copy)]
+enum Kind {
+    End,
+    Relief,
+    Call(Call),
+}
+
+impl From<u32> for Kind {
+    fn from(number: u32) -> Kind {
+        match number {
+            0 => Kind::End,
+            1 => Kind::Call(Call::Least),
+            2 => Kind::Call(Call::Greatest),
+            3 => Kind::Call(Call::Normalize),
+            4 => Kind::Call(Call::Downsample),
+            5 => Kind::Call(Call::AddUpsampled),
+            6 => Kind::Call(Call::Bilinear),
+            7 => Kind::Call(Call::SquareRoot),
+            8 => Kind::Call(Call::WorkingSides),
+            9 => Kind::Call(Call::Report),
+            10 => Kind::Call(Call::Incise),
+            11 => Kind::Call(Call::SlidePass),
+            13 => Kind::Relief,
+            _ => Kind::Call(Call::Route),
         }
-        let Ok(n) = input.read(&mut buf[done..]) else {
-            break;
-        };
-        if n == 0 {
-            break;
-        }
-        done += n;
     }
 }
 
-// The next word of the input, 0 once it has ended.
-fn word<R: Read>(input: &mut R) -> u32 {
+// The value of the next word of the input, which is 0 once it has ended.
+fn value<R: Read, T: Word>(input: &mut R) -> T {
     let mut b = [0u8; 4];
     read_full(input, &mut b);
-    stream_words::word_at(&b, 0)
+    T::from_word(word_at(&b, 0))
 }
 
-fn float<R: Read>(input: &mut R) -> f32 {
-    from_bits(word(input))
+// The next word as a length.
+fn length<R: Read>(input: &mut R) -> usize {
+    let n: u32 = value(input);
+    n as usize
 }
 
 // What a call takes besides slices and a record. The first fields are what scratch holds, one for each type of scratch
@@ -51,97 +80,91 @@ struct Task {
     cell: u32,
     state: u8,
     height: f32,
-    shown: u32,
+    shown: usize,
     w: usize,
     h: usize,
     dw: usize,
     dh: usize,
     stop: u32,
     side: u32,
-    f0: f32,
-    f1: f32,
-    f2: f32,
-    f3: f32,
-    f4: f32,
+    f: [f32; 5],
 }
 
 fn read_task<R: Read>(input: &mut R) -> Task {
-    let held = word(input);
+    let scratch: u32 = value(input);
     Task {
-        cell: held,
-        state: (held % 256) as u8,
-        height: from_bits(held),
-        shown: word(input),
-        w: as_index(word(input)),
-        h: as_index(word(input)),
-        dw: as_index(word(input)),
-        dh: as_index(word(input)),
-        stop: word(input),
-        side: word(input),
-        f0: float(input),
-        f1: float(input),
-        f2: float(input),
-        f3: float(input),
-        f4: float(input),
+        cell: scratch,
+        state: (scratch % 256) as u8,
+        height: f32::from_word(scratch),
+        shown: length(input),
+        w: length(input),
+        h: length(input),
+        dw: length(input),
+        dh: length(input),
+        stop: value(input),
+        side: value(input),
+        f: [
+            value(input),
+            value(input),
+            value(input),
+            value(input),
+            value(input),
+        ],
     }
 }
 
 // The next n bytes of the input, at the front of a buffer.
 fn read_bytes<R: Read>(input: &mut R, n: usize) -> [u8; 65536] {
     let mut space = [0; 65536];
-    let k = bytes_held(n, &space);
+    let k = held(n, &space);
     read_full(input, &mut space[..k]);
     space
 }
 
 // Reads a slice into the front of a buffer: its length and its values.
-fn read_floats<'a, R: Read>(input: &mut R, buffer: &'a mut [f32]) -> &'a mut [f32] {
-    let n = floats_held(word(input), buffer);
+fn read_values<'a, R: Read, T: Word>(input: &mut R, buffer: &'a mut [T]) -> &'a mut [T] {
+    let n = held(length(input), buffer);
     let v = &mut buffer[..n];
-    let bytes = read_bytes(input, 4 * v.len());
-    stream_words::floats_from(&bytes, v);
-    v
-}
-
-fn read_cells<'a, R: Read>(input: &mut R, buffer: &'a mut [u32]) -> &'a mut [u32] {
-    let n = cells_held(word(input), buffer);
-    let v = &mut buffer[..n];
-    let bytes = read_bytes(input, 4 * v.len());
-    stream_words::cells_from(&bytes, v);
+    let bytes = read_bytes(input, n.saturating_mul(4));
+    words_from(&bytes, v);
     v
 }
 
 // Writes the first n values of a slice.
-fn put_floats<W: Write>(output: &mut W, v: &[f32], n: u32) {
-    let n = floats_held(n, v);
+fn put_values<W: Write, T: Word>(output: &mut W, v: &[T], n: usize) {
+    let n = held(n, v);
     let mut space = [0; 65536];
-    let k = stream_words::floats_into(&v[..n], &mut space);
+    let k = words_into(&v[..n], &mut space);
     let _ = output.write_all(&space[..k]);
 }
 
-fn put_cells<W: Write>(output: &mut W, v: &[u32], n: u32) {
-    let n = cells_held(n, v);
-    let mut space = [0; 65536];
-    let k = stream_words::cells_into(&v[..n], &mut space);
-    let _ = output.write_all(&space[..k]);
+// A record of stop marks.
+#[derive(Clone, Copy)]
+struct Record {
+    last: f32,
+    asked: u32,
+    stopped: bool,
 }
 
-fn put_answer<W: Write>(output: &mut W, word: u64) {
-    let low = (word % 0x1_0000_0000) as u32;
-    let high = (word / 0x1_0000_0000) as u32;
-    put_cells(output, &[low, high], 2)
+fn read_record<R: Read>(input: &mut R) -> Record {
+    let last = value(input);
+    let asked = value(input);
+    let stopped: u32 = value(input);
+    Record {
+        last: last,
+        asked: asked,
+        stopped: stopped == 1,
+    }
 }
 
-fn put_record<W: Write>(output: &mut W, last: f32, asked: u32, stopped: bool) {
-    put_cells(output, &[to_bits(last), asked, stopped as u32], 3)
+fn put_record<W: Write>(output: &mut W, r: Record) {
+    put_values(output, &[to_bits(r.last), r.asked, u32::from(r.stopped)], 3)
 }
 
 fn report<R: Read, W: Write>(input: &mut R, output: &mut W, t: Task) -> u64 {
-    let mut last = float(input);
-    let mut asked = word(input);
-    let mut stopped = word(input) == 1;
-    let answer = harness_report(&mut last, &mut asked, &mut stopped, t.f0, t.stop);
-    put_record(output, last, asked, stopped);
+    let mut r = read_record(input);
+    let answer = harness_report(&mut r.last, &mut r.asked, &mut r.stopped, t.f[0], t.stop);
+    put_record(output, r);
     answer
 }
 
@@ -152,35 +175,35 @@ fn slide_pass<R: Read, W: Write>(
     map: &[f32],
     out: &mut [f32],
 ) -> u64 {
-    let mut last = float(input);
-    let mut asked = word(input);
-    let mut stopped = word(input) == 1;
+    let mut r = read_record(input);
     let answer = harness_slide_pass(
         t.w,
         t.h,
         map,
         out,
-        t.f0,
-        t.f1,
-        t.f2,
-        t.f3,
-        t.f4,
-        &mut last,
-        &mut asked,
-        &mut stopped,
+        t.f[0],
+        t.f[1],
+        t.f[2],
+        t.f[3],
+        t.f[4],
+        &mut r.last,
+        &mut r.asked,
+        &mut r.stopped,
         t.stop,
     );
-    put_record(output, last, asked, stopped);
+    put_record(output, r);
     answer
 }
 
 fn incise<R: Read>(input: &mut R, t: Task, map: &[f32], out: &mut [f32]) -> u64 {
-    let mut area = float_buffer(t.height);
-    let mut recv_buffer = cell_buffer(0);
-    let recv = read_cells(input, &mut recv_buffer);
-    let mut order_buffer = cell_buffer(0);
-    let order = read_cells(input, &mut order_buffer);
-    harness_incise(t.w, t.h, map, t.f0, t.f1, t.f2, recv, order, out, &mut area)
+    let mut area = buffer(t.height);
+    let mut recv_buffer = buffer(0);
+    let recv = read_values(input, &mut recv_buffer);
+    let mut order_buffer = buffer(0);
+    let order = read_values(input, &mut order_buffer);
+    harness_incise(
+        t.w, t.h, map, t.f[0], t.f[1], t.f[2], recv, order, out, &mut area,
+    )
 }
 
 fn route_cells<R: Read, W: Write>(
@@ -191,17 +214,17 @@ fn route_cells<R: Read, W: Write>(
     spill: &mut [f32],
     area: &mut [f32],
 ) -> u64 {
-    let mut order_buffer = cell_buffer(0);
-    let order = read_cells(input, &mut order_buffer);
-    let mut recv_buffer = cell_buffer(0);
-    let recv = read_cells(input, &mut recv_buffer);
-    let mut queue = cell_buffer(t.cell);
-    let mut status = state_buffer(t.state);
+    let mut order_buffer = buffer(0);
+    let order = read_values(input, &mut order_buffer);
+    let mut recv_buffer = buffer(0);
+    let recv = read_values(input, &mut recv_buffer);
+    let mut queue = buffer(t.cell);
+    let mut status = buffer(t.state);
     let answer = harness_route(
         t.w,
         t.h,
         map,
-        t.f0,
+        t.f[0],
         order,
         recv,
         spill,
@@ -209,8 +232,8 @@ fn route_cells<R: Read, W: Write>(
         &mut queue,
         &mut status,
     );
-    put_cells(output, order, t.shown);
-    put_cells(output, recv, t.shown);
+    put_values(output, order, t.shown);
+    put_values(output, recv, t.shown);
     answer
 }
 
@@ -221,10 +244,10 @@ fn route<R: Read, W: Write>(
     map: &[f32],
     spill: &mut [f32],
 ) -> u64 {
-    let mut area_buffer = float_buffer(0.0);
-    let area = read_floats(input, &mut area_buffer);
+    let mut area_buffer = buffer(0.0);
+    let area = read_values(input, &mut area_buffer);
     let answer = route_cells(input, output, t, map, spill, area);
-    put_floats(output, area, t.shown);
+    put_values(output, area, t.shown);
     answer
 }
 
@@ -232,67 +255,54 @@ fn route<R: Read, W: Write>(
 fn perform<R: Read, W: Write>(
     input: &mut R,
     output: &mut W,
-    call: u32,
+    call: Call,
     t: Task,
     read: &[f32],
     written: &mut [f32],
 ) -> u64 {
     match call {
-        1 => harness_least(read),
-        2 => harness_greatest(read),
-        3 => harness_normalize(written, t.f0, t.f1),
-        4 => harness_downsample(read, t.w, t.h, written, t.dw, t.dh),
-        5 => harness_add_upsampled(written, t.w, t.h, read, t.dw, t.dh),
-        6 => harness_bilinear(read, t.f0, t.f1, t.w, t.h),
-        7 => milofavurn_square_root(t.f0),
-        8 => milofavurn_working_sides(t.w, t.h, t.side),
-        9 => report(input, output, t),
-        10 => incise(input, t, read, written),
-        11 => slide_pass(input, output, t, read, written),
-        _ => route(input, output, t, read, written),
+        Call::Least => harness_least(read),
+        Call::Greatest => harness_greatest(read),
+        Call::Normalize => harness_normalize(written, t.f[0], t.f[1]),
+        Call::Downsample => harness_downsample(read, t.w, t.h, written, t.dw, t.dh),
+        Call::AddUpsampled => harness_add_upsampled(written, t.w, t.h, read, t.dw, t.dh),
+        Call::Bilinear => harness_bilinear(read, t.f[0], t.f[1], t.w, t.h),
+        Call::SquareRoot => milofavurn_square_root(t.f[0]),
+        Call::WorkingSides => milofavurn_working_sides(t.w, t.h, t.side),
+        Call::Report => report(input, output, t),
+        Call::Incise => incise(input, t, read, written),
+        Call::SlidePass => slide_pass(input, output, t, read, written),
+        Call::Route => route(input, output, t, read, written),
     }
 }
 
-fn replay_call<R: Read, W: Write>(input: &mut R, output: &mut W, call: u32, t: Task) {
-    let mut read_buffer = float_buffer(0.0);
-    let read = read_floats(input, &mut read_buffer);
-    let mut written_buffer = float_buffer(0.0);
-    let written = read_floats(input, &mut written_buffer);
+fn replay_call<R: Read, W: Write>(input: &mut R, output: &mut W, call: Call) {
+    let t = read_task(input);
+    let mut read_buffer = buffer(0.0);
+    let read = read_values(input, &mut read_buffer);
+    let mut written_buffer = buffer(0.0);
+    let written = read_values(input, &mut written_buffer);
     let word = perform(input, output, call, t, read, written);
-    put_answer(output, word);
-    put_floats(output, written, t.shown)
+    let _ = output.write_all(&word.to_le_bytes());
+    put_values(output, written, t.shown)
 }
 
 // Runs a stream and writes its output. The buffer has space for the longest output, so `relief` does not refuse.
 fn put_relief<W: Write>(output: &mut W, bytes: &[u8]) {
     let mut out = [0; 65536];
     let written = stream_run::relief(bytes, &mut out);
-    if let Written::Bytes(n) = written {
-        let n = bytes_held(n, &out);
+    if let Ok(n) = written {
+        let n = held(n, &out);
         let _ = output.write_all(&out[..n]);
     }
 }
 
 // Replays a stream of at most 65,536 bytes.
 fn replay_relief<R: Read, W: Write>(input: &mut R, output: &mut W) {
-    let n = as_index(word(input));
+    let n = length(input);
     let bytes = read_bytes(input, n);
-    let n = bytes_held(n, &bytes);
+    let n = held(n, &bytes);
     put_relief(output, &bytes[..n])
-}
-
-// Replays one task. Returns false at the end of the list.
-fn replay_task<R: Read, W: Write>(input: &mut R, output: &mut W) -> bool {
-    let call = word(input);
-    match call {
-        0 => return false,
-        13 => replay_relief(input, output),
-        _ => {
-            let task = read_task(input);
-            replay_call(input, output, call, task);
-        }
-    }
-    true
 }
 
 // Every loop has to end, and the input need not: this one ends at the latest after u64::MAX tasks, more than any list
@@ -301,8 +311,11 @@ fn main(rt: HostRuntime) {
     let mut input = rt.stdin();
     let mut output = rt.stdout();
     for _ in 0..u64::MAX {
-        if !replay_task(&mut input, &mut output) {
-            break;
+        let number: u32 = value(&mut input);
+        match Kind::from(number) {
+            Kind::End => break,
+            Kind::Relief => replay_relief(&mut input, &mut output),
+            Kind::Call(call) => replay_call(&mut input, &mut output, call),
         }
     }
 }

@@ -1,17 +1,15 @@
 -- The blocks of a side are the source's. With s the side and r the reduced side, block b starts at the least x with b × s ≤ x × r.
 use Prim.Native.Nat.{ℕ, ◌+◌, ◌-◌, ◌*◌, ◌/◌, ◌^◌, ◌≤◌, ◌<◌}
-use mathlib.Core.Path.{◌≡◌, sym, subst, ap₂, ◌∙◌}
-use mathlib.Core.List.{List}
+use mathlib.Core.Path.{◌≡◌, sym, subst}
 use native.Mathlib.Nat.{div-lt_iff_lt-mul, le-div_iff_mul-le, div-eq_of_lt-le, mul_comm, lt-div-mul-add, mul-le-mul, mul-le-mul_right}
 use native.Mathlib.Omega.{arith}
 use lib.Dec.{T}
 use lib.IntN.{pos}
-use lib.Ieee.{Float, binary32, div, in_float}
+use lib.Ieee.{binary32, in_float}
 use Rattle.resample.specs.WorkSize.{Within}
 use Rattle.resample.specs.Places.{Part}
 use Rattle.floats.proofs.WholeLaws.{float_in}
-use Rattle.floats.specs.Stand.{whole}
-use Rattle.resample.specs.Blocks.{first_in_block, count_of, block_sum, average_of, BlocksOf, SourceBlocks}
+use Rattle.resample.specs.Blocks.{first_in_block, BlocksOf, SourceBlocks}
 
 module _ (s r : ℕ) (low : 1 ≤ r) where
   -- at or past the first column of block b
@@ -93,15 +91,3 @@ module _ {w h dw dh : ℕ} (in_grid : Within w h dw dh) (x e y f : ℕ) (across 
 
   pub block_float : T (in_float binary32 (pos ((e - x) * (f - y))))
   block_float = float_in _ block_cells
-
--- the average of block (bx, by) from its first column and row, and those of the next ones
-pub average_by : (src : List Float) (w h dw dh bx by : ℕ) {x y e f : ℕ} {s : Float}
-    → x ≡ first_in_block w dw bx → y ≡ first_in_block h dh by → e ≡ first_in_block w dw (bx + 1) → f ≡ first_in_block h dh (by + 1) → s ≡ block_sum src w x (e - x) y (f - y)
-    → div binary32 s (whole ((e - x) * (f - y))) ≡ average_of src w h dw dh bx by
-unfolding average_of
-average_by src w h dw dh bx by {x} {y} {e} {f} p q r t u =
-    let nx : e - x ≡ count_of w dw bx = ap₂ ◌-◌ r p in
-    let ny : f - y ≡ count_of h dh by = ap₂ ◌-◌ t q in
-    ap₂ (div binary32)
-    (u ∙ ap₂ (λ (i n : ℕ). block_sum src w i n y (f - y)) p nx ∙ ap₂ (λ (j m : ℕ). block_sum src w (first_in_block w dw bx) (count_of w dw bx) j m) q ny)
-    (ap₂ (λ (n m : ℕ). whole (n * m)) nx ny)

@@ -1,4 +1,6 @@
 -- Refusals in number order: what is known where a test has failed or held, and what a refusal says of the whole answer.
+use Rattle.std.specs.declared.result.Result.TheVariants.{Ok, Err}
+use Rattle.answers.specs.Outcome.{Answer}
 use Prim.Native.Nat.{ℕ, ◌*◌, ◌≤◌}
 use mathlib.Core.Path.{◌≡◌, refl, sym, ap, ◌∙◌}
 use mathlib.Core.Bool.{true, false, not, ◌||◌}
@@ -10,7 +12,6 @@ use lib.Ieee.{Float}
 use borrow.Author.Tests.{eqb-true, eqb-false, ltb-false, not-false}
 use Rattle.loops.proofs.TestLaws.{neither, through}
 use Rattle.answers.specs.Outcome.{Outcome, gives, refused, refused_at, answer_of}
-use Rattle.answers.specs.declared.Answer.{Answer}
 use Rattle.answers.specs.declared.Refusal.{Refusal}
 use Rattle.grid.specs.Sides.{bad_sides}
 use Rattle.grid.specs.Heights.{first_not_finite, all_finite}
@@ -45,7 +46,7 @@ module _ (map : List Float) (w h dlen dw dh : ℕ) where
   alike : (A : Type 0) (number : ℕ → A) (at : ℕ → ℕ → A) (then : A) → by_outcome number at then (map_refusal map w h dlen dw dh refused refused_at (gives tt)) ≡ tests A number at then
   alike A number at then = simp (through (by_outcome number at then))
 
-  pub map_refused : (a : Answer) (r : Refusal) → answer_of a ≡ map_refusal map w h dlen dw dh refused refused_at (gives tt) → a ≡ Answer.Refused r
+  pub map_refused : (a : Answer) (r : Refusal) → answer_of a ≡ map_refusal map w h dlen dw dh refused refused_at (gives tt) → a ≡ Err r
       → ((x : Outcome (Unit {0})) → answer_of a ≡ map_refusal map w h dlen dw dh refused refused_at x) × ((d x : List Float) → d ≡ map_refusal map w h dlen dw dh (λ n. d) (λ n c. d) x)
   map_refused a r e f =
       let none = refused_given f in
@@ -61,7 +62,7 @@ pub record AcceptedMaps (map : List Float) (w h dlen dw dh : ℕ) : Type 0 where
   pub full : length map ≡ w * h
   pub small : dlen ≡ dw * dh
 
-pub map_good : (map : List Float) (w h dlen dw dh : ℕ) (a : Answer) → answer_of a ≡ map_refusal map w h dlen dw dh refused refused_at (gives tt) → a ≡ Answer.Done
+pub map_good : (map : List Float) (w h dlen dw dh : ℕ) (a : Answer) → answer_of a ≡ map_refusal map w h dlen dw dh refused refused_at (gives tt) → a ≡ Ok tt
     → AcceptedMaps map w h dlen dw dh
 map_good map w h dlen dw dh r e f =
     let a = not_refused (bad_sides w h) (refused 1) _ tt refl (sym e ∙ ap answer_of f) in

@@ -1,11 +1,11 @@
 -- `downsample`: the average of each block of cells. Column x of a side lies in block x × reduced / side, cut to a whole
 -- number, so block b has the columns from `first_in_block` of b to below `first_in_block` of b + 1 (`SourceBlocks`); its sum
 -- starts at +0 and adds the block's cells in number order.
+use Rattle.answers.specs.Outcome.{Answer}
 use Rattle.std.specs.Prelude.{ℕ, zero, suc, ◌+◌, ◌-◌, ◌*◌, ◌/◌, ◌%◌, ◌≤◌, ◌<◌, ◌≡◌, Bool, not, ◌||◌, cond, List, length, get_or, eqb, ltb, Float}
 use Rattle.std.specs.Float.{nan, binary32}
 use Rattle.std.specs.Float.Ieee.{of_bits, add, div}
 use Rattle.answers.specs.Outcome.{Outcome, gives, refused, refused_at, answer_of}
-use Rattle.answers.specs.declared.Answer.{Answer}
 use Rattle.floats.specs.Stand.{whole}
 use Rattle.float_order.specs.Fit.{Fit}
 use Rattle.loops.specs.Loops.{tabulate}

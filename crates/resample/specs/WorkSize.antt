@@ -3,11 +3,10 @@
 use Rattle.std.specs.Prelude.{ℕ, max, ◌≤◌, ◌≡◌, false, cond, leb, Float}
 use Rattle.std.specs.Float.{binary32}
 use Rattle.std.specs.Float.Ieee.{mul, div, to_unsigned}
-use Rattle.answers.specs.Outcome.{Outcome, gives, refused, refusal_of}
+use Rattle.answers.specs.Outcome.{Outcome, gives, refused}
 use Rattle.floats.specs.Stand.{round_of, whole}
 use Rattle.grid.specs.Sides.{bad_sides}
 use Rattle.grid.specs.declared.Sides.{Sides}
-use Rattle.resample.specs.declared.Work.{Work}
 
 -- one side: (side × coef).round(), at least 1
 unfoldable pub scaled_side : Float → ℕ → ℕ
@@ -18,10 +17,6 @@ unfolding scaled_side
 work_size w h res =
     let coef = div binary32 (whole res) (whole (max w h)) in
     cond (leb (max w h) res) (record { w = w; h = h }) (record { w = scaled_side coef w; h = scaled_side coef h })
-
-abbrev pub work_of : Work → Outcome Sides
-work_of (Work.Of g) = gives g
-work_of (Work.Refused r) = refusal_of r
 
 -- the answer of `work_size`: the working sides, or 1: a side outside 1 to 4,096
 abbrev pub work_answer : ℕ → ℕ → ℕ → Outcome Sides

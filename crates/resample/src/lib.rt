@@ -4,19 +4,12 @@
 
 ghost use Rattle.std.specs.Prelude.{◌≡◌, not, ◌||◌, ◌*◌, ◌≤◌, eqb};
 ghost use Rattle.answers.specs.Outcome.{gives, refused, refused_at, answer_of};
-ghost use Rattle.resample.specs.WorkSize.{scaled_side, work_size, work_of, work_answer};
+ghost use Rattle.resample.specs.WorkSize.{scaled_side, work_size, work_answer};
 ghost use Rattle.resample.specs.Blocks.{bad_reduced, map_refusal};
 
-use answers::{Answer, Refusal};
+use answers::Refusal;
 use floats::{ratio, round, to_count};
 use grid::{Sides, bad_sides, first_not_finite, longest};
-
-// The working sides, or the refusal of a bad side.
-#[derive(Clone, Copy)]
-pub enum Work {
-    Of(Sides),
-    Refused(Refusal),
-}
 
 // One side of the working grid: side × coef, rounded half away from zero, at least 1.
 fn scaled_side(side: usize, coef: f32) -> usize
@@ -26,7 +19,8 @@ fn scaled_side(side: usize, coef: f32) -> usize
     to_count(round(side as f32 * coef))
 }
 
-// The working sides: the full ones where the longest fits, else both scaled by max_res / longest.
+// The working sides: the full ones where the longest fits, else both scaled by max_res / longest. The bounds are no
+// fact of `Sides`, which also holds the sides that are refused.
 pub fn work_sides(size: Sides, max_res: u32) -> Sides
     requires w_bound { size.w ≤ 4096 }
     requires h_bound { size.h ≤ 4096 }
@@ -45,33 +39,27 @@ pub fn work_sides(size: Sides, max_res: u32) -> Sides
 }
 
 // Returns the working sides of a map (document 01), or refusal 1.
-pub fn work_size(size: Sides, max_res: u32) -> Work
-    ensures { work_of result ≡ work_answer size.w size.h max_res }
+pub fn work_size(size: Sides, max_res: u32) -> Result<Sides, Refusal>
+    ensures { answer_of result ≡ work_answer size.w size.h max_res }
 {
     if bad_sides(size) {
-        return Work::Refused(Refusal::Side);
+        return Err(Refusal::Side);
     }
-    Work::Of(work_sides(size, max_res))
+    Ok(work_sides(size, max_res))
 }
 
 // Refusal 2 of one side: whether the reduced side is 0 or greater than the full one.
 fn bad_reduced_side(reduced: usize, side: usize) -> bool
     ensures { result ≡ bad_reduced reduced side }
 {
-    if reduced == 0 {
-        return true;
-    }
-    side < reduced
+    reduced == 0 || side < reduced
 }
 
 // Refusal 2: whether either reduced side is 0 or greater than the full one.
 fn bad_reduced(dsize: Sides, size: Sides) -> bool
     ensures { result ≡ (bad_reduced dsize.w size.w || bad_reduced dsize.h size.h) }
 {
-    if bad_reduced_side(dsize.w, size.w) {
-        return true;
-    }
-    bad_reduced_side(dsize.h, size.h)
+    bad_reduced_side(dsize.w, size.w) || bad_reduced_side(dsize.h, size.h)
 }
 
 // Refusal 3: whether len is not the number of the grid's cells.
@@ -84,27 +72,22 @@ pub fn bad_length(len: usize, size: Sides) -> bool
 }
 
 // Refusals 1, 2, 3 and 5 for a full map and a reduced one of dlen values; only the heights of the full map are checked.
-// Returns the first refusal that applies, or `Done`.
-pub fn map_refusal(map: &[f32], size: Sides, dsize: Sides, dlen: usize) -> Answer
+// Returns the first refusal that applies, or `Ok`.
+pub fn map_refusal(map: &[f32], size: Sides, dsize: Sides, dlen: usize) -> Result<(), Refusal>
     ensures { answer_of result
         ≡ map_refusal map.now size.w size.h dlen dsize.w dsize.h refused refused_at (gives tt) }
 {
     if bad_sides(size) {
-        return Answer::Refused(Refusal::Side);
+        return Err(Refusal::Side);
     }
     if bad_reduced(dsize, size) {
-        return Answer::Refused(Refusal::ReducedSide);
+        return Err(Refusal::ReducedSide);
     }
-    let n = map.len();
-    if bad_length(n, size) {
-        return Answer::Refused(Refusal::Length);
+    if bad_length(map.len(), size) || bad_length(dlen, dsize) {
+        return Err(Refusal::Length);
     }
-    if bad_length(dlen, dsize) {
-        return Answer::Refused(Refusal::Length);
+    if let Some(bad) = first_not_finite(size, map) {
+        return Err(Refusal::Height(bad));
     }
-    let bad = first_not_finite(size, map);
-    if bad != n {
-        return Answer::Refused(Refusal::Height(bad));
-    }
-    Answer::Done
+    Ok(())
 }

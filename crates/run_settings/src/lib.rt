@@ -6,7 +6,7 @@ ghost use Rattle.answers.specs.Outcome.{answer_of};
 ghost use Rattle.run_settings.specs.Refusals.{bad_either, bad_fluvial, bad_thermal};
 ghost use Rattle.run_settings.specs.Accepted.{refusal_on};
 
-use answers::{Answer, Refusal, outside};
+use answers::{Refusal, outside};
 use floats::is_finite;
 use grid::{Sides, bad_sides, first_not_finite};
 
@@ -38,16 +38,10 @@ const ITERATIONS_MAX: u32 = 4096;
 fn bad_either(water: f32, strength: f32, talus: f32, iterations: u32) -> bool
     ensures { result ≡ bad_either water strength talus iterations }
 {
-    if !is_finite(water) {
-        return true;
-    }
-    if outside(strength, 0.0, 1.0) {
-        return true;
-    }
-    if outside(talus, 0.0, 1.0) {
-        return true;
-    }
-    iterations > ITERATIONS_MAX
+    !is_finite(water)
+        || outside(strength, 0.0, 1.0)
+        || outside(talus, 0.0, 1.0)
+        || iterations > ITERATIONS_MAX
 }
 
 // Refusal 4 of a thermal run.
@@ -61,33 +55,27 @@ pub fn bad_thermal(conf: ThermalSettings) -> bool
 pub fn bad_fluvial(conf: FluvialSettings) -> bool
     ensures { result ≡ bad_fluvial conf }
 {
-    if outside(conf.uplift, -1.0, 1.0) {
-        return true;
-    }
-    bad_either(conf.water_level, conf.strength, conf.talus, conf.iterations)
+    outside(conf.uplift, -1.0, 1.0)
+        || bad_either(conf.water_level, conf.strength, conf.talus, conf.iterations)
 }
 
-// Returns the first refusal of a whole run in number order, `Done` where there is none. `bad` says whether a setting is
-// outside its range; `scratch` is the length of the shortest scratch slice.
-pub fn refusal(size: Sides, hmap: &[f32], bad: bool, scratch: usize) -> Answer
+// Returns the first refusal of a whole run in number order, if there is one. `bad`, an argument of the definition, says
+// whether a setting is outside its range; `scratch` is the length of the shortest scratch slice.
+pub fn refusal(size: Sides, hmap: &[f32], bad: bool, scratch: usize) -> Result<(), Refusal>
     ensures { answer_of result ≡ refusal_on size.w size.h bad hmap.now scratch }
 {
     if bad_sides(size) {
-        return Answer::Refused(Refusal::Side);
+        return Err(Refusal::Side);
     }
     let n = size.w * size.h;
-    if hmap.len() != n {
-        return Answer::Refused(Refusal::Length);
-    }
-    if scratch < n {
-        return Answer::Refused(Refusal::Length);
+    if hmap.len() != n || scratch < n {
+        return Err(Refusal::Length);
     }
     if bad {
-        return Answer::Refused(Refusal::Setting);
+        return Err(Refusal::Setting);
     }
-    let cell = first_not_finite(size, hmap);
-    if cell != n {
-        return Answer::Refused(Refusal::Height(cell));
+    if let Some(cell) = first_not_finite(size, hmap) {
+        return Err(Refusal::Height(cell));
     }
-    Answer::Done
+    Ok(())
 }

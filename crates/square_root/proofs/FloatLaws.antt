@@ -1,4 +1,5 @@
 -- Which float goes which way in `root_of`, and the root of each positive one by its bits.
+use Rattle.std.specs.declared.result.Result.TheVariants.{Ok, Err}
 use mathlib.Core.Path.{◌≡◌, refl, sym, ap, ◌∙◌, subst}
 use mathlib.Core.Bool.{Bool, true, false, not, cond, ◌&&◌, ◌||◌, beq, true≢false, false≢true}
 use Prim.Native.Nat.{ℕ, zero, suc, ◌+◌, ◌-◌, ◌*◌, ◌/◌, ◌%◌, ◌^◌, ◌≤◌, ◌<◌}
@@ -15,7 +16,6 @@ use lib.Ieee.Fits.{and_l, and_r, up_pos, down_pos, kept-lt}
 use lib.Ieee.Bits.{of_bits-to_bits}
 use lib.Ieee.Scale.{finite}
 use Rattle.answers.specs.declared.Refusal.{Refusal}
-use Rattle.answers.specs.declared.Value.{Value}
 use Rattle.answers.specs.Outcome.{Outcome, gives, refused}
 use Rattle.square_root.specs.Root.{root_of, root_answer}
 use Rattle.square_root.specs.Rooted.{NearestRoot, Rooted}
@@ -150,13 +150,13 @@ answered : (x : Float) (s : Bool) → (finite x && le nought x) ≡ s → cond s
 unfolding root_answer
 answered x s e = ap (λ (t : Bool). cond t (gives (root_of x)) (refused 4)) (sym e)
 
-pub given : (x r : Float) → T (fits binary32 x) → finite x ≡ true → le nought x ≡ true → r ≡ root_of x → Rooted x (Value.Given r)
+pub given : (x r : Float) → T (fits binary32 x) → finite x ≡ true → le nought x ≡ true → r ≡ root_of x → Rooted x (Ok r)
 given x r t f g e = record {
   answer = ap gives e ∙ answered x true (ap (λ (s : Bool). s && le nought x) f ∙ g);
   bracket = λ v q h. let same : root_of x ≡ v = cc in subst (NearestRoot x) same (bracketed x t h (below_infinity x f));
 }
 
-pub refuses : (x : Float) → (finite x && le nought x) ≡ false → Rooted x (Value.Refused Refusal.Setting)
+pub refuses : (x : Float) → (finite x && le nought x) ≡ false → Rooted x (Err Refusal.Setting)
 refuses x e = record {
   answer = answered x false e;
   bracket = λ v q h. absurd (never v q);

@@ -1,10 +1,11 @@
 -- What is proved of a root: the bracket by squares of whole numbers, and the contract of the call `root`.
+use Rattle.std.specs.declared.result.Result.{Result}
+use Rattle.answers.specs.declared.Refusal.{Refusal}
 use Rattle.std.specs.Prelude.{◌≡◌, true, false, ℕ, ◌+◌, ◌-◌, ◌*◌, ◌^◌, ◌≤◌, ◌<◌, pos, Float}
 use Rattle.std.specs.Float.{fin}
 use Rattle.std.specs.Float.Ieee.{lt}
 use Rattle.std.specs.Float.Ieee.Exact.{HasValue}
-use Rattle.answers.specs.declared.Value.{Value}
-use Rattle.answers.specs.Outcome.{gives, value_of}
+use Rattle.answers.specs.Outcome.{gives, answer_of}
 use Rattle.square_root.specs.Root.{root_answer}
 
 -- r is the float nearest to the root of x: x is X / 4 ^ 150 and r is q * 2 ^ j / 2 ^ 150, where q has 24 binary digits
@@ -24,6 +25,6 @@ pub record NearestRoot (x r : Float) : Type 0 where
 
 -- The contract of `root`: its answer is `root_answer x`, and every root that it gives of a number above 0 is the nearest
 -- float (`NearestRoot`).
-pub record Rooted (x : Float) (r : Value) : Type 0 where
-  pub answer : value_of r ≡ root_answer x
-  pub bracket : (v : Float) → value_of r ≡ gives v → lt (fin false 0 (pos 0)) x ≡ true → NearestRoot x v
+pub record Rooted (x : Float) (r : Result Float Refusal) : Type 0 where
+  pub answer : answer_of r ≡ root_answer x
+  pub bracket : (v : Float) → answer_of r ≡ gives v → lt (fin false 0 (pos 0)) x ≡ true → NearestRoot x v

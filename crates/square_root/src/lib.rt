@@ -10,6 +10,8 @@ ghost use Rattle.square_root.specs.Root.{nearest_root, root_of};
 ghost use Rattle.square_root.specs.Rooted.{Rooted};
 ghost use Rattle.square_root.specs.Inner.{Around, Over, bits_of};
 
+use answers::Refusal;
+
 // One Newton step towards the root of n: returns the next guess after g.
 fn newton(n: u64, g: u64) -> u64
     requires { (n < 2 ^ 48) × (0 < g) × (g < 2 ^ 32) }
@@ -99,13 +101,12 @@ pub fn root_of(x: f32) -> f32
 }
 
 // The root of a finite x that is not below 0; any other x is refused by 4.
-pub fn root(x: f32) -> answers::Value
+pub fn root(x: f32) -> Result<f32, Refusal>
     ensures { Rooted x result }
 {
-    if floats::is_finite(x) {
-        if x >= 0.0 {
-            return answers::Value::Given(root_of(x));
-        }
+    if floats::is_finite(x) && x >= 0.0 {
+        Ok(root_of(x))
+    } else {
+        Err(Refusal::Setting)
     }
-    answers::Value::Refused(answers::Refusal::Setting)
 }

@@ -5,6 +5,12 @@ use mathlib.Core.Bool.{Bool, true, false, not, ◌&&◌, ◌||◌, cond}
 use mathlib.Core.List.{List}
 use native.Mathlib.Omega.{arith}
 use borrow.Author.Tests.{ltb-false, eqb-true, eqb-false, ne_eqb, eq-eqb, not-false}
+use lib.Ieee.{Float}
+use Rattle.std.specs.declared.option.Option.{Option}
+use Rattle.std.specs.declared.option.Option.TheVariants.{Some, None}
+use Rattle.loops.specs.Loops.{place_among}
+use Rattle.loops.proofs.PlaceLaws.{place_some, place_none}
+use Rattle.grid.proofs.HeightsLaws.{first_le}
 use lib.Dec.{eqb, ltb}
 use lib.ListN.{length}
 use Rattle.loops.proofs.TestLaws.{neither}
@@ -63,17 +69,29 @@ header_rows s = refl
 
 -- 5, or the stream is accepted
 module _ (s : List ℕ) (head : Header) where
-  module _ {b : Bool} (e : b ≡ bad_settings head.settings) (t : b ≡ false) {cell : ℕ} (f : cell ≡ first_not_finite (heights_at s head.rows head.size.w head.size.h)) where
-    full : length (heights_at s head.rows head.size.w head.size.h) ≡ head.size.w * head.size.h
+  abbrev cells : ℕ
+  cells = head.size.w * head.size.h
+
+  abbrev heights : List Float
+  heights = heights_at s head.rows head.size.w head.size.h
+
+  module _ {b : Bool} (e : b ≡ bad_settings head.settings) (t : b ≡ false) {found : Option ℕ} (f : found ≡ place_among cells (first_not_finite heights)) where
+    full : length heights ≡ cells
     full = heights_length s head.rows head.size.w head.size.h
 
-    pub values_height : (cell ≡ head.size.w * head.size.h → ⊥) → ◌≡◌ {A = Outcome Parsed} (refused_at 5 cell) (values_of (parsed_of s head))
+    pub values_height : {cell : ℕ} → found ≡ Some cell → ◌≡◌ {A = Outcome Parsed} (refused_at 5 cell) (values_of (parsed_of s head))
     unfolding all_finite
-    values_height d = ap (refused_at 5) f ∙ sym (rw (sym e ∙ t, ne_eqb _ _ (λ g. d (f ∙ g ∙ full))))
+    values_height q =
+        let p = place_some {n = cells} {c = first_not_finite heights} (sym f ∙ q) in
+        let other : first_not_finite heights ≡ length heights → ⊥ = λ g. omega (arith, p.1, g, full) in
+        ap (refused_at 5) p.0 ∙ sym (rw (sym e ∙ t, ne_eqb _ _ other))
 
-    pub values_given : cell ≡ head.size.w * head.size.h → ◌≡◌ {A = Outcome Parsed} (gives (parsed_of s head)) (values_of (parsed_of s head))
+    pub values_given : found ≡ None → ◌≡◌ {A = Outcome Parsed} (gives (parsed_of s head)) (values_of (parsed_of s head))
     unfolding all_finite
-    values_given d = sym (rw (sym e ∙ t, eq-eqb _ _ (sym f ∙ d ∙ sym full)))
+    values_given q =
+        let p = place_none {n = cells} {c = first_not_finite heights} (sym f ∙ q) in
+        let all : first_not_finite heights ≡ length heights = omega (arith, p, first_le heights, full) in
+        sym (rw (sym e ∙ t, eq-eqb _ _ all))
 
 -- the tests of a stream in their order
 module _ (limited : Bool) (s : List ℕ) where

@@ -6,9 +6,8 @@ use mathlib.Core.List.{List}
 use native.Mathlib.Omega.{arith}
 use borrow.Author.Tests.{lt-ltb, le-ltb, eq-eqb, ne_eqb}
 use lib.ListN.{length}
-use Rattle.grid.specs.Sides.{InRange}
 use Rattle.stream_bytes.specs.Bytes.{grid_mark, fluvial_mark, thermal_mark, same, mark_at, marked}
-use Rattle.stream_rows.specs.Rows.{row_length, row_at, rows_marked, Framed}
+use Rattle.stream_rows.specs.Rows.{row_length, row_at, rows_marked}
 use Rattle.stream.specs.Stream.{settings_length, rows_at, bad_grid, bad_rest}
 
 -- the grid record
@@ -63,6 +62,3 @@ module _ (s : List ℕ) (w h : ℕ) where
     rest_rows d b g =
         ap not (g ∙ ap (λ (n : ℕ). rows_marked s (8 + n) w h) e)
         ∙ sym (rw (ne_eqb (settings_length (mark_at s 6)) 0 (λ z. some (e ∙ z)), eq-eqb (length s) (row_at (rows_at s) w h) (d ∙ framed)))
-
-    pub rest_framed : InRange w h → length s ≡ 8 + n + k → Framed s (8 + n) w h
-    rest_framed r d = record { begins = omega (arith, settings_few s n e); sides = r; whole = d ∙ ap (λ (k : ℕ). 8 + n + k) f }

@@ -1,4 +1,7 @@
 -- The reader of document 01, 'The stream': from bytes to the run that they ask for, or to a refusal.
+use Rattle.std.specs.declared.result.Result.{Result}
+use Rattle.std.specs.declared.result.Result.TheVariants.{Ok, Err}
+use Rattle.answers.specs.declared.Refusal.{Refusal}
 use Rattle.std.specs.Prelude.{ℕ, ◌+◌, ◌-◌, ◌*◌, ◌≤◌, ◌≡◌, Bool, false, not, ◌&&◌, ◌||◌, cond, List, length, eqb, ltb, Float}
 use Rattle.answers.specs.Outcome.{Outcome, gives, refused, refused_at, refusal_of}
 use Rattle.grid.specs.Sides.{bad_sides, InRange}
@@ -12,7 +15,6 @@ use Rattle.stream_rows.specs.Rows.{row_at, rows_marked, heights_at}
 use Rattle.stream.specs.declared.Settings.{Settings}
 use Rattle.stream.specs.declared.Settings.TheVariants.{Fluvial, Thermal}
 use Rattle.stream.specs.declared.Header.{Header}
-use Rattle.stream.specs.declared.Read.{Read}
 
 -- What a stream asks for: its header, and the heights of its grid row by row.
 pub record Parsed : Type 0 where
@@ -109,6 +111,6 @@ pub record Whole (s : List ℕ) (w h : ℕ) : Type 0 where
   pub rest : bad_rest s w h ≡ false
 
 -- the outcome that a `Read` of the stream s stands for
-abbrev pub read_of : List ℕ → Read → Outcome Parsed
-read_of s (Read.Accepted head) = gives (parsed_of s head)
-read_of s (Read.Refused r) = refusal_of r
+abbrev pub read_of : List ℕ → Result Header Refusal → Outcome Parsed
+read_of s (Ok head) = gives (parsed_of s head)
+read_of s (Err r) = refusal_of r

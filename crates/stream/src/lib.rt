@@ -13,7 +13,7 @@ use answers::Refusal;
 use grid::{Sides, bad_sides};
 use run_settings::{FluvialSettings, ThermalSettings, bad_fluvial, bad_thermal};
 use stream_bytes::{has_mark, read_f32, read_u16, read_u32};
-use stream_rows::{first_bad_height, rows_length, rows_marked};
+use stream_rows::{Rows, rows_length};
 
 // The marks of the records other than rows.
 pub const GRID: [u8; 2] = *b"GR";
@@ -40,21 +40,11 @@ pub struct Header {
     pub rows: usize,
 }
 
-// What reading a stream gives.
-#[derive(Clone, Copy)]
-pub enum Read {
-    Accepted(Header),
-    Refused(Refusal),
-}
-
 // Refusal 8 of the grid record: another mark, or fewer than its 6 bytes.
 fn bad_grid(bytes: &[u8]) -> bool
     ensures { result ≡ bad_grid bytes.now }
 {
-    if bytes.len() < 6 {
-        return true;
-    }
-    !has_mark(bytes, 0, &GRID)
+    bytes.len() < 6 || !has_mark(bytes, 0, &GRID)
 }
 
 // The sides that the grid record gives.
@@ -68,7 +58,7 @@ fn sides(bytes: &[u8]) -> Sides
     }
 }
 
-// How many bytes of values follow the mark of the settings record; 0 for any other mark.
+// How many bytes of values follow the mark of the settings record; 0, as the definition has it, for any other mark.
 fn settings_length(bytes: &[u8]) -> usize
     ensures { result ≡ settings_length (mark_at bytes.now 6) }
 {
@@ -92,10 +82,13 @@ fn bad_rest(bytes: &[u8], size: Sides) -> bool
         return true;
     }
     let rows = 8 + settings;
-    if bytes.len() != rows + rows_length(size) {
-        return true;
-    }
-    !rows_marked(bytes, rows, size.w, size.h)
+    bytes.len() != rows + rows_length(size)
+        || !Rows {
+            bytes,
+            at: rows,
+            size,
+        }
+        .rows_marked()
 }
 
 // The values of a fluvial settings record.
@@ -171,46 +164,49 @@ fn too_many(limited: bool, size: Sides) -> bool
     requires { InRange size.w size.h }
     ensures { result ≡ (limited && ltb 4096 (size.w * size.h)) }
 {
-    if limited {
-        return size.w * size.h > CELLS_MAX;
-    }
-    false
+    limited && size.w * size.h > CELLS_MAX
 }
 
 // Checks a stream that is not refused by 8 for refusals 4 and 5. Returns its header, or the refusal.
-fn checked(bytes: &[u8], head: Header) -> Read
+fn checked(bytes: &[u8], head: Header) -> Result<Header, Refusal>
     requires { Framed bytes.now head.rows head.size.w head.size.h }
     ensures { read_of bytes.now result ≡ values_of (parsed_of bytes.now head) }
 {
     let settings = head.settings;
     if bad_settings(settings) {
-        return Read::Refused(Refusal::Setting);
+        return Err(Refusal::Setting);
     }
     let size = head.size;
-    let cell = first_bad_height(bytes, head.rows, size);
-    if cell != size.w * size.h {
-        return Read::Refused(Refusal::Height(cell));
+    let rows = head.rows;
+    if let Some(cell) = (Rows {
+        bytes,
+        at: rows,
+        size,
+    })
+    .first_bad_height()
+    {
+        return Err(Refusal::Height(cell));
     }
-    Read::Accepted(head)
+    Ok(head)
 }
 
-// Reads a stream, for `relief` and for the stream check, which leaves 9 out: there `limited` is false. Returns the
-// header, or the first refusal in the order of document 01.
-pub fn read_stream(limited: bool, bytes: &[u8]) -> Read
+// Reads a stream, for `relief` and for the stream check, which leaves 9 out: there `limited`, an argument of the
+// definition, is false. Returns the header, or the first refusal in the order of document 01.
+pub fn read_stream(limited: bool, bytes: &[u8]) -> Result<Header, Refusal>
     ensures { read_of bytes.now result ≡ read_stream limited bytes.now }
 {
     if bad_grid(bytes) {
-        return Read::Refused(Refusal::Stream);
+        return Err(Refusal::Stream);
     }
     let size = sides(bytes);
     if bad_sides(size) {
-        return Read::Refused(Refusal::Side);
+        return Err(Refusal::Side);
     }
     if too_many(limited, size) {
-        return Read::Refused(Refusal::Cells);
+        return Err(Refusal::Cells);
     }
     if bad_rest(bytes, size) {
-        return Read::Refused(Refusal::Stream);
+        return Err(Refusal::Stream);
     }
     checked(bytes, read_header(bytes, size))
 }

@@ -1,50 +1,33 @@
 -- Marks, compared byte by byte.
-use Prim.Native.Nat.{ℕ, suc, ◌+◌, ◌-◌, ◌≤◌, ◌<◌, min}
+use Prim.Native.Nat.{ℕ, ◌<◌}
 use mathlib.Core.Path.{◌≡◌, refl, sym, ap, ap₂, ◌∙◌}
-use mathlib.Core.Bool.{Bool, true, false, ◌&&◌, and-false, and-true}
+use mathlib.Core.Bool.{Bool, false, ◌&&◌}
 use mathlib.Core.List.{List, [], ◌∷◌}
-use native.Mathlib.Numerals.{add-one}
 use native.Mathlib.Omega.{arith}
-use borrow.Author.Tests.{eq-eqb, ne_eqb}
 use lib.Dec.{eqb}
-use lib.ListN.{length, get_or, take, drop, length-take, length-drop}
-use lib.Seq.{drop-cons}
-use Rattle.stream_bytes.specs.Bytes.{same, mark_at, marked}
+use lib.ListN.{length, take, drop}
+use lib.Pointwise.{pointwise}
+use Rattle.std.proofs.lemmas.Bool.Decides.{nat_tests}
+use Rattle.std.proofs.Math.ListN.{drop_of_length-le}
+use Rattle.stream_bytes.specs.Bytes.{same, marked}
 
--- lists of other lengths differ
-same_length : (xs ys : List ℕ) → (length xs ≡ length ys → ⊥) → same xs ys ≡ false
+either_way : (x y : ℕ) → eqb y x ≡ eqb x y
+either_way x y = grind (arith, nat_tests)
+
+-- the comparison of the language is that of the definition
+same_pointwise : (xs ys : List ℕ) → pointwise eqb ys xs ≡ same xs ys
 unfolding same
-same_length [] [] h = absurd (h refl)
-same_length [] (y ∷ ys) h = refl
-same_length (x ∷ xs) [] h = refl
-same_length (x ∷ xs) (y ∷ ys) h = ap (λ (b : Bool). eqb x y && b) (same_length xs ys (λ e. h (ap suc e))) ∙ and-false (eqb x y)
+same_pointwise [] [] = refl
+same_pointwise [] (y ∷ ys) = refl
+same_pointwise (x ∷ xs) [] = refl
+same_pointwise (x ∷ xs) (y ∷ ys) = ap₂ (λ (a b : Bool). a && b) (either_way x y) (same_pointwise xs ys)
 
-mark_at_lem : (s : List ℕ) (at : ℕ) → at + 2 ≤ length s → mark_at s at ≡ get_or s at 0 ∷ get_or s (at + 1) 0 ∷ []
-mark_at_lem s at h =
-    ap (take 2) (drop-cons s at 0 (omega arith) ∙ ap (λ (l : List ℕ). get_or s at 0 ∷ l) (drop-cons s (suc at) 0 (omega arith)))
-    ∙ ap (λ (i : ℕ). get_or s at 0 ∷ get_or s i 0 ∷ []) (sym (add-one at))
+-- a stream that has a rest there
+pub marked_by : (s : List ℕ) (at : ℕ) (m : List ℕ) → length m ≡ 2 → {rest : List ℕ} → rest ≡ drop at s → {r : Bool} → r ≡ pointwise eqb m (take (length m) rest) → r ≡ marked s at m
+marked_by s at m e f g = g ∙ ap₂ (λ (n : ℕ) (l : List ℕ). pointwise eqb m (take n l)) e f ∙ same_pointwise (take 2 (drop at s)) m
 
-two : (m : List ℕ) → length m ≡ 2 → m ≡ get_or m 0 0 ∷ get_or m 1 0 ∷ []
-two [] e = let z : ⊥ = omega arith in absurd z
-two (x ∷ []) e = let z : ⊥ = omega arith in absurd z
-two (x ∷ y ∷ []) e = refl
-two (x ∷ y ∷ z ∷ m) e = let z : ⊥ = omega arith in absurd z
-
-module _ (s : List ℕ) (at : ℕ) (m : List ℕ) (two_bytes : length m ≡ 2) where
-  -- a stream that ends before the second byte
-  pub marked_short : length s < at + 2 → false ≡ marked s at m
-  marked_short h = sym (same_length (mark_at s at) m (λ e. let z : ⊥ = omega (arith, shorter) in z))
-    where
-      shorter : length (mark_at s at) ≡ min 2 (length s - at)
-      shorter = length-take 2 (drop at s) ∙ ap (min 2) (length-drop at s)
-
-  module _ (h : at + 2 ≤ length s) where
-    marked_bytes : marked s at m ≡ (eqb (get_or s at 0) (get_or m 0 0) && (eqb (get_or s (at + 1) 0) (get_or m 1 0) && true))
-    unfolding same
-    marked_bytes = ap₂ same (mark_at_lem s at h) (two m two_bytes)
-
-    pub marked_not : (get_or s at 0 ≡ get_or m 0 0 → ⊥) → false ≡ marked s at m
-    marked_not d = sym (marked_bytes ∙ rw (ne_eqb (get_or s at 0) (get_or m 0 0) d))
-
-    pub marked_by : get_or s at 0 ≡ get_or m 0 0 → eqb (get_or s (at + 1) 0) (get_or m 1 0) ≡ marked s at m
-    marked_by e = sym (marked_bytes ∙ rw (eq-eqb (get_or s at 0) (get_or m 0 0) e) (and-true _))
+-- one that has ended before
+pub marked_past : (s : List ℕ) (at : ℕ) (m : List ℕ) → length m ≡ 2 → length s < at → false ≡ marked s at m
+unfolding same
+marked_past s at [] e h = let z : ⊥ = omega arith in absurd z
+marked_past s at (x ∷ m) e h = sym (ap (λ (l : List ℕ). same (take 2 l) (x ∷ m)) (drop_of_length-le s (omega arith)))

@@ -1,14 +1,18 @@
 -- Bytes written one after the other.
-use Prim.Native.Nat.{ℕ, suc, ◌+◌, ◌*◌, ◌/◌, ◌%◌, ◌≤◌, ◌<◌}
-use mathlib.Core.Path.{◌≡◌, refl, sym, ap, ap₂, ◌∙◌}
+use Prim.Native.Nat.{ℕ, suc, ◌+◌, ◌/◌, ◌%◌, ◌-◌, ◌^◌, ◌≤◌, ◌<◌}
+use mathlib.Core.Path.{◌≡◌, sym, ap, ap₂, ◌∙◌}
 use mathlib.Core.List.{List, [], ◌∷◌, ◌++◌}
 use native.Mathlib.Nat.{add-zero, add-suc, suc-add}
 use native.Mathlib.Numerals.{add-one}
 use native.Mathlib.Omega.{arith}
-use lib.Arith.{digits_mod}
-use lib.ListN.{length, get_or, set}
+use lib.ListN.{length, set}
 use lib.Seq.{sets, length-sets}
-use Rattle.stream_bytes.specs.Bytes.{bytes2, bytes4}
+use borrow.Rule.Slice.PartMut.{put_mid}
+use Rattle.std.proofs.Common.{w32}
+use Rattle.std.specs.Int.{to_le_bytes}
+use Rattle.std.proofs.lemmas.List.{drop-drop, append_assoc}
+use Rattle.std.proofs.lemmas.List.Edits.{sets-eq}
+use Rattle.stream_bytes.specs.Bytes.{bytes4}
 
 -- one run of bytes behind another is one run
 pub sets_append : (l : List ℕ) (i : ℕ) (a b : List ℕ) → sets (sets l i a) (i + length a) b ≡ sets l i (a ++ b)
@@ -42,23 +46,14 @@ module _ {old : List ℕ} {at n : ℕ} {pieces : ℕ → List ℕ} {i : ℕ} {ne
       let e : i ≡ n = omega (arith, p.within) in
       p.held ∙ ap (λ (k : ℕ). sets old at (pieces k)) e
 
-pub two_bytes : (l : List ℕ) (i x : ℕ) → x < 65536 → set (set l i (x % 256)) (i + 1) (x / 256) ≡ sets l i (bytes2 x)
-two_bytes l i x h =
-    let e : x / 256 ≡ x / 256 % 256 = omega arith in
-    ap₂ (λ (k y : ℕ). set (set l i (x % 256)) k y) (add-one i) e
+-- bytes copied over a part of the list
+pub copied : (l : List ℕ) (i k : ℕ) (vs : List ℕ) → length vs ≡ k → i + k ≤ length l → {xs : List ℕ} → xs ≡ vs → put_mid i (i + k - i) l xs ≡ sets l i vs
+copied l i k vs n inside {xs} e =
+    let same : i + k - i ≡ length vs = omega (arith, n) in
+    rw (e, same, drop-drop (length vs) i l, ← append_assoc) (sym (sets-eq vs l i (omega (arith, n))))
 
-pub four_bytes : (l : List ℕ) (i x : ℕ) {a b : List ℕ} → a ≡ sets l i (bytes2 (x % 65536)) → b ≡ sets a (i + 2) (bytes2 (x / 65536)) → b ≡ sets l i (bytes4 x)
-four_bytes l i x e f =
-    let low : x % 65536 % 256 ≡ x % 256 = omega arith in
-    let small : x % 65536 / 256 < 256 = omega arith in
-    let split : x / 256 ≡ x / 65536 * 256 + x % 65536 / 256 = omega arith in
-    let same : x % 65536 / 256 % 256 ≡ x % 65536 / 256 = omega (arith, small) in
-    let next : x % 65536 / 256 % 256 ≡ x / 256 % 256 = same ∙ sym (ap (λ (n : ℕ). n % 256) split ∙ digits_mod (x / 65536) small) in
-    sets_next l i (bytes2 (x % 65536)) (bytes2 (x / 65536)) (i + 2) refl e f
-    ∙ ap₂ (λ (a b : ℕ). sets l i ((a ∷ b ∷ []) ++ bytes2 (x / 65536))) low next
-
-pub mark_bytes : (l : List ℕ) (i : ℕ) (m : List ℕ) → length m ≡ 2 → set (set l i (get_or m 0 0)) (i + 1) (get_or m 1 0) ≡ sets l i m
-mark_bytes l i [] e = let z : ⊥ = omega arith in absurd z
-mark_bytes l i (x ∷ []) e = let z : ⊥ = omega arith in absurd z
-mark_bytes l i (x ∷ y ∷ []) e = ap (λ (k : ℕ). set (set l i x) k y) (add-one i)
-mark_bytes l i (x ∷ y ∷ z ∷ m) e = let z : ⊥ = omega arith in absurd z
+-- the bytes of a number
+pub four_bytes : (x : ℕ) → x < 2 ^ 32 → to_le_bytes w32 x ≡ bytes4 x
+four_bytes x h =
+    let e : x / 256 ^ 3 % 256 ≡ x / 65536 / 256 % 256 = omega arith in
+    ap (λ (b : ℕ). x % 256 ∷ x / 256 % 256 ∷ x / 65536 % 256 ∷ b ∷ []) e

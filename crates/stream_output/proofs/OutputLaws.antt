@@ -1,6 +1,8 @@
 -- The records of the output, written one behind the other.
-use Prim.Native.Nat.{ℕ, zero, suc, ◌+◌, ◌*◌, ◌≤◌, ◌<◌}
-use mathlib.Core.Path.{◌≡◌, refl, sym, ◌∙◌}
+use Rattle.std.specs.declared.result.Result.TheVariants.{Ok, Err}
+use Rattle.answers.specs.Outcome.{Answer}
+use Prim.Native.Nat.{ℕ, zero, suc, ◌+◌, ◌*◌, ◌-◌, ◌≤◌, ◌<◌}
+use mathlib.Core.Path.{◌≡◌, refl, sym, ap, ◌∙◌}
 use mathlib.Core.Bool.{false}
 use mathlib.Core.List.{List, ◌++◌}
 use native.Mathlib.Nat.{zero-mul}
@@ -9,23 +11,22 @@ use borrow.Author.Tests.{lt-ltb, le-ltb}
 use mir.Syntax.{w16}
 use mir.Val.{Fits}
 use lib.Dec.{ltb}
-use lib.ListN.{length, length-append}
+use lib.ListN.{length, take, drop, length-append}
 use lib.Seq.{sets}
-use lib.Ieee.{Float}
+use lib.Ieee.{Float, nan, binary32, to_bits}
 use Rattle.grid.proofs.SidesLaws.{row_end}
 use Rattle.answers.specs.Outcome.{number_in, answer_of}
-use Rattle.answers.specs.declared.Answer.{Answer}
 use Rattle.answers.proofs.OutcomeLaws.{refusal_by_lem}
 use Rattle.stream_bytes.specs.Bytes.{bytes2, bytes4, grid_mark, row_mark, end_mark}
-use Rattle.stream_words.specs.Words.{bits_at}
-use Rattle.stream_words.proofs.WordLaws.{words_length}
+use Rattle.stream_words.specs.Words.{bits_at, word_in, word_bytes}
+use Rattle.stream_words.proofs.WordLaws.{words_length, words_part}
 use Rattle.stream_bytes.proofs.PutLaws.{sets_next, Putting, putting_none, putting_more}
 use Rattle.stream_output.specs.Output.{grid_record, height_bytes, row_record, row_records, end_record, for_input}
 
 -- every number of documents 01 and 02 is small
 pub number_fits : (a : Answer) (n : ℕ) → n ≡ number_in (answer_of a) → Fits w16 n
-number_fits Answer.Done n e = record { fits = omega arith }
-number_fits (Answer.Refused r) n e = record { fits = omega (arith, e, refusal_by_lem (λ o n p. n < 37) (λ n l. l) (λ n p l. l) r) }
+number_fits (Ok tt) n e = record { fits = omega arith }
+number_fits (Err r) n e = record { fits = omega (arith, e, refusal_by_lem (λ o n p. n < 37) (λ n l. l) (λ n p l. l) r) }
 
 pub input_none : (n : ℕ) → n ≡ 0 → false ≡ for_input n
 input_none n e = sym (rw (le-ltb 0 n (omega arith)))
@@ -44,9 +45,10 @@ end_put l at n i p q ha hb hc hd he =
     (sets_next l at (end_mark ++ (bytes2 n ++ bytes4 i)) (bytes4 p) (at + 8) refl
     (sets_next l at (end_mark ++ bytes2 n) (bytes4 i) (at + 4) refl (sets_next l at end_mark (bytes2 n) (at + 2) refl ha hb) hc) hd) he
 
-pub row_put : (l : List ℕ) (at : ℕ) (map : List Float) (cell w : ℕ) {a b : List ℕ} → a ≡ sets l at row_mark → b ≡ sets a (at + 2) (height_bytes map cell w)
-    → b ≡ sets l at (row_record map cell w)
-row_put l at map cell w e f = sets_next l at row_mark (height_bytes map cell w) (at + 2) refl e f
+pub row_put : (l : List ℕ) (at : ℕ) (map : List Float) (cell w : ℕ) → cell + w ≤ length map → {a b : List ℕ} → a ≡ sets l at row_mark
+    → (let row : List Float = take (cell + w - cell) (drop cell map) in b ≡ sets a (at + 2) (word_bytes (length row) (word_in (to_bits binary32) nan row))) → b ≡ sets l at (row_record map cell w)
+row_put l at map cell w h {a} e f =
+    sets_next l at row_mark (height_bytes map cell w) (at + 2) refl e (f ∙ ap (sets a (at + 2)) (words_part (to_bits binary32) nan map cell w h refl))
 
 -- where a row is written
 pub row_room : (w h y : ℕ) → y < h → (n : ℕ) → 6 + h * (2 + 4 * w) ≤ n → 6 + y * (2 + 4 * w) + (2 + 4 * w) ≤ n

@@ -1,4 +1,5 @@
 -- What the writer leaves on each of its ways.
+use Rattle.std.specs.declared.result.Result.TheVariants.{Ok, Err}
 use Prim.Native.Nat.{ℕ, ◌+◌, ◌*◌, ◌≤◌, ◌<◌}
 use mathlib.Core.Path.{◌≡◌, refl, sym, ap, ◌∙◌}
 use mathlib.Core.Bool.{Bool, true, false, not, ◌||◌, cond}
@@ -15,7 +16,6 @@ use Rattle.grid.specs.Sides.{bad_sides}
 use Rattle.stream_bytes.proofs.PutLaws.{sets_next}
 use Rattle.answers.specs.declared.RunAnswer.{RunAnswer}
 use Rattle.stream_output.specs.Output.{grid_record, row_records, end_record, for_input, output_of, output_by, run_number, rows_length, written_of, left_of, Wrote}
-use Rattle.answers.specs.declared.Written.{Written}
 use Rattle.stream_output.proofs.OutputLaws.{rows_length_lem}
 
 -- a run of bytes at the front
@@ -34,7 +34,7 @@ module _ (w h : ℕ) (map : List Float) (r : RunAnswer) (old : List ℕ) {n : �
     unfolding written_of
     answered l e = rw (input t, e)
 
-    pub end_short : length old < 16 → Wrote w h map r old (Written.Refused Length) old
+    pub end_short : length old < 16 → Wrote w h map r old (Err Length) old
     end_short l =
         let e : written_of w h (run_number r) (length map) (length old) ≡ refused 3 = answered true (lt-ltb (length old) 16 l) in
         record { answers = sym e; leaves = sym (ap (λ (o : Outcome ℕ). left_of o old (output_by w h r map)) e) }
@@ -43,7 +43,7 @@ module _ (w h : ℕ) (map : List Float) (r : RunAnswer) (old : List ℕ) {n : �
     unfolding output_of
     ended = ap (λ (k : ℕ). end_record k 0 0 0) en ∙ sym (rw (input t))
 
-    pub end_alone : 16 ≤ length old → {new : List ℕ} → new ≡ sets old 0 (end_record n 0 0 0) → Wrote w h map r old (Written.Bytes 16) new
+    pub end_alone : 16 ≤ length old → {new : List ℕ} → new ≡ sets old 0 (end_record n 0 0 0) → Wrote w h map r old (Ok 16) new
     end_alone l {new} f =
         let e : written_of w h (run_number r) (length map) (length old) ≡ gives 16 = answered false (le-ltb (length old) 16 l) in
         record {
@@ -65,18 +65,18 @@ module _ (w h : ℕ) (map : List Float) (r : RunAnswer) (old : List ℕ) {n : �
         ≡ left_of (cond s (refused 1) (cond c (refused 3) (gives (22 + rows_length w h)))) old (output_by w h r map)
     kept s c e f = ap (λ (o : Outcome ℕ). left_of o old (output_by w h r map)) (answers_whole s c e f)
 
-    pub whole_sides : {s : Bool} → s ≡ bad_sides w h → s ≡ true → Wrote w h map r old (Written.Refused Side) old
+    pub whole_sides : {s : Bool} → s ≡ bad_sides w h → s ≡ true → Wrote w h map r old (Err Side) old
     whole_sides {s} e f = record { answers = sym (answers_whole true _ (sym e ∙ f) refl); leaves = sym (kept true _ (sym e ∙ f) refl) }
 
     module _ {s : Bool} (es : s ≡ bad_sides w h) (fs : s ≡ false) where
-      refused_length : (not (eqb (length map) (w * h)) || ltb (length old) (22 + rows_length w h)) ≡ true → Wrote w h map r old (Written.Refused Length) old
+      refused_length : (not (eqb (length map) (w * h)) || ltb (length old) (22 + rows_length w h)) ≡ true → Wrote w h map r old (Err Length) old
       refused_length f = record { answers = sym (answers_whole false true (sym es ∙ fs) f); leaves = sym (kept false true (sym es ∙ fs) f) }
 
-      pub whole_cells : (length map ≡ w * h → ⊥) → Wrote w h map r old (Written.Refused Length) old
+      pub whole_cells : (length map ≡ w * h → ⊥) → Wrote w h map r old (Err Length) old
       whole_cells d = refused_length (rw (ne_eqb (length map) (w * h) d))
 
       module _ (full : length map ≡ w * h) {k : ℕ} (ek : k ≡ rows_length w h) where
-        pub whole_room : length old < 22 + k → Wrote w h map r old (Written.Refused Length) old
+        pub whole_room : length old < 22 + k → Wrote w h map r old (Err Length) old
         whole_room l = refused_length (rw (eq-eqb (length map) (w * h) full) (lt-ltb (length old) (22 + rows_length w h) (omega (arith, ek))))
 
         room : 22 + k ≤ length old → (not (eqb (length map) (w * h)) || ltb (length old) (22 + rows_length w h)) ≡ false
@@ -93,7 +93,7 @@ module _ (w h : ℕ) (map : List Float) (r : RunAnswer) (old : List ℕ) {n : �
             omega (arith, rows_length_lem map w h, length-append (row_records map w h) (end_record n r.incisions r.passes r.questions))
 
         pub whole_output : 22 + k ≤ length old → {a b c : List ℕ} → a ≡ sets old 0 (grid_record w h) → b ≡ sets a 6 (row_records map w h)
-            → c ≡ sets b (6 + k) (end_record n r.incisions r.passes r.questions) → Wrote w h map r old (Written.Bytes (22 + k)) c
+            → c ≡ sets b (6 + k) (end_record n r.incisions r.passes r.questions) → Wrote w h map r old (Ok (22 + k)) c
         whole_output l {a} {b} {c} ea eb ec =
             let e : written_of w h (run_number r) (length map) (length old) ≡ gives (22 + rows_length w h) = answers_whole false false (sym es ∙ fs) (room l) in
             let two : b ≡ sets old 0 (grid_record w h ++ row_records map w h) = sets_next old 0 (grid_record w h) (row_records map w h) 6 refl ea eb in

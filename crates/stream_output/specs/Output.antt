@@ -1,5 +1,8 @@
 -- Document 01, 'The stream': the bytes that go out. The grid record, the rows, and 45 4E with the refusal number or 0
 -- (two bytes), incisions, passes, questions (four each). On 1 to 9 only 45 4E comes, counts 0.
+use Rattle.std.specs.declared.result.Result.{Result}
+use Rattle.std.specs.declared.result.Result.TheVariants.{Ok, Err}
+use Rattle.answers.specs.declared.Refusal.{Refusal}
 use Rattle.std.specs.Prelude.{ℕ, zero, suc, ◌+◌, ◌*◌, ◌≡◌, Bool, not, ◌&&◌, ◌||◌, cond, List, [], ◌++◌, length, drop, eqb, ltb, Float}
 use Rattle.answers.specs.Outcome.{Outcome, gives, refused, refused_at, refusal_of, number_in, answer_of}
 use Rattle.grid.specs.Sides.{bad_sides}
@@ -7,7 +10,6 @@ use Rattle.stream_bytes.specs.Bytes.{bytes2, bytes4, grid_mark, row_mark, end_ma
 use Rattle.stream_words.specs.Words.{bits_at, word_bytes}
 use Rattle.stream_rows.specs.Rows.{row_length}
 use Rattle.answers.specs.declared.RunAnswer.{RunAnswer}
-use Rattle.answers.specs.declared.Written.{Written}
 
 abbrev pub grid_record : ℕ → ℕ → List ℕ
 grid_record w h = grid_mark ++ (bytes2 w ++ bytes2 h)
@@ -57,10 +59,6 @@ written_of w h number cells room =
     (cond (bad_sides w h) (refused 1)
     (cond (not (eqb cells (w * h)) || ltb room (22 + rows_length w h)) (refused 3) (gives (22 + rows_length w h))))
 
-abbrev pub written_by : Written → Outcome ℕ
-written_by (Written.Bytes n) = gives n
-written_by (Written.Refused r) = refusal_of r
-
 -- the slice after the call: the output, and bytes beyond it as they were; the whole slice as it was where the writer
 -- refuses
 abbrev pub left_of : Outcome ℕ → List ℕ → List ℕ → List ℕ
@@ -68,6 +66,6 @@ left_of (gives n) old output = output ++ drop n old
 left_of (refused number) old output = old
 left_of (refused_at number place) old output = old
 
-pub record Wrote (w h : ℕ) (map : List Float) (r : RunAnswer) (old : List ℕ) (answer : Written) (new : List ℕ) : Type 0 where
-  pub answers : written_by answer ≡ written_of w h (run_number r) (length map) (length old)
+pub record Wrote (w h : ℕ) (map : List Float) (r : RunAnswer) (old : List ℕ) (answer : Result ℕ Refusal) (new : List ℕ) : Type 0 where
+  pub answers : answer_of answer ≡ written_of w h (run_number r) (length map) (length old)
   pub leaves : new ≡ left_of (written_of w h (run_number r) (length map) (length old)) old (output_by w h r map)

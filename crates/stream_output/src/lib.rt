@@ -8,15 +8,15 @@ ghost use Rattle.grid.specs.Sides.{InRange};
 ghost use Rattle.stream_output.specs.Output.{grid_record, row_record, row_records, end_record, for_input, rows_length};
 ghost use Rattle.stream_output.specs.Output.{Wrote};
 
-use answers::{Answer, Refusal, RunAnswer, Written, answer_number};
+use answers::{Refusal, RunAnswer, answer_number};
 use grid::{Sides, bad_sides};
 use stream::{END, GRID};
 use stream_bytes::{put_mark, put_u16, put_u32};
 use stream_rows::{ROW, rows_length};
-use stream_words::put_floats;
+use stream_words::put_words;
 
 // The number of an answer in two bytes.
-fn short_number(a: Answer) -> u16
+fn short_number(a: Result<(), Refusal>) -> u16
     ensures { result ≡ number_in (answer_of a) }
 {
     answer_number(a) as u16
@@ -26,10 +26,7 @@ fn short_number(a: Answer) -> u16
 fn for_input(number: u16) -> bool
     ensures { result ≡ for_input number }
 {
-    if number == 0 {
-        return false;
-    }
-    number < 10
+    (1..10).contains(&number)
 }
 
 // The grid record, at the front.
@@ -50,7 +47,7 @@ fn put_row(out: &mut [u8], at: usize, map: &[f32], cell: usize, w: usize)
     ensures { out.new ≡ sets out.old at (row_record map.now cell w) }
 {
     put_mark(out, at, &ROW);
-    put_floats(out, at + 2, map, cell, w);
+    put_words(out, at + 2, &map[cell..cell + w]);
 }
 
 // All rows, behind the grid record.
@@ -61,10 +58,8 @@ fn put_rows(out: &mut [u8], map: &[f32], size: Sides)
 {
     let w = size.w;
     let h = size.h;
-    let mut y: usize = 0;
-    while y < h {
+    for y in 0..h {
         put_row(out, 6 + y * (2 + 4 * w), map, y * w, w);
-        y += 1;
     }
 }
 
@@ -82,30 +77,35 @@ fn put_end(out: &mut [u8], at: usize, number: u16, incisions: u32, passes: u32, 
 
 // Writes the output of a run that answered r and left the map: the bytes of document 01, the rest of the slice as it
 // was. Returns how many bytes it wrote, or a refusal. It is a part of `relief` and takes any heights: no refusal 5.
-pub fn write_output(size: Sides, map: &[f32], r: RunAnswer, out: &mut [u8]) -> Written
+pub fn write_output(
+    size: Sides,
+    map: &[f32],
+    r: RunAnswer,
+    out: &mut [u8],
+) -> Result<usize, Refusal>
     ensures { Wrote size.w size.h map.now r out.old result out.new }
 {
     let answer = r.answer;
     let number = short_number(answer);
     if for_input(number) {
         if out.len() < 16 {
-            return Written::Refused(Refusal::Length);
+            return Err(Refusal::Length);
         }
         put_end(out, 0, number, 0, 0, 0);
-        return Written::Bytes(16);
+        return Ok(16);
     }
     if bad_sides(size) {
-        return Written::Refused(Refusal::Side);
+        return Err(Refusal::Side);
     }
     if map.len() != size.w * size.h {
-        return Written::Refused(Refusal::Length);
+        return Err(Refusal::Length);
     }
     let rows = rows_length(size);
     if out.len() < 22 + rows {
-        return Written::Refused(Refusal::Length);
+        return Err(Refusal::Length);
     }
     put_grid(out, size);
     put_rows(out, map, size);
     put_end(out, 6 + rows, number, r.incisions, r.passes, r.questions);
-    Written::Bytes(22 + rows)
+    Ok(22 + rows)
 }

@@ -4,8 +4,9 @@
 
 ghost use Rattle.std.specs.Prelude.{◌≡◌, ◌*◌, ◌<◌, length};
 ghost use Rattle.grid.specs.Sides.{InRange};
+ghost use Rattle.loops.specs.Loops.{place_among};
 ghost use Rattle.grid.specs.Heights.{first_not_finite, all_finite};
-ghost use Rattle.stream_rows.specs.Rows.{row_length, rows_marked, height_at, row_heights, heights_at, Framed};
+ghost use Rattle.stream_rows.specs.Rows.{row_length, row_at, rows_marked, height_at, row_heights, heights_at, Framed};
 
 use floats::is_finite;
 use grid::Sides;
@@ -22,106 +23,102 @@ pub fn rows_length(size: Sides) -> usize
     size.h * (2 + 4 * size.w)
 }
 
-// Whether h rows of w heights, from byte `rows` on, all have their mark.
-pub fn rows_marked(bytes: &[u8], rows: usize, w: usize, h: usize) -> bool
-    requires { Framed bytes.now rows w h }
-    ensures { result ≡ rows_marked bytes.now rows w h }
-{
-    let step = 2 + 4 * w;
-    let mut at = rows;
-    let mut y: usize = 0;
-    while y < h {
-        if !has_mark(bytes, at, &ROW) {
-            return false;
-        }
-        at += step;
-        y += 1;
+// The rows of a grid: they begin at byte `at` of the stream and go to its end.
+#[derive(Clone, Copy)]
+pub struct Rows<'a> {
+    pub bytes: &'a [u8],
+    pub at: usize,
+    pub size: Sides,
+    pub ghost framed: { Framed bytes.now at size.w size.h },
+}
+
+impl Rows<'_> {
+    // Where row y begins.
+    fn row_at(&self, y: usize) -> usize
+        requires { y < self.now.size.h }
+        ensures { result ≡ row_at self.now.at self.now.size.w y }
+    {
+        self.at + y * (2 + 4 * self.size.w)
     }
-    true
-}
 
-// The height of column x, row y, where the rows begin at byte `rows`.
-fn height_at(bytes: &[u8], rows: usize, size: Sides, x: usize, y: usize) -> f32
-    requires framed { Framed bytes.now rows size.w size.h }
-    requires x_lt_w { x < size.w }
-    requires y_lt_h { y < size.h }
-    ensures { result ≡ height_at bytes.now rows size.w x y }
-{
-    let row = rows + y * (2 + 4 * size.w);
-    read_f32(bytes, row + (2 + 4 * x))
-}
-
-// Whether every height of row y is finite, with no branch, so that the compiler tests several at a time.
-fn row_finite(bytes: &[u8], rows: usize, size: Sides, y: usize) -> bool
-    requires framed { Framed bytes.now rows size.w size.h }
-    requires y_lt_h { y < size.h }
-    ensures { result ≡ all_finite (row_heights bytes.now rows size.w y) }
-{
-    let w = size.w;
-    let mut good = true;
-    let mut x: usize = 0;
-    while x < w {
-        good = good & is_finite(height_at(bytes, rows, size, x, y));
-        x += 1;
-    }
-    good
-}
-
-// The first cell, row by row, whose height is not finite; w × h where every height is finite. A row is searched only
-// where some height of it is not.
-pub fn first_bad_height(bytes: &[u8], rows: usize, size: Sides) -> usize
-    requires { Framed bytes.now rows size.w size.h }
-    ensures { result ≡ first_not_finite (heights_at bytes.now rows size.w size.h) }
-{
-    let w = size.w;
-    let h = size.h;
-    let mut y: usize = 0;
-    'rows: loop {
-        if h <= y {
-            break 'rows w * h;
-        }
-        if !row_finite(bytes, rows, size, y) {
-            let mut x: usize = 0;
-            while x < w {
-                let cell = x + y * w;
-                if !is_finite(height_at(bytes, rows, size, x, y)) {
-                    break 'rows cell;
-                }
-                x += 1;
+    // Whether all rows have their mark.
+    pub fn rows_marked(&self) -> bool
+        ensures { result ≡ rows_marked self.now.bytes.now self.now.at self.now.size.w self.now.size.h }
+    {
+        for y in 0..self.size.h {
+            if !has_mark(self.bytes, self.row_at(y), &ROW) {
+                return false;
             }
         }
-        y += 1;
+        true
     }
-}
 
-// Writes the heights of row y.
-fn read_row(bytes: &[u8], rows: usize, size: Sides, y: usize, row: &mut [f32])
-    requires framed { Framed bytes.now rows size.w size.h }
-    requires y_lt_h { y < size.h }
-    requires row_len { length row.old ≡ size.w }
-    ensures { row.new ≡ row_heights bytes.now rows size.w y }
-{
-    let n = row.len();
-    let mut x: usize = 0;
-    while x < n {
-        row[x] = height_at(bytes, rows, size, x, y);
-        x += 1;
+    // The height of column x, row y.
+    fn height_at(&self, x: usize, y: usize) -> f32
+        requires x_lt_w { x < self.now.size.w }
+        requires y_lt_h { y < self.now.size.h }
+        ensures { result ≡ height_at self.now.bytes.now self.now.at self.now.size.w x y }
+    {
+        read_f32(self.bytes, self.row_at(y) + (2 + 4 * x))
     }
-}
 
-// Writes the heights of the stream into the map.
-pub fn load(bytes: &[u8], rows: usize, size: Sides, map: &mut [f32])
-    requires framed { Framed bytes.now rows size.w size.h }
-    requires map_len { length map.old ≡ size.w * size.h }
-    ensures { map.new ≡ heights_at bytes.now rows size.w size.h }
-{
-    let w = size.w;
-    let h = size.h;
-    let mut y: usize = 0;
-    while y < h {
-        let from = y * w;
-        let to = from + w;
-        read_row(bytes, rows, size, y, &mut map[from..to]);
-        y += 1;
+    // Whether every height of row y is finite, with no branch, so that several can be tested at a time.
+    fn row_finite(&self, y: usize) -> bool
+        requires { y < self.now.size.h }
+        ensures { result ≡ all_finite (row_heights self.now.bytes.now self.now.at self.now.size.w y) }
+    {
+        let mut good = true;
+        for x in 0..self.size.w {
+            good &= is_finite(self.height_at(x, y));
+        }
+        good
+    }
+
+    // The first cell, row by row, whose height is not finite, if there is one. A row is searched only where some height
+    // of it is not. A `loop`: document 01 requires that it yield the cell through the outer label.
+    pub fn first_bad_height(&self) -> Option<usize>
+        ensures { result ≡ place_among (self.now.size.w * self.now.size.h)
+            (first_not_finite (heights_at self.now.bytes.now self.now.at self.now.size.w self.now.size.h)) }
+    {
+        let w = self.size.w;
+        let h = self.size.h;
+        let mut y: usize = 0;
+        'rows: loop {
+            if h <= y {
+                break 'rows None;
+            }
+            if !self.row_finite(y) {
+                for x in 0..w {
+                    let cell = x + y * w;
+                    if !is_finite(self.height_at(x, y)) {
+                        break 'rows Some(cell);
+                    }
+                }
+            }
+            y += 1;
+        }
+    }
+
+    // Writes the heights of row y.
+    fn read_row(&self, y: usize, row: &mut [f32])
+        requires y_lt_h { y < self.now.size.h }
+        requires row_len { length row.old ≡ self.now.size.w }
+        ensures { row.new ≡ row_heights self.now.bytes.now self.now.at self.now.size.w y }
+    {
+        for (x, height) in row.iter_mut().enumerate() {
+            *height = self.height_at(x, y);
+        }
+    }
+
+    // Writes the heights of the stream into the map.
+    pub fn load(&self, map: &mut [f32])
+        requires { length map.old ≡ self.now.size.w * self.now.size.h }
+        ensures { map.new ≡ heights_at self.now.bytes.now self.now.at self.now.size.w self.now.size.h }
+    {
+        let w = self.size.w;
+        for y in 0..self.size.h {
+            let from = y * w;
+            self.read_row(y, &mut map[from..from + w]);
+        }
     }
 }

@@ -1,4 +1,6 @@
 -- The writer writes the bytes of the definition: of the run of an accepted stream, and of a refused stream.
+use Rattle.std.specs.declared.result.Result.{Result}
+use Rattle.std.specs.declared.result.Result.TheVariants.{Ok}
 use Prim.Native.Nat.{ℕ, ◌+◌, ◌*◌, ◌≤◌}
 use mathlib.Core.Path.{◌≡◌, refl, sym, ap, ap₂, subst, ◌∙◌}
 use mathlib.Core.Bool.{Bool, true, false, not, ◌||◌, cond}
@@ -9,7 +11,7 @@ use lib.Dec.{eqb, ltb}
 use lib.ListN.{length, take, drop, length-append}
 use lib.Seq.{length-take-le, take_at}
 use lib.Ieee.{Float}
-use Rattle.answers.specs.Outcome.{Outcome, gives, refused, refusal_of, number_in}
+use Rattle.answers.specs.Outcome.{answer_of, Outcome, gives, refused, refusal_of, number_in}
 use Rattle.answers.specs.declared.Refusal.{Refusal}
 use Rattle.answers.proofs.OutcomeLaws.{refusal_by_lem, not_refused}
 use Rattle.grid.specs.Sides.{bad_sides}
@@ -19,8 +21,7 @@ use Rattle.answers.specs.declared.RunAnswer.{RunAnswer}
 use Rattle.stream_rows.specs.Rows.{heights_at}
 use Rattle.stream.specs.Stream.{Parsed, parsed_of, read_stream}
 use Rattle.stream.specs.declared.Header.{Header}
-use Rattle.stream_output.specs.Output.{grid_record, row_records, end_record, for_input, output_of, output_by, run_number, rows_length, written_of, left_of, written_by, Wrote}
-use Rattle.answers.specs.declared.Written.{Written}
+use Rattle.stream_output.specs.Output.{grid_record, row_records, end_record, for_input, output_of, output_by, run_number, rows_length, written_of, left_of, Wrote}
 use Rattle.stream_output.proofs.OutputLaws.{rows_length_lem}
 use Rattle.stream_run.specs.StreamRun.{asked_run, output_from, relief_of, Relief}
 use Rattle.stream_run.proofs.ReadLaws.{accepted_stream, refused_number}
@@ -70,7 +71,7 @@ module _ (s : List ℕ) (w h : ℕ) (map : List Float) (r : RunAnswer) (fit : (r
   answer_fits : (room : ℕ) → written_of w h (run_number r) (length map) room ≡ fits room (relief_of s)
   answer_fits room = fit room ∙ ap (fits room) same
 
-  relief_by : {old : List ℕ} {answer : Written} {new : List ℕ} → Wrote w h map r old answer new → Relief s old answer new
+  relief_by : {old : List ℕ} {answer : Result ℕ Refusal} {new : List ℕ} → Wrote w h map r old answer new → Relief s old answer new
   relief_by {old} {answer} {new} m =
       record {
         answers = m.answers ∙ answer_fits (length old);
@@ -91,7 +92,7 @@ module _ (s : List ℕ) (head : Header) (e : gives (parsed_of s head) ≡ read_s
         (λ i. output_of head.size.w head.size.h (ran_number i) (f i).incisions (f i).passes (f i).questions (f i).map)
         ∙ sym (relief_is s (sym e))
 
-    ran_relief : {old : List ℕ} {answer : Written} {new : List ℕ} → Wrote head.size.w head.size.h map r old answer new → Relief s old answer new
+    ran_relief : {old : List ℕ} {answer : Result ℕ Refusal} {new : List ℕ} → Wrote head.size.w head.size.h map r old answer new → Relief s old answer new
     ran_relief =
         relief_by s head.size.w head.size.h map r
         (written_fits head.size.w head.size.h (in_range (accepted_stream s head e).framed.sides) map full (run_number r) r.incisions r.passes r.questions)
@@ -99,14 +100,14 @@ module _ (s : List ℕ) (head : Header) (e : gives (parsed_of s head) ≡ read_s
 
   -- the part of a longer map that is lent to it
   module _ (old : List Float) (room : 4096 ≡ length old) where
-    part_length : length (take (head.size.w * head.size.h) old) ≡ head.size.w * head.size.h
+    pub part_length : length (take (head.size.w * head.size.h) old) ≡ head.size.w * head.size.h
     part_length = length-take-le (head.size.w * head.size.h) old (omega (arith, room, (accepted_stream s head e).few))
 
     module _ (part : List Float) (kept : length part ≡ length (take (head.size.w * head.size.h) old)) where
       pub part_again : head.size.w * head.size.h ≤ length (part ++ drop (head.size.w * head.size.h) old)
       part_again = omega (arith, kept, part_length, length-append part (drop (head.size.w * head.size.h) old))
 
-      pub part_relief : (r : RunAnswer) → ended_with r part ≡ ran_to (asked_run head (heights_at s head.rows head.size.w head.size.h)) → {out : List ℕ} {answer : Written} {new : List ℕ}
+      pub part_relief : (r : RunAnswer) → ended_with r part ≡ ran_to (asked_run head (heights_at s head.rows head.size.w head.size.h)) → {out : List ℕ} {answer : Result ℕ Refusal} {new : List ℕ}
           → Wrote head.size.w head.size.h (take (head.size.w * head.size.h) (part ++ drop (head.size.w * head.size.h) old)) r out answer new → Relief s out answer new
       part_relief r f {out} {answer} {new} m =
           ran_relief r part f (kept ∙ part_length)
@@ -114,22 +115,18 @@ module _ (s : List ℕ) (head : Header) (e : gives (parsed_of s head) ≡ read_s
           (take_at part (drop (head.size.w * head.size.h) old) (head.size.w * head.size.h) (kept ∙ part_length)) m)
 
 -- a refused one
-pub refusal_wrote : (why : Refusal) {r : RunAnswer} → r ≡ refused_to why → {old : List ℕ} {answer : Written} {new : List ℕ} → Wrote 0 0 [] r old answer new
-    → Wrote 0 0 [] (refused_to why) old answer new
-refusal_wrote why e {old} {answer} {new} m = subst (λ (r : RunAnswer). Wrote 0 0 [] r old answer new) e m
-
 module _ (s : List ℕ) (why : Refusal) (e : read_stream true s ≡ refusal_of why) where
   end_alone : relief_of s ≡ end_record (number_in (refusal_of why)) 0 0 0
   end_alone = relief_is s e ∙ refusal_by_lem (λ o n p. output_from (o Parsed) ≡ end_record n 0 0 0) (λ n l. refl) (λ n p l. refl) why
 
-  pub refusal_relief : {old : List ℕ} {answer : Written} {new : List ℕ} → Wrote 0 0 [] (refused_to why) old answer new → Relief s old answer new
+  pub refusal_relief : {old : List ℕ} {answer : Result ℕ Refusal} {new : List ℕ} → Wrote 0 0 [] (refused_to why) old answer new → Relief s old answer new
   refusal_relief =
       relief_by s 0 0 [] (refused_to why) (input_fits 0 0 (number_in (refusal_of why)) 0 0 0 [] (refused_number s why e))
       (input_output 0 0 (number_in (refusal_of why)) 0 0 0 [] (refused_number s why e) ∙ sym end_alone)
 
 -- what was written lies inside the slice
-pub relief_inside : (s old : List ℕ) (n : ℕ) {answer : Written} {new : List ℕ} → Relief s old answer new → answer ≡ Written.Bytes n → n ≤ length old
+pub relief_inside : (s old : List ℕ) (n : ℕ) {answer : Result ℕ Refusal} {new : List ℕ} → Relief s old answer new → answer ≡ Ok n → n ≤ length old
 relief_inside s old n {answer} m e =
-    let a = not_refused (ltb (length old) (length (relief_of s))) (refused 3) (gives (length (relief_of s))) n refl (sym (ap written_by (sym e) ∙ m.answers)) in
+    let a = not_refused (ltb (length old) (length (relief_of s))) (refused 3) (gives (length (relief_of s))) n refl (sym (ap answer_of (sym e) ∙ m.answers)) in
     let same : length (relief_of s) ≡ n = cc a.1 in
     omega (arith, same, ltb-false (length old) (length (relief_of s)) a.0)

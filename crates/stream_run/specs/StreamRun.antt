@@ -1,6 +1,8 @@
 -- Document 01, 'The stream': the run that a stream asks for, and the bytes that `relief` writes.
+use Rattle.std.specs.declared.result.Result.{Result}
+use Rattle.answers.specs.declared.Refusal.{Refusal}
 use Rattle.std.specs.Prelude.{ℕ, ◌*◌, ◌≤◌, ◌<◌, ◌≡◌, true, false, cond, List, length, take, ltb, Float}
-use Rattle.answers.specs.Outcome.{Outcome, gives, refused, refused_at}
+use Rattle.answers.specs.Outcome.{answer_of, Outcome, gives, refused, refused_at}
 use Rattle.run_machine.specs.Run.{Ran, ours, run_by, thermal_run}
 use Rattle.grid.specs.Heights.{all_finite}
 use Rattle.stream_rows.specs.Rows.{heights_at, Framed}
@@ -8,8 +10,7 @@ use Rattle.stream.specs.Stream.{Parsed, bad_settings, read_stream}
 use Rattle.stream.specs.declared.Settings.{Settings}
 use Rattle.stream.specs.declared.Settings.TheVariants.{Fluvial, Thermal}
 use Rattle.stream.specs.declared.Header.{Header}
-use Rattle.stream_output.specs.Output.{output_of, end_record, left_of, written_by}
-use Rattle.answers.specs.declared.Written.{Written}
+use Rattle.stream_output.specs.Output.{output_of, end_record, left_of}
 
 -- the whole run of document 01 by the settings of a stream
 abbrev pub run_of : Settings → ℕ → ℕ → ℕ → List Float → Ran
@@ -43,8 +44,8 @@ relief_of s = output_from (read_stream true s)
 abbrev pub relief_written : List ℕ → ℕ → Outcome ℕ
 relief_written s room = cond (ltb room (length (relief_of s))) (refused 3) (gives (length (relief_of s)))
 
-pub record Relief (s old : List ℕ) (answer : Written) (new : List ℕ) : Type 0 where
-  pub answers : written_by answer ≡ relief_written s (length old)
+pub record Relief (s old : List ℕ) (answer : Result ℕ Refusal) (new : List ℕ) : Type 0 where
+  pub answers : answer_of answer ≡ relief_written s (length old)
   pub leaves : new ≡ left_of (relief_written s (length old)) old (relief_of s)
 
 -- No accepted stream has more than 24,612 bytes, so the first 24,613 bytes of a longer input decide its output: it gets

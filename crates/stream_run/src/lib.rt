@@ -12,49 +12,30 @@ ghost use Rattle.stream.specs.Stream.{parsed_of, bad_settings, read_stream};
 ghost use Rattle.stream_output.specs.Output.{Wrote};
 ghost use Rattle.stream_run.specs.StreamRun.{asked_run, AcceptedStream, Relief};
 
-use answers::{Refusal, RunAnswer, Written};
+use answers::{Refusal, RunAnswer};
 use fluvial_run::gen_fluvial_erosion;
 use grid::Sides;
 use run_parts::refused;
 use run_settings::{FluvialSettings, ThermalSettings};
-use stream::{CELLS_MAX, Header, Read, Settings, read_stream};
+use stream::{CELLS_MAX, Header, Settings, read_stream};
 use stream_output::write_output;
-use stream_rows::load;
+use stream_rows::Rows;
 use thermal_run::gen_thermal_erosion;
 
-// Slices for the 4,096 cells that the program takes: the map, and scratch.
-fn heights() -> [f32; CELLS_MAX]
-    ensures { 4096 ≡ length result }
-{
-    [0.0; CELLS_MAX]
-}
-
-fn cells() -> [u32; CELLS_MAX]
-    ensures { 4096 ≡ length result }
-{
-    [0; CELLS_MAX]
-}
-
-fn statuses() -> [u8; CELLS_MAX]
-    ensures { 4096 ≡ length result }
-{
-    [0; CELLS_MAX]
-}
-
-// A fluvial run that is not refused, of at most 4,096 cells.
+// A fluvial run that is not refused, of at most 4,096 cells, on scratch for as many.
 fn run_fluvial(size: Sides, map: &mut [f32], conf: FluvialSettings, stop: u32) -> RunAnswer
     requires { AcceptedRun size.w size.h (bad_fluvial conf) map.old 4096 }
     ensures { ended_with result map.new
         ≡ ran_to (run_by size.w size.h conf stop ours map.old) }
 {
-    let mut small = heights();
-    let mut eroded = heights();
-    let mut copy = heights();
-    let mut area = heights();
-    let mut order = cells();
-    let mut recv = cells();
-    let mut queue = cells();
-    let mut status = statuses();
+    let mut small = [0.0; CELLS_MAX];
+    let mut eroded = [0.0; CELLS_MAX];
+    let mut copy = [0.0; CELLS_MAX];
+    let mut area = [0.0; CELLS_MAX];
+    let mut order = [0; CELLS_MAX];
+    let mut recv = [0; CELLS_MAX];
+    let mut queue = [0; CELLS_MAX];
+    let mut status = [0; CELLS_MAX];
     gen_fluvial_erosion(
         size,
         map,
@@ -71,15 +52,15 @@ fn run_fluvial(size: Sides, map: &mut [f32], conf: FluvialSettings, stop: u32) -
     )
 }
 
-// A thermal run that is not refused, of at most 4,096 cells.
+// A thermal run that is not refused, of at most 4,096 cells, on scratch for as many.
 fn run_thermal(size: Sides, map: &mut [f32], conf: ThermalSettings, stop: u32) -> RunAnswer
     requires { AcceptedRun size.w size.h (bad_thermal conf) map.old 4096 }
     ensures { ended_with result map.new
         ≡ ran_to (thermal_run size.w size.h conf stop map.old) }
 {
-    let mut small = heights();
-    let mut eroded = heights();
-    let mut copy = heights();
+    let mut small = [0.0; CELLS_MAX];
+    let mut eroded = [0.0; CELLS_MAX];
+    let mut copy = [0.0; CELLS_MAX];
     gen_thermal_erosion(size, map, conf, stop, &mut small, &mut eroded, &mut copy)
 }
 
@@ -107,36 +88,41 @@ fn run_stream(bytes: &[u8], head: Header, map: &mut [f32]) -> RunAnswer
 {
     let size = head.size;
     let rows = head.rows;
-    load(bytes, rows, size, map);
+    Rows {
+        bytes,
+        at: rows,
+        size,
+    }
+    .load(map);
     run_asked(head, map)
 }
 
 // Writes the output of an accepted stream, run on a map of its own.
-fn write_run(bytes: &[u8], head: Header, out: &mut [u8]) -> Written
+fn write_run(bytes: &[u8], head: Header, out: &mut [u8]) -> Result<usize, Refusal>
     requires { gives (parsed_of bytes.now head) ≡ read_stream true bytes.now }
     ensures { Relief bytes.now out.old result out.new }
 {
     let size = head.size;
     let n = size.w * size.h;
-    let mut map = heights();
+    let mut map = [0.0; CELLS_MAX];
     let run = run_stream(bytes, head, &mut map[..n]);
     write_output(size, &map[..n], run, out)
 }
 
 // Writes the output of a refused stream: the end record alone.
-fn write_refusal(why: Refusal, out: &mut [u8]) -> Written
+fn write_refusal(why: Refusal, out: &mut [u8]) -> Result<usize, Refusal>
     ensures { Wrote 0 0 [] (refused_to why) out.old result out.new }
 {
     write_output(Sides { w: 0, h: 0 }, &[], refused(why), out)
 }
 
 // Input bytes to output bytes: what the program `relief` does.
-pub fn relief(bytes: &[u8], out: &mut [u8]) -> Written
+pub fn relief(bytes: &[u8], out: &mut [u8]) -> Result<usize, Refusal>
     ensures { Relief bytes.now out.old result out.new }
 {
     let read = read_stream(true, bytes);
     match read {
-        Read::Accepted(head) => write_run(bytes, head, out),
-        Read::Refused(why) => write_refusal(why, out),
+        Ok(head) => write_run(bytes, head, out),
+        Err(why) => write_refusal(why, out),
     }
 }

@@ -4,4 +4,3 @@ pub mod StepLaws
 pub mod CellLaws
 pub mod RowLaws
 pub mod TalusLaws
-pub mod EightLaws

@@ -14,6 +14,9 @@ use Rattle.talus_directions.specs.Parts.{InnerRow, gained_by, changed, gain_of}
 pub inner_column : {w h cells y x n : ℕ} → InnerRow w h cells y x n → (i : ℕ) → i < n → Inner w h (x + i + y * w)
 inner_column {w} {h} {cells} {y} {x} r i l = let e : x + y * w + i ≡ x + i + y * w = omega arith in subst (Inner w h) e (r.inner.inner i l)
 
+pub inner_is : {w h cells y x n i c : ℕ} → InnerRow w h cells y x n → i < n → c ≡ x + i + y * w → Inner w h c
+inner_is {i = i} r l e = rw e (inner_column r i l)
+
 -- one gain, as the code works it out
 pub gain_more : (w h : ℕ) (ts hs : List Float) (y x : ℕ) (totals moved : List Float) (d i : ℕ) (s : List Float) {m : ℕ} {e v : Float}
     → m ≡ neighbour_at w h (x + i + y * w) d

@@ -3,17 +3,34 @@
 #![tactic(auto)]
 
 ghost use Rattle.std.specs.Prelude.{◌≡◌, ◌<◌, ◌≤◌, length};
-ghost use Rattle.talus.specs.Places.{InRow};
 ghost use Rattle.talus_directions.specs.Parts.{InnerRow, lost_from, gained_by, losses, gains_toward, slide_all};
 
-use grid::{DIRX, DIRY, Sides};
+use grid::{DIRX, DIRY};
 use grid_inner::beside;
-use talus::excess;
+use talus::{Slide, Stretch, excess};
 
 // The cells of a block: their totals and losses, 512 bytes, stay in the nearest cache while all directions are done.
 pub const TALUS_BLOCK: usize = 64;
 
-// Returns the height `old` less `moved` if its cell sheds, else `old`.
+// At most 64 inner cells of a row.
+#[derive(Clone, Copy)]
+pub struct Block<'a> {
+    pub cells: Stretch<'a>,
+    ghost inner: { InnerRow cells.map.size.w cells.map.size.h (length cells.map.heights.now) cells.y cells.x cells.n },
+    ghost few: { cells.n ≤ 64 },
+}
+
+// What the cells of a block shed, the first from the front: the totals of their excesses, and their losses. Two arrays,
+// not one of pairs: the count of the cells that shed reads the totals alone, and `losses` and `slide_all` take two
+// lists. Lent, not held: two arrays in one value are zeroed by a call of the C library, with which a pass takes a sixth
+// more time than with two that lie apart.
+#[derive(Clone, Copy)]
+pub struct BlockSheds<'a> {
+    pub totals: &'a [f32; TALUS_BLOCK],
+    pub moved: &'a [f32; TALUS_BLOCK],
+}
+
+// Returns the height `old` less `moved` if its cell sheds, else `old`. A select, not a branch.
 fn lost(total: f32, moved: f32, old: f32) -> f32
     ensures { result ≡ lost_from total moved old }
 {
@@ -33,93 +50,57 @@ fn gained(e: f32, total: f32, moved: f32, old: f32) -> f32
     if e > 0.0 { new } else { old }
 }
 
-// Takes the losses of n inner cells of row y, from column x on, off their heights in `out`.
-fn lose_block(
-    size: Sides,
-    out: &mut [f32],
-    y: usize,
-    x: usize,
-    n: usize,
-    totals: &[f32; TALUS_BLOCK],
-    moved: &[f32; TALUS_BLOCK],
-)
-    requires in_row { InRow size.w size.h (length out.old) y x n }
-    requires n_bound { n ≤ 64 }
-    ensures { out.new
-        ≡ losses size.w y x totals.now moved.now n out.old }
+// Takes the losses of the cells of a block off their heights in `out`.
+fn lose_block(out: &mut [f32], block: Block, sheds: BlockSheds)
+    requires { length out.old ≡ length block.cells.map.heights.now }
+    ensures { let b = block.entry.cells in
+        out.new ≡ losses b.map.size.w b.y b.x sheds.entry.totals.now sheds.entry.moved.now b.n out.old }
 {
-    let w = size.w;
-    let mut i: usize = 0;
-    while i < n {
-        let c = x + i + y * w;
-        out[c] = lost(totals[i], moved[i], out[c]);
-        i += 1;
+    let cells = block.cells;
+    for i in 0..cells.n {
+        let c = cells.cell(i).c;
+        out[c] = lost(sheds.totals[i], sheds.moved[i], out[c]);
     }
 }
 
-// Adds the gains of the neighbours in direction d of n inner cells of row y, from column x on, to their heights in
-// `out`.
-fn gain_block(
-    size: Sides,
-    ts: &[f32; 9],
-    hmap: &[f32],
-    out: &mut [f32],
-    y: usize,
-    x: usize,
-    n: usize,
-    d: usize,
-    totals: &[f32; TALUS_BLOCK],
-    moved: &[f32; TALUS_BLOCK],
-)
-    requires inner_row { InnerRow size.w size.h (length hmap.now) y x n }
-    requires out_len { length out.old ≡ length hmap.now }
-    requires n_bound { n ≤ 64 }
+// Adds the gains of the neighbours in direction d of the cells of a block to their heights in `out`.
+fn gain_block(slide: &Slide, out: &mut [f32], block: Block, d: usize, sheds: BlockSheds)
+    requires out_len { length out.old ≡ length block.cells.map.heights.now }
     requires le_d { 1 ≤ d }
     requires d_bound { d < 9 }
-    ensures { out.new ≡ gains_toward size.w size.h ts.now hmap.now y x
-        totals.now moved.now d n out.old }
+    ensures { let b = block.entry.cells in
+        out.new ≡ gains_toward b.map.size.w b.map.size.h slide.now.thresholds b.map.heights.now b.y b.x
+        sheds.entry.totals.now sheds.entry.moved.now d b.n out.old }
 {
-    let w = size.w;
-    let t = ts[d];
+    let cells = block.cells;
+    let hmap = cells.map.heights;
+    let t = slide.thresholds[d];
     let dx = DIRX[d];
     let dy = DIRY[d];
-    let mut i: usize = 0;
-    while i < n {
-        let c = x + i + y * w;
-        let m = beside(size, c, dx, dy);
+    for i in 0..cells.n {
+        let c = cells.cell(i).c;
+        let m = beside(cells.map.size, c, dx, dy);
         let e = excess(hmap, c, m, t);
-        out[m] = gained(e, totals[i], moved[i], out[m]);
-        i += 1;
+        out[m] = gained(e, sheds.totals[i], sheds.moved[i], out[m]);
     }
 }
 
-// Slides n inner cells of row y from column x on, direction by direction. A height of the row above gets the gain from
-// the cell south-west of it first, then from the south and the south-east, in the order of the cells. The same holds in
-// the cells' own row, with the loss between, and in the row below.
-pub fn slide_directions(
-    size: Sides,
-    ts: &[f32; 9],
-    hmap: &[f32],
-    out: &mut [f32],
-    y: usize,
-    x: usize,
-    n: usize,
-    totals: &[f32; TALUS_BLOCK],
-    moved: &[f32; TALUS_BLOCK],
-)
-    requires inner_row { InnerRow size.w size.h (length hmap.now) y x n }
-    requires out_len { length out.old ≡ length hmap.now }
-    requires n_bound { n ≤ 64 }
-    ensures { out.new ≡ slide_all size.w size.h ts.now hmap.now y x
-        totals.now moved.now n out.old }
+// Slides the cells of a block, direction by direction. A height of the row above gets the gain from the cell south-west
+// of it first, then from the south and the south-east, in the order of the cells. The same holds in the cells' own row,
+// with the loss between, and in the row below. No loop over the nine: the loss is a step of another kind among them.
+pub fn slide_directions(slide: &Slide, out: &mut [f32], block: Block, sheds: BlockSheds)
+    requires { length out.old ≡ length block.cells.map.heights.now }
+    ensures { let b = block.entry.cells in
+        out.new ≡ slide_all b.map.size.w b.map.size.h slide.now.thresholds b.map.heights.now b.y b.x
+        sheds.entry.totals.now sheds.entry.moved.now b.n out.old }
 {
-    gain_block(size, ts, hmap, out, y, x, n, 3, totals, moved);
-    gain_block(size, ts, hmap, out, y, x, n, 2, totals, moved);
-    gain_block(size, ts, hmap, out, y, x, n, 1, totals, moved);
-    gain_block(size, ts, hmap, out, y, x, n, 5, totals, moved);
-    lose_block(size, out, y, x, n, totals, moved);
-    gain_block(size, ts, hmap, out, y, x, n, 4, totals, moved);
-    gain_block(size, ts, hmap, out, y, x, n, 8, totals, moved);
-    gain_block(size, ts, hmap, out, y, x, n, 7, totals, moved);
-    gain_block(size, ts, hmap, out, y, x, n, 6, totals, moved);
+    gain_block(slide, out, block, 3, sheds);
+    gain_block(slide, out, block, 2, sheds);
+    gain_block(slide, out, block, 1, sheds);
+    gain_block(slide, out, block, 5, sheds);
+    lose_block(out, block, sheds);
+    gain_block(slide, out, block, 4, sheds);
+    gain_block(slide, out, block, 8, sheds);
+    gain_block(slide, out, block, 7, sheds);
+    gain_block(slide, out, block, 6, sheds);
 }

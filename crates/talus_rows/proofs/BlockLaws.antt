@@ -7,11 +7,13 @@ use native.Mathlib.Numerals.{add-one}
 use native.Mathlib.Omega.{arith}
 use native.Mathlib.Decide.{ℕ_discrete}
 use lib.ListN.{get_or, set}
-use lib.Ieee.{Float, nan, binary32, of_bits, sub, lt, le}
+use lib.Ieee.{Float, nan, binary32, of_bits, sub, mul, lt, le}
 use Rattle.loops.proofs.TestLaws.{clash, either}
 use Rattle.loops.proofs.TurnLaws.{turns_keep}
 use Rattle.loops.proofs.LoopLaws.{at_end}
 use Rattle.loops.proofs.TableLaws.{filled_read}
+use Rattle.grid.specs.declared.map.Map.{Map}
+use Rattle.talus.specs.declared.Shed.{Shed}
 use Rattle.talus.specs.Talus.{shed_of, gains_of, slide_cell, slide_cells}
 use Rattle.talus.proofs.CellLaws.{slide_under, slide_still, slide_moved}
 use Rattle.talus_rows.specs.Blocks.{shed_total, moved_from, RowCells, ShedArrays, Sheds, ShedsPut, shedders}
@@ -23,6 +25,14 @@ sheds_put {w} {h} {ts} {hs} {strength} {water} {cells} {before} p = record {
   total = λ i l. filled_read (λ i. shed_total w h ts hs water (cells.x + i + cells.y * w)) cells.n before.totals p.total i nan l;
   loss = λ i l. filled_read (λ i. moved_from w h ts hs strength (cells.x + i + cells.y * w)) cells.n before.moved p.loss i nan l;
 }
+
+-- the total and the loss of a cell, as the code finds them by its own sides and number
+module _ {z a : Map} {c k : ℕ} (ts : List Float) {s : Shed} (e : z ≡ a) (f : c ≡ k) (g : s ≡ shed_of z.size.w z.size.h ts z.heights.now c) where
+  pub total_found : (water : Float) {t : Float} → t ≡ cond (lt (get_or z.heights.now c nan) water) (of_bits binary32 0) s.total → t ≡ shed_total a.size.w a.size.h ts a.heights.now water k
+  total_found water t = t ∙ rw (g, e, f)
+
+  pub loss_found : (strength : Float) → mul binary32 strength s.greatest ≡ moved_from a.size.w a.size.h ts a.heights.now strength k
+  loss_found strength = rw (g, e, f)
 
 zero_still : le (of_bits binary32 0) (of_bits binary32 0) ≡ true
 unfolding le of_bits

@@ -1,12 +1,11 @@
 -- A row as runs of cells.
-use Prim.Native.Nat.{ℕ, zero, suc, ◌+◌, ◌-◌, ◌*◌, ◌≤◌}
-use mathlib.Core.Path.{◌≡◌, refl, sym, ap, ap₂, ◌∙◌}
+use Prim.Native.Nat.{ℕ, zero, suc, ◌+◌, ◌-◌, ◌*◌, ◌≤◌, ◌<◌, min}
+use mathlib.Core.Path.{◌≡◌, sym, ap, ap₂, ◌∙◌}
 use mathlib.Core.List.{List}
 use native.Mathlib.Omega.{arith}
 use lib.Ieee.{Float}
 use Rattle.loops.specs.Loops.{turns}
 use Rattle.loops.proofs.TurnLaws.{turns_same}
-use Rattle.loops.proofs.LoopLaws.{at_end}
 use Rattle.talus.specs.Talus.{slide_cell, slide_cells, slide_row}
 
 -- the whole row is the run of its w cells
@@ -17,9 +16,9 @@ row_cells w h ts hs strength water y out =
     turns_same _ _ out w (λ i t l. let e : 0 + i + y * w ≡ i + y * w = omega arith in ap (λ (c : ℕ). slide_cell w h ts hs strength water c t) e)
 
 module _ (w h : ℕ) (ts hs : List Float) (strength water : Float) (y : ℕ) (out : List Float) where
-  pub cells_none : (x : ℕ) → out ≡ slide_cells w h ts hs strength water y x 0 out
+  pub cells_none : (x n : ℕ) → out ≡ slide_cells w h ts hs strength water y x (min 0 n) out
   unfolding slide_cells turns
-  cells_none x = refl
+  cells_none x n = let e : min 0 n ≡ 0 = omega arith in rw e
 
   -- two runs of cells, the second from where the first ends
   cells_join : (x a b : ℕ) → slide_cells w h ts hs strength water y (x + a) b (slide_cells w h ts hs strength water y x a out) ≡ slide_cells w h ts hs strength water y x (a + b) out
@@ -30,16 +29,23 @@ module _ (w h : ℕ) (ts hs : List Float) (strength water : Float) (y : ℕ) (ou
       let f : x + a + b + y * w ≡ x + (a + b) + y * w = omega arith in
       ap₂ (slide_cell w h ts hs strength water) f (cells_join x a b) ∙ ap (λ (n : ℕ). slide_cells w h ts hs strength water y x n out) e
 
-  -- all of them
-  pub cells_end : (x i n : ℕ) (s : List Float) → s ≡ slide_cells w h ts hs strength water y x i out → i ≤ n → n ≤ i → s ≡ slide_cells w h ts hs strength water y x n out
-  cells_end x i n s e a b = at_end (λ (k : ℕ). slide_cells w h ts hs strength water y x k out) e a b
-
-  -- one block more
-  pub cells_block : (x i b : ℕ) (s r : List Float)
-      → s ≡ slide_cells w h ts hs strength water y x i out
+  -- one block more of at most 64 cells, and all of them
+  pub cells_block : (x i n b : ℕ) (s r : List Float)
+      → s ≡ slide_cells w h ts hs strength water y x (min i n) out
+      → i < n
+      → b ≡ min 64 (n - i)
       → r ≡ slide_cells w h ts hs strength water y (x + i) b s
-      → r ≡ slide_cells w h ts hs strength water y x (i + b) out
-  cells_block x i b s r e f = f ∙ ap (slide_cells w h ts hs strength water y (x + i) b) e ∙ cells_join x i b
+      → r ≡ slide_cells w h ts hs strength water y x (min (i + 64) n) out
+  cells_block x i n b s r e l k f =
+      let done : min i n ≡ i = omega arith in
+      let more : i + b ≡ min (i + 64) n = omega arith in
+      f
+      ∙ ap (slide_cells w h ts hs strength water y (x + i) b) (e ∙ ap (λ (m : ℕ). slide_cells w h ts hs strength water y x m out) done)
+      ∙ cells_join x i b
+      ∙ ap (λ (m : ℕ). slide_cells w h ts hs strength water y x m out) more
+
+  pub cells_end : (x i n : ℕ) (s : List Float) → s ≡ slide_cells w h ts hs strength water y x (min i n) out → n ≤ i → s ≡ slide_cells w h ts hs strength water y x n out
+  cells_end x i n s e l = let all : min i n ≡ n = omega arith in e ∙ ap (λ (m : ℕ). slide_cells w h ts hs strength water y x m out) all
 
   -- the first cell, the n after it, and the rest
   pub row_parts : (n : ℕ) (first middle last : List Float)

@@ -6,7 +6,6 @@ use mathlib.Core.List.{List}
 use native.Mathlib.Omega.{arith}
 use lib.ListN.{get_or, set}
 use lib.Seq.{set-get_or}
-use borrow.Author.Tests.{lt-ltb}
 use lib.Ieee.{Float, nan, binary32, of_bits, sub, le}
 use Rattle.loops.specs.Loops.{turns}
 use Rattle.loops.proofs.TurnLaws.{turns_same, turns_kept}
@@ -14,7 +13,7 @@ use Rattle.grid.specs.Directions.{neighbour_at}
 use Rattle.grid_inner.proofs.InnerLaws.{inner_cell}
 use Rattle.talus.specs.Talus.{gain_step, gains_of, slide_cell, slide_cells}
 use Rattle.talus.proofs.CountedLaws.{gain_counted}
-use Rattle.talus.proofs.StepLaws.{gain_step_lem}
+use Rattle.talus.proofs.StepLaws.{gain_step_in}
 use Rattle.talus_directions.specs.Parts.{InnerRow, loss_of, gain_of, slide_by, slide_all}
 use Rattle.talus_directions.proofs.PassLaws.{inner_column}
 use Rattle.talus_rows.specs.Blocks.{Sheds}
@@ -34,9 +33,8 @@ module _ (w h : ℕ) (ts hs : List Float) (y x : ℕ) (totals moved : List Float
     sheds : (d : ℕ) (t : List Float) → 1 ≤ d → d ≤ 8 → le (get_or totals i nan) (of_bits binary32 0) ≡ false
         → gain_of w h ts hs y x totals moved d i t ≡ gain_step w h ts hs (x + i + y * w) (get_or moved i nan) (get_or totals i nan) d t
     sheds d t lo hi e =
-        gain_step_lem w h (w * h) ts hs (x + i + y * w) d (neighbour_at w h (x + i + y * w) d) refl refl (get_or moved i nan) (get_or totals i nan) t _
-        (rw (lt-ltb (neighbour_at w h (x + i + y * w) d) (w * h) (inner_cell w h (x + i + y * w) d lo hi (inner_column r i l)))
-        (gain_counted ts hs (x + i + y * w) (neighbour_at w h (x + i + y * w) d) d (get_or moved i nan) (get_or totals i nan) t refl (rw e refl)))
+        gain_step_in w h ts hs (x + i + y * w) d (neighbour_at w h (x + i + y * w) d) refl (inner_cell w h (x + i + y * w) d lo hi (inner_column r i l)) (get_or moved i nan) (get_or totals i nan) t _
+        (gain_counted ts hs (x + i + y * w) (neighbour_at w h (x + i + y * w) d) d (get_or moved i nan) (get_or totals i nan) t refl (rw e refl))
 
     loses : (t : List Float) → le (get_or totals i nan) (of_bits binary32 0) ≡ false
         → loss_of w y x totals moved i t ≡ set t (x + i + y * w) (sub binary32 (get_or t (x + i + y * w) nan) (get_or moved i nan))

@@ -1,6 +1,5 @@
 -- Laws of a talus pass and of its thresholds.
 pub mod PassLaws
 pub mod SlideLaws
-pub mod OverLaws
 pub mod ThresholdLaws
 pub mod SamePassLaws

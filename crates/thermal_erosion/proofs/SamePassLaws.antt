@@ -3,9 +3,10 @@ use mathlib.Core.Path.{◌≡◌, sym, ap, ◌∙◌, subst}
 use mathlib.Core.Bool.{Bool, false, ◌||◌}
 use lib.Ieee.{of_bits, le, lt, eq}
 use Rattle.grid_spacing.specs.Distances.{square_distances}
-use Rattle.thermal_erosion.specs.SlidePass.{PassMarks, bad_pass, pass_of}
+use Rattle.thermal_erosion.specs.SlidePass.{bad_pass, pass_of}
 use Rattle.thermal_erosion.specs.OverPass.{prepared, bad_rest, bad_threshold, bad_thresholds, bad_over, PassMade}
 use Rattle.thermal_erosion.specs.SamePass.{PreparedInRange, SamePass}
+use Rattle.thermal_erosion.specs.declared.PassMarks.{PassMarks}
 use Rattle.thermal_erosion.specs.declared.ThermalParams.{ThermalParams}
 use Rattle.thermal_erosion.proofs.ThresholdLaws.{itself_in, product_in}
 

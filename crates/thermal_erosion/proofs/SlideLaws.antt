@@ -1,108 +1,99 @@
--- The ends of `slide_pass`, each with its answer, its record and the slice after it.
+-- The ends of a pass, each with its answer, its record and the slice after it.
 use Prim.Native.Nat.{ℕ, ◌*◌, ◌^◌, ◌≤◌}
 use mathlib.Core.Path.{◌≡◌, refl, sym, ap, ◌∙◌, subst}
-use mathlib.Core.Bool.{Bool, true, false, not}
+use mathlib.Core.Bool.{Bool, true, false, not, ◌||◌}
 use mathlib.Core.List.{List}
 use native.Mathlib.Omega.{arith}
-use borrow.Author.Tests.{eq-eqb, ne_eqb, ltb-false}
+use borrow.Author.Tests.{eqb-true, ltb-false, not-false}
 use lib.Dec.{eqb}
 use lib.ListN.{length}
 use lib.Ieee.{Float, binary32, of_bits, neg}
 use lib.Ieee.Scale.{finite}
-use Rattle.loops.proofs.TestLaws.{fourth}
-use Rattle.answers.specs.Outcome.{refused_at, outside_of}
-use Rattle.answers.specs.declared.Answer.{Answer}
+use Rattle.std.specs.declared.result.Result.TheVariants.{Err}
+use Rattle.loops.proofs.TestLaws.{neither, fourth, through}
+use Rattle.answers.specs.Outcome.{Outcome, Answer, gives, refused, refused_at, answer_of, outside_of}
 use Rattle.answers.specs.declared.Refusal.{Refusal}
+use Rattle.answers.proofs.OutcomeLaws.{refused_given, not_refused, by_outcome, refused_whole, refused_kept, accepted_then}
 use Rattle.grid.specs.Sides.{bad_sides}
-use Rattle.grid.specs.Heights.{first_not_finite, all_finite}
 use Rattle.grid.proofs.SidesLaws.{good_sides}
+use Rattle.generators.specs.Marks.{bad_report}
 use Rattle.generators.specs.declared.Progress.{Progress}
-use Rattle.grid.proofs.HeightsLaws.{all_finite_lem, not_all_finite}
-use Rattle.thermal_erosion.specs.SlidePass.{Pass, pass_of, RowsReady, bad_marks, bad_pass, Passed, PassMarks, SlideMade}
+use Rattle.thermal_erosion.specs.SlidePass.{Pass, RowsReady, bad_pass, pass_answer, Passed}
+use Rattle.thermal_erosion.specs.OverPass.{bad_rest, bad_thresholds, bad_over, pass_refusal, PassMade}
 use Rattle.thermal_erosion.specs.declared.ThermalParams.{ThermalParams}
 use Rattle.thermal_erosion.specs.declared.Slid.{Slid}
 
-abbrev pub refusing : Refusal → Progress → Slid
-refusing r m = record { answer = Answer.Refused r; progress = m }
-
-asked_most : (p : ThermalParams) (from to : Float) (m : Progress) → bad_pass p from to m ≡ false → m.asked ≤ 2 ^ 31
-asked_most p from to m e =
+-- where 4 does not apply, at most 2^31 questions were asked
+rest_asked : (strength water from to : Float) (m : Progress) → bad_rest strength water from to m ≡ false → m.asked ≤ 2 ^ 31
+rest_asked strength water from to m e =
     let zero : Float = of_bits binary32 0 in
     let one : Float = of_bits binary32 0x3f80_0000 in
-    let marks : bad_marks from to m ≡ false = fourth (outside_of p.threshold zero (of_bits binary32 0x4180_0000)) (outside_of p.strength zero one) (not (finite p.water_level)) _ e in
-    ltb-false _ _ (fourth (outside_of from zero one) (outside_of to zero one) (outside_of m.last (neg one) one) _ marks)
+    let report : bad_report m to ≡ false = fourth (outside_of strength zero one) (not (finite water)) (outside_of from zero one) _ e in
+    ltb-false _ _ (neither (outside_of m.last (neg one) one) _ (neither (outside_of to zero one) _ report).1).1
 
--- an accepted input is one that a pass takes
-pub slide_ready : (w h map copy : ℕ) (p : ThermalParams) (from to : Float) (m : Progress)
-    → bad_sides w h ≡ false
-    → map ≡ w * h
-    → copy ≡ w * h
-    → bad_pass p from to m ≡ false
-    → RowsReady w h map copy m.asked
-slide_ready w h map copy p from to m sides a b set =
-    let r = good_sides w h sides in
-    record { some = r.columns; wide = r.wide; high = r.high; heights = a; copied = b ∙ sym a; questions = omega (arith, asked_most p from to m set) }
+pub pass_asked : {bad : Bool} (p : ThermalParams) (from to : Float) (m : Progress) → bad ≡ bad_pass p from to m → bad ≡ false → m.asked ≤ 2 ^ 31
+pass_asked p from to m e f =
+    rest_asked p.strength p.water_level from to m (neither (outside_of p.threshold (of_bits binary32 0) (of_bits binary32 0x4180_0000)) _ (sym e ∙ f)).1
 
--- the ends of a pass: stopped, complete, run off
-module _ (s : Pass) (new : List Float) (m : Progress) (e : ◌≡◌ {A = Pass} (record { out = new; marks = m }) s) where
-  pub passed_stopped : m.stopped ≡ true → Passed s (refusing Refusal.Stopped m) new
-  passed_stopped t = subst (λ (s : Pass). Passed s (refusing Refusal.Stopped m) new) e (record { answer = rw t; handed = refl; heights = refl })
+pub over_asked : {bad : Bool} (eight : List Float) (strength water from to : Float) (m : Progress) → bad ≡ bad_over eight strength water from to m → bad ≡ false → m.asked ≤ 2 ^ 31
+over_asked eight strength water from to m e f = rest_asked strength water from to m (neither (bad_thresholds eight) _ (sym e ∙ f)).1
 
-  module _ (on : m.stopped ≡ false) (all : Bool) (a : all ≡ all_finite new) where
-    pub passed_done : all ≡ true → Passed s (record { answer = Answer.Done; progress = m }) new
-    passed_done t =
-        let f : all_finite new ≡ true = sym a ∙ t in
-        subst (λ (s : Pass). Passed s (record { answer = Answer.Done; progress = m }) new) e (record { answer = rw (on, f); handed = refl; heights = refl })
+module _ (w h : ℕ) (hs : List Float) (copy : ℕ) (bad : Bool) where
+  abbrev tests : (A : Type 0) → (ℕ → A) → (ℕ → ℕ → A) → A → A
+  tests A number at then = pass_refusal w h hs copy bad number at then
 
-    pub passed_off : all ≡ false → Passed s (refusing Refusal.RunOff m) new
-    passed_off t =
-        let f : all_finite new ≡ false = sym a ∙ t in
-        subst (λ (s : Pass). Passed s (refusing Refusal.RunOff m) new) e (record { answer = rw (on, f); handed = refl; heights = refl })
+  alike : (A : Type 0) (number : ℕ → A) (at : ℕ → ℕ → A) (then : A) → by_outcome number at then (pass_refusal w h hs copy bad refused refused_at (gives tt)) ≡ tests A number at then
+  alike A number at then = simp (through (by_outcome number at then))
 
-module _ (w h : ℕ) (hs old : List Float) (p : ThermalParams) (from to : Float) (m : Progress) (stop : ℕ) where
-  abbrev by : PassMarks
-  by = record { from = from; to = to; marks = m; stop = stop }
+  -- an accepted input is one that a pass takes
+  pub pass_ready : (m : Progress) → ◌≡◌ {A = Outcome (Unit {0})} (gives tt) (pass_refusal w h hs copy bad refused refused_at (gives tt)) → (bad ≡ false → m.asked ≤ 2 ^ 31) → RowsReady w h (length hs) copy m.asked
+  pass_ready m e few =
+      let a = not_refused (bad_sides w h) (refused 1) _ tt refl (sym e) in
+      let b = not_refused (not (eqb (length hs) (w * h)) || not (eqb copy (w * h))) (refused 3) _ tt refl a.1 in
+      let c = not_refused bad (refused 4) _ tt refl b.1 in
+      let l = neither (not (eqb (length hs) (w * h))) (not (eqb copy (w * h))) b.0 in
+      let r = good_sides w h a.0 in
+      let map : length hs ≡ w * h = eqb-true _ _ (not-false _ l.0) in
+      let same : copy ≡ w * h = eqb-true _ _ (not-false _ l.1) in
+      let asked : m.asked ≤ 2 ^ 31 = few c.0 in
+      record { some = r.columns; wide = r.wide; high = r.high; heights = map; copied = same ∙ sym map; questions = omega (arith, asked) }
 
-  pub slide_side : bad_sides w h ≡ true → SlideMade w h hs p by old (refusing Refusal.Side m) old
-  slide_side b = record { answer = rw b; handed = rw b; heights = rw b }
+module _ (w h : ℕ) (hs old : List Float) (bad : Bool) (m : Progress) (s : Pass) where
+  -- a refusal hands back the record as given and leaves the slice as it was
+  pub made_refused : (why : Refusal) → answer_of {A = Unit {0}} (Err why) ≡ pass_refusal w h hs (length old) bad refused refused_at (gives tt)
+      → PassMade w h hs bad m old s (record { answer = Err why; progress = m }) old
+  made_refused why e =
+      let none = refused_given {a = Err why} {r = why} refl in
+      let t = tests w h hs (length old) bad in
+      let a = alike w h hs (length old) bad in
+      record {
+        answer = refused_whole t a (answer_of {A = Unit {0}} (Err why)) e none _;
+        handed = refused_kept t a (answer_of {A = Unit {0}} (Err why)) e none m _;
+        heights = refused_kept t a (answer_of {A = Unit {0}} (Err why)) e none old _;
+      }
 
-  module _ (sides : bad_sides w h ≡ false) where
-    pub slide_map : (length hs ≡ w * h → ⊥) → SlideMade w h hs p by old (refusing Refusal.Length m) old
-    slide_map b =
-        let e : eqb (length hs) (w * h) ≡ false = ne_eqb _ _ b in
-        record { answer = rw (sides, e); handed = rw (sides, e); heights = rw (sides, e) }
+  -- an accepted input gets what the pass gives
+  pub made_passed : ◌≡◌ {A = Outcome (Unit {0})} (gives tt) (pass_refusal w h hs (length old) bad refused refused_at (gives tt)) → {r : Slid} {new : List Float} → Passed s r new
+      → PassMade w h hs bad m old s r new
+  made_passed e p =
+      let t = tests w h hs (length old) bad in
+      let a = alike w h hs (length old) bad in
+      record {
+        answer = p.answer ∙ accepted_then t a e refused refused_at _;
+        handed = p.handed ∙ accepted_then t a e (λ _. m) (λ _ _. m) _;
+        heights = p.heights ∙ accepted_then t a e (λ _. old) (λ _ _. old) _;
+      }
 
-    module _ (map : length hs ≡ w * h) where
-      lengths : eqb (length hs) (w * h) ≡ true
-      lengths = eq-eqb _ _ map
+-- a pass and the answer of what it left
+pub passed_by : {s : Pass} {a : Answer} (m : Progress) (new : List Float) → ◌≡◌ {A = Pass} (record { out = new; marks = m }) s → answer_of a ≡ pass_answer (record { out = new; marks = m })
+    → Passed s (record { answer = a; progress = m }) new
+passed_by {a = a} m new e f = subst (λ (s : Pass). Passed s (record { answer = a; progress = m }) new) e (record { answer = f; handed = refl; heights = refl })
 
-      pub slide_copy : (length old ≡ w * h → ⊥) → SlideMade w h hs p by old (refusing Refusal.Length m) old
-      slide_copy b =
-          let e : eqb (length old) (w * h) ≡ false = ne_eqb _ _ b in
-          record { answer = rw (sides, lengths, e); handed = rw (sides, lengths, e); heights = rw (sides, lengths, e) }
-
-      module _ (copy : length old ≡ w * h) where
-        copies : eqb (length old) (w * h) ≡ true
-        copies = eq-eqb _ _ copy
-
-        pub slide_setting : bad_pass p from to m ≡ true → SlideMade w h hs p by old (refusing Refusal.Setting m) old
-        slide_setting b = record { answer = rw (sides, lengths, copies, b); handed = rw (sides, lengths, copies, b); heights = rw (sides, lengths, copies, b) }
-
-        module _ (set : bad_pass p from to m ≡ false) (c : ℕ) (e : c ≡ first_not_finite hs) where
-          pub slide_height : (c ≡ length hs → ⊥) → SlideMade w h hs p by old (refusing (Refusal.Height c) m) old
-          slide_height b =
-              let f : all_finite hs ≡ false = not_all_finite hs c e b in
-              record {
-                answer = rw (sides, lengths, copies, set, f) (ap (refused_at 5) e);
-                handed = rw (sides, lengths, copies, set, f);
-                heights = rw (sides, lengths, copies, set, f);
-              }
-
-          pub slide_accepted : c ≡ length hs → (r : Slid) (new : List Float) → Passed (pass_of w h p hs from to stop m) r new → SlideMade w h hs p by old r new
-          slide_accepted b r new a =
-              let f : all_finite hs ≡ true = all_finite_lem hs c e b in
-              record {
-                answer = rw (sides, lengths, copies, set, f) a.answer;
-                handed = rw (sides, lengths, copies, set, f) a.handed;
-                heights = rw (sides, lengths, copies, set, f) a.heights;
-              }
+-- the promise of a pass over equal thresholds, where 4 applies alike
+pub made_alike : (w h : ℕ) (hs old : List Float) {bad other : Bool} {s t : Pass} (m : Progress) (r : Slid) (new : List Float)
+    → bad ≡ other
+    → s ≡ t
+    → PassMade w h hs bad m old s r new
+    → PassMade w h hs other m old t r new
+made_alike w h hs old {bad} {other} {s} {t} m r new b e a =
+    subst (λ (s : Pass). PassMade w h hs other m old s r new) e (subst (λ (b : Bool). PassMade w h hs b m old s r new) b a)

@@ -9,7 +9,8 @@ use Rattle.grid.specs.Heights.{first_not_finite, all_finite}
 use Rattle.generators.specs.declared.Progress.{Progress}
 use Rattle.grid_spacing.specs.Distances.{square_distances}
 use Rattle.talus.specs.Talus.{prepared_of, table_of}
-use Rattle.thermal_erosion.specs.SlidePass.{Pass, rows_of, bad_marks, pass_answer, PassMarks}
+use Rattle.thermal_erosion.specs.SlidePass.{Pass, rows_of, bad_marks, pass_answer}
+use Rattle.thermal_erosion.specs.declared.PassMarks.{PassMarks}
 use Rattle.thermal_erosion.specs.declared.ThermalParams.{ThermalParams}
 use Rattle.thermal_erosion.specs.declared.Slid.{Slid}
 

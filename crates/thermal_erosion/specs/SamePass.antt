@@ -3,8 +3,9 @@
 use Rattle.std.specs.Prelude.{ℕ, ◌<◌, ◌≡◌, true, false, List, length, get_or, Float}
 use Rattle.std.specs.Float.{nan, binary32}
 use Rattle.std.specs.Float.Ieee.{of_bits, le}
-use Rattle.thermal_erosion.specs.SlidePass.{PassMarks, SlideMade}
+use Rattle.thermal_erosion.specs.SlidePass.{SlideMade}
 use Rattle.thermal_erosion.specs.OverPass.{prepared, bad_threshold, bad_thresholds, SlideOver}
+use Rattle.thermal_erosion.specs.declared.PassMarks.{PassMarks}
 use Rattle.thermal_erosion.specs.declared.ThermalParams.{ThermalParams}
 use Rattle.thermal_erosion.specs.declared.Slid.{Slid}
 

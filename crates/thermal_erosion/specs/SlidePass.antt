@@ -13,6 +13,7 @@ use Rattle.generators.specs.declared.Progress.{Progress}
 use Rattle.grid_spacing.specs.Distances.{square_distances}
 use Rattle.talus.specs.Talus.{thresholds_of, slide_row}
 use Rattle.thermal_erosion.specs.declared.ThermalParams.{ThermalParams}
+use Rattle.thermal_erosion.specs.declared.PassMarks.{PassMarks}
 use Rattle.thermal_erosion.specs.declared.Slid.{Slid}
 
 -- the fraction after row y: from + (to - from) × y / h
@@ -80,13 +81,6 @@ pub record Passed (s : Pass) (r : Slid) (new : List Float) : Type 0 where
   pub answer : answer_of r.answer ≡ pass_answer s
   pub handed : r.progress ≡ s.marks
   pub heights : new ≡ s.out
-
--- what a pass reports by: p at its two ends, the record before it, and the stop number
-pub record PassMarks : Type 0 where
-  pub from : Float
-  pub to : Float
-  pub marks : Progress
-  pub stop : ℕ
 
 -- What `slide_pass` promises of its answer r, of the record that it hands back, and of its result slice, `old` before
 -- and `new` after it: on refusals 1 to 5 the record as given and the slice as it was, else those of the pass.

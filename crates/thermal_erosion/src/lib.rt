@@ -3,16 +3,17 @@
 #![tactic(auto)]
 
 ghost use Rattle.std.specs.Prelude.{◌≡◌, ◌≤◌, ◌^◌, length, false};
-ghost use Rattle.thermal_erosion.specs.SlidePass.{fraction_of, Pass, pass_of, rows_of, RowsReady, bad_marks, bad_pass};
-ghost use Rattle.thermal_erosion.specs.SlidePass.{Passed, SlideMade};
-ghost use Rattle.thermal_erosion.specs.OverPass.{pass_over, bad_rest, bad_thresholds, bad_over, PassMade, SlideOver};
+ghost use Rattle.answers.specs.Outcome.{answer_of, gives, refused, refused_at};
+ghost use Rattle.thermal_erosion.specs.SlidePass.{fraction_of, Pass, rows_of, RowsReady, bad_marks, bad_pass};
+ghost use Rattle.thermal_erosion.specs.SlidePass.{pass_answer, SlideMade};
+ghost use Rattle.thermal_erosion.specs.OverPass.{bad_rest, bad_thresholds, bad_over, pass_refusal, PassMade, SlideOver};
 
-use answers::{Answer, Refusal, outside};
+use answers::{Refusal, outside};
 use floats::is_finite;
 use generators::{Progress, bad_report};
-use grid::{Sides, all_finite, bad_sides, copy_heights, first_not_finite};
+use grid::{Map, Sides, all_finite, bad_sides, copy_heights, first_not_finite};
 use grid_spacing::square_distances;
-use talus::{table, thresholds};
+use talus::{Slide, table, thresholds};
 use talus_rows::slide_row;
 
 // The settings of a pass on its grid.
@@ -23,10 +24,19 @@ pub struct ThermalParams {
     pub water_level: f32,
 }
 
+// What a pass reports by: p at its two ends, the record before it, and the stop number.
+#[derive(Clone, Copy)]
+pub struct PassMarks {
+    pub from: f32,
+    pub to: f32,
+    pub marks: Progress,
+    pub stop: u32,
+}
+
 // What a pass returns: its answer and the record of the stop marks.
 #[derive(Clone, Copy)]
 pub struct Slid {
-    pub answer: Answer,
+    pub answer: Result<(), Refusal>,
     pub progress: Progress,
 }
 
@@ -58,94 +68,134 @@ pub fn slide_pass_into(
         (rows_of size.w size.h ts.now strength water hmap.now from to stop size.h m) }
 {
     copy_heights(hmap, out);
+    let slide = Slide {
+        thresholds: *ts,
+        strength,
+        water,
+    };
+    let map = Map {
+        size,
+        heights: hmap,
+    };
     let h = size.h;
     let mut marks = m;
-    let mut y: usize = 0;
-    while y < h {
+    for y in 0..h {
         if marks.stopped {
             return marks;
         }
-        slide_row(size, ts, hmap, out, strength, water, y);
+        slide_row(&slide, map, out, y);
         marks = marks.ask(fraction(from, to, h, y), stop);
-        y += 1;
     }
     marks
 }
 
 // Refusal 4 of the stop marks: whether an end of p, the last p or the number of questions is outside its range.
-fn bad_marks(from: f32, to: f32, m: Progress) -> bool
-    ensures { result ≡ bad_marks from to m }
+fn bad_marks(by: PassMarks) -> bool
+    ensures { result ≡ bad_marks by.from by.to by.marks }
 {
-    if outside(from, 0.0, 1.0) {
-        return true;
-    }
-    bad_report(m, to)
+    outside(by.from, 0.0, 1.0) || bad_report(by.marks, by.to)
 }
 
-// Refusal 4: whether a setting, or a value of the stop marks, is outside its range.
-fn bad_pass(params: ThermalParams, from: f32, to: f32, m: Progress) -> bool
-    ensures { result ≡ bad_pass params from to m }
+// Refusal 4 of all but the thresholds: whether strength, water level or a value of the stop marks is outside its range.
+fn bad_rest(strength: f32, water: f32, by: PassMarks) -> bool
+    ensures { result ≡ bad_rest strength water by.from by.to by.marks }
 {
-    if outside(params.threshold, 0.0, 16.0) {
-        return true;
-    }
-    if outside(params.strength, 0.0, 1.0) {
-        return true;
-    }
-    if is_finite(params.water_level) {
-        return bad_marks(from, to, m);
-    }
-    true
+    outside(strength, 0.0, 1.0) || !is_finite(water) || bad_marks(by)
 }
 
-// A refusal with the record that goes back.
-fn refused(refusal: Refusal, progress: Progress) -> Slid
-    ensures { result ≡ record { answer = Answer.Refused refusal; progress = progress } }
+// Refusal 4 of `slide_pass`.
+fn bad_pass(params: ThermalParams, by: PassMarks) -> bool
+    ensures { result ≡ bad_pass params by.from by.to by.marks }
 {
-    Slid {
-        answer: Answer::Refused(refusal),
-        progress: progress,
-    }
+    outside(params.threshold, 0.0, 16.0) || bad_rest(params.strength, params.water_level, by)
 }
 
-// The pass on an accepted input, and its answer: a stop comes before a run-off.
-fn slide_accepted(
+// Whether one of eight thresholds is outside its range.
+fn bad_thresholds(eight: [f32; 8]) -> bool
+    ensures { result ≡ bad_thresholds eight }
+{
+    eight.iter().any(|threshold| outside(*threshold, 0.0, 96.0))
+}
+
+// Refusal 4 of `slide_pass_over`.
+fn bad_over(eight: [f32; 8], strength: f32, water: f32, by: PassMarks) -> bool
+    ensures { result ≡ bad_over eight strength water by.from by.to by.marks }
+{
+    bad_thresholds(eight) || bad_rest(strength, water, by)
+}
+
+// The first refusal of a pass in number order; `copy` is the length of the result slice. 4 applies if `bad`: the two
+// calls have settings of their own, and the definition takes the verdict on them.
+fn pass_refusal(size: Sides, hmap: &[f32], copy: usize, bad: bool) -> Result<(), Refusal>
+    ensures { answer_of result
+        ≡ pass_refusal size.w size.h hmap.now copy bad refused refused_at (gives tt) }
+{
+    if bad_sides(size) {
+        return Err(Refusal::Side);
+    }
+    let n = size.w * size.h;
+    if hmap.len() != n || copy != n {
+        return Err(Refusal::Length);
+    }
+    if bad {
+        return Err(Refusal::Setting);
+    }
+    if let Some(cell) = first_not_finite(size, hmap) {
+        return Err(Refusal::Height(cell));
+    }
+    Ok(())
+}
+
+// The answer of a pass that left these heights and reached this record: a stop comes before a run-off.
+fn pass_answer(out: &[f32], reached: Progress) -> Result<(), Refusal>
+    ensures { answer_of result ≡ pass_answer (record { out = out.now; marks = reached }) }
+{
+    if reached.stopped {
+        return Err(Refusal::Stopped);
+    }
+    if !all_finite(out) {
+        return Err(Refusal::RunOff);
+    }
+    Ok(())
+}
+
+// The pass behind its refusals, of which 4 applies if `bad`.
+fn slide_checked(
     size: Sides,
     hmap: &[f32],
     out: &mut [f32],
-    params: ThermalParams,
-    from: f32,
-    to: f32,
-    m: Progress,
-    stop: u32,
+    bad: bool,
+    slide: &Slide,
+    by: PassMarks,
 ) -> Slid
-    requires { RowsReady size.w size.h (length hmap.now) (length out.old) m.asked }
-    ensures { Passed (pass_of size.w size.h params hmap.now from to stop m) result
-        out.new }
+    requires { bad ≡ false → by.marks.asked ≤ 2 ^ 31 }
+    ensures { PassMade size.w size.h hmap.now bad by.marks out.old
+        (rows_of size.w size.h slide.now.thresholds slide.now.strength slide.now.water hmap.now by.from by.to by.stop
+        size.h by.marks)
+        result out.new }
 {
-    let ts = thresholds(params.threshold, square_distances());
-    let reached = slide_pass_into(
-        size,
-        &ts,
-        hmap,
-        out,
-        params.strength,
-        params.water_level,
-        from,
-        to,
-        m,
-        stop,
-    );
-    if reached.stopped {
-        return refused(Refusal::Stopped, reached);
-    }
-    if all_finite(out) {
+    if let Err(why) = pass_refusal(size, hmap, out.len(), bad) {
         return Slid {
-            answer: Answer::Done,
-            progress: reached,
+            answer: Err(why),
+            progress: by.marks,
         };
     }
-    refused(Refusal::RunOff, reached)
+    let reached = slide_pass_into(
+        size,
+        &slide.thresholds,
+        hmap,
+        out,
+        slide.strength,
+        slide.water,
+        by.from,
+        by.to,
+        by.marks,
+        by.stop,
+    );
+    Slid {
+        answer: pass_answer(out, reached),
+        progress: reached,
+    }
 }
 
 // One pass of the source from hmap to out. On 1 to 5 nothing is written and the record comes back as given.
@@ -163,132 +213,18 @@ pub fn slide_pass(
         (record { from = progress_from; to = progress_to; marks = progress; stop = stop }) out.old result
         out.new }
 {
-    let from = progress_from;
-    let to = progress_to;
-    if bad_sides(size) {
-        return refused(Refusal::Side, progress);
-    }
-    let n = size.w * size.h;
-    if hmap.len() != n {
-        return refused(Refusal::Length, progress);
-    }
-    if out.len() != n {
-        return refused(Refusal::Length, progress);
-    }
-    if bad_pass(params, from, to, progress) {
-        return refused(Refusal::Setting, progress);
-    }
-    let bad = first_not_finite(size, hmap);
-    if bad != n {
-        return refused(Refusal::Height(bad), progress);
-    }
-    slide_accepted(size, hmap, out, params, from, to, progress, stop)
-}
-
-// Refusal 4 of all but the thresholds: whether strength, water level or a value of the stop marks is outside its range.
-fn bad_rest(strength: f32, water: f32, from: f32, to: f32, m: Progress) -> bool
-    ensures { result ≡ bad_rest strength water from to m }
-{
-    if outside(strength, 0.0, 1.0) {
-        return true;
-    }
-    if is_finite(water) {
-        return bad_marks(from, to, m);
-    }
-    true
-}
-
-// Whether one of eight thresholds is outside its range.
-fn bad_thresholds(eight: [f32; 8]) -> bool
-    ensures { result ≡ bad_thresholds eight }
-{
-    let mut i: usize = 0;
-    while i < 8 {
-        if outside(eight[i], 0.0, 96.0) {
-            return true;
-        }
-        i += 1;
-    }
-    false
-}
-
-// Refusal 4 of `slide_pass_over`.
-fn bad_over(eight: [f32; 8], strength: f32, water: f32, from: f32, to: f32, m: Progress) -> bool
-    ensures { result ≡ bad_over eight strength water from to m }
-{
-    if bad_thresholds(eight) {
-        return true;
-    }
-    bad_rest(strength, water, from, to, m)
-}
-
-// The pass over eight thresholds on an accepted input, and its answer: a stop comes before a run-off.
-fn over_accepted(
-    size: Sides,
-    hmap: &[f32],
-    out: &mut [f32],
-    eight: [f32; 8],
-    strength: f32,
-    water: f32,
-    from: f32,
-    to: f32,
-    m: Progress,
-    stop: u32,
-) -> Slid
-    requires { RowsReady size.w size.h (length hmap.now) (length out.old) m.asked }
-    ensures { Passed (pass_over size.w size.h eight strength water hmap.now from to stop m) result
-        out.new }
-{
-    let ts = table(eight);
-    let passed = slide_pass_into(size, &ts, hmap, out, strength, water, from, to, m, stop);
-    if passed.stopped {
-        return refused(Refusal::Stopped, passed);
-    }
-    if all_finite(out) {
-        return Slid {
-            answer: Answer::Done,
-            progress: passed,
-        };
-    }
-    refused(Refusal::RunOff, passed)
-}
-
-// The pass over eight thresholds behind its refusals, of which 4 applies if `bad`.
-fn slide_checked(
-    size: Sides,
-    hmap: &[f32],
-    out: &mut [f32],
-    bad: bool,
-    eight: [f32; 8],
-    strength: f32,
-    water: f32,
-    from: f32,
-    to: f32,
-    m: Progress,
-    stop: u32,
-) -> Slid
-    requires { bad ≡ false → m.asked ≤ 2 ^ 31 }
-    ensures { PassMade size.w size.h hmap.now bad m out.old
-        (pass_over size.w size.h eight strength water hmap.now from to stop m) result out.new }
-{
-    if bad_sides(size) {
-        return refused(Refusal::Side, m);
-    }
-    let n = size.w * size.h;
-    if hmap.len() != n {
-        return refused(Refusal::Length, m);
-    }
-    if out.len() != n {
-        return refused(Refusal::Length, m);
-    }
-    if bad {
-        return refused(Refusal::Setting, m);
-    }
-    let cell = first_not_finite(size, hmap);
-    if cell != n {
-        return refused(Refusal::Height(cell), m);
-    }
-    over_accepted(size, hmap, out, eight, strength, water, from, to, m, stop)
+    let by = PassMarks {
+        from: progress_from,
+        to: progress_to,
+        marks: progress,
+        stop,
+    };
+    let slide = Slide {
+        thresholds: thresholds(params.threshold, square_distances()),
+        strength: params.strength,
+        water: params.water_level,
+    };
+    slide_checked(size, hmap, out, bad_pass(params, by), &slide, by)
 }
 
 // The same pass over eight thresholds in scan order, NW first, each 0 to 96: each direction's excess is taken over its
@@ -309,25 +245,23 @@ pub fn slide_pass_over(
         (record { from = progress_from; to = progress_to; marks = progress; stop = stop }) out.old result
         out.new }
 {
-    let bad = bad_over(
-        thresholds,
+    let by = PassMarks {
+        from: progress_from,
+        to: progress_to,
+        marks: progress,
+        stop,
+    };
+    let slide = Slide {
+        thresholds: table(thresholds),
         strength,
-        water_level,
-        progress_from,
-        progress_to,
-        progress,
-    );
+        water: water_level,
+    };
     slide_checked(
         size,
         hmap,
         out,
-        bad,
-        thresholds,
-        strength,
-        water_level,
-        progress_from,
-        progress_to,
-        progress,
-        stop,
+        bad_over(thresholds, strength, water_level, by),
+        &slide,
+        by,
     )
 }

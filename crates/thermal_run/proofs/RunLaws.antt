@@ -1,6 +1,8 @@
 -- The run on its working grid, and the whole call: what its parts ask follows from what they are given, and its ends are the run's.
+use Rattle.std.specs.declared.result.Result.TheVariants.{Ok}
+use Rattle.answers.specs.Outcome.{Answer}
 use Prim.Native.Nat.{ℕ, ◌*◌, ◌≤◌, min}
-use mathlib.Core.Path.{◌≡◌, refl, sym, ap, ap₂, ◌∙◌, subst}
+use mathlib.Core.Path.{◌≡◌, sym, ap, ap₂, ◌∙◌, subst}
 use mathlib.Core.Bool.{Bool, true, ◌&&◌}
 use mathlib.Core.List.{List}
 use native.Mathlib.Omega.{arith}
@@ -8,8 +10,6 @@ use lib.ListN.{length}
 use lib.Dec.{eqb}
 use lib.Ieee.{Float}
 use Rattle.answers.specs.Outcome.{Outcome, answer_of}
-use Rattle.answers.specs.declared.Answer.{Answer}
-use Rattle.answers.specs.declared.Refusal.{Refusal}
 use Rattle.grid.specs.declared.Sides.{Sides}
 use Rattle.resample.specs.WorkSize.{Within, work_size}
 use Rattle.thermal_erosion.specs.declared.ThermalParams.{ThermalParams}
@@ -22,17 +22,16 @@ use Rattle.run_machine.proofs.PlanLaws.{Counted, thermal_passes_lem}
 use Rattle.run_settings.specs.Accepted.{refusal_on, AcceptedRun}
 use Rattle.run_settings.proofs.RefusalLaws.{accepted_by, decided_by, thermal_iterations}
 use Rattle.run_plans.proofs.InputLaws.{within_range, within_cells, own_cells, accepted_within}
-use Rattle.run_parts.specs.Reached.{whole_run}
-use Rattle.run_parts.specs.Ending.{refused_to, Answered}
-use Rattle.run_parts.specs.declared.Reached.{Reached}
+use Rattle.run_parts.specs.Reached.{Reach, whole_run}
+use Rattle.run_parts.specs.Ending.{Answered}
 use Rattle.answers.specs.declared.RunAnswer.{RunAnswer}
 use Rattle.run_parts.proofs.ReachedLaws.{worked}
-use Rattle.run_parts.proofs.EndingLaws.{done_accepts, done_keeps, ending_refused, ending_ran}
+use Rattle.run_parts.proofs.EndingLaws.{done_accepts, done_keeps, ending_ran}
 use Rattle.run_parts.proofs.WholeLaws.{whole_run_lem}
 use Rattle.thermal_run.specs.ThermalRun.{ThermalScratch, thermal_input_refusal, ThermalRun, ThermalSlides, ThermalReduces, ThermalErodes}
 
-module _ {w h dw dh : ℕ} {passes map small eroded copy : ℕ} where
-  module _ (e : ThermalErodes w h dw dh passes map small eroded copy) where
+module _ {w h dw dh : ℕ} {map small eroded copy : ℕ} where
+  module _ (e : ThermalErodes w h dw dh map small eroded copy) where
     -- the first working cells of the scratch slices
     pub small_room : dw * dh ≤ small
     small_room = omega (arith, within_cells e.sides, e.averages)
@@ -44,13 +43,13 @@ module _ {w h dw dh : ℕ} {passes map small eroded copy : ℕ} where
     copy_room = omega (arith, within_cells e.sides, e.copied)
 
     -- on the map
-    pub erodes_slides : {t : Bool} {k : ℕ} → t ≡ (eqb dw w && eqb dh h) → t ≡ true → k ≡ dw * dh → ThermalSlides dw dh passes map k
-    erodes_slides f t k = record { sides = within_range e.sides; some = e.some; few = e.few; heights = own_cells e.sides f t e.heights; copied = k }
+    pub erodes_slides : {t : Bool} {k : ℕ} → t ≡ (eqb dw w && eqb dh h) → t ≡ true → k ≡ dw * dh → ThermalSlides dw dh map k
+    erodes_slides f t k = record { sides = within_range e.sides; heights = own_cells e.sides f t e.heights; copied = k }
 
     -- on the averages
-    pub erodes_reduces : {a b d : ℕ} → a ≡ dw * dh → b ≡ dw * dh → d ≡ dw * dh → ThermalReduces w h dw dh passes map a b d
+    pub erodes_reduces : {a b d : ℕ} → a ≡ dw * dh → b ≡ dw * dh → d ≡ dw * dh → ThermalReduces w h dw dh map a b d
     erodes_reduces a b d =
-        record { sides = e.sides; some = e.some; few = e.few; heights = e.heights; averages = a; changed = b; copied = d }
+        record { sides = e.sides; heights = e.heights; averages = a; changed = b; copied = d }
 
 -- the whole call
 module _ (w h : ℕ) (conf : ThermalSettings) (stop : ℕ) (map small eroded copy : List Float) where
@@ -65,14 +64,7 @@ module _ (w h : ℕ) (conf : ThermalSettings) (stop : ℕ) (map small eroded cop
       → scratch ≡ min (length small) k → k ≡ min (length eroded) (length copy) → o ≡ outcome
   decided e b s k = decided_by w h map e b (s ∙ ap (min (length small)) k)
 
-  pub run_refused : {r : RunAnswer} {early : Answer} (why : Refusal) → answer_of early ≡ outcome → early ≡ Answer.Refused why → r ≡ refused_to why
-      → ThermalRun w h conf stop map scratch r map scratch
-  run_refused {r} {early} why f e g = record {
-    ended = ending_refused why early outcome map (thermal_run w h conf stop map) e f g;
-    kept = λ _. refl;
-  }
-
-  module _ {early : Answer} (f : answer_of early ≡ outcome) (e : early ≡ Answer.Done) where
+  module _ {early : Answer} (f : answer_of early ≡ outcome) (e : early ≡ Ok tt) where
     pub run_accepted : AcceptedRun w h (bad_thermal conf) map (min (length small) (min (length eroded) (length copy)))
     run_accepted = accepted_by w h (bad_thermal conf) map _ (done_accepts f e)
 
@@ -80,24 +72,23 @@ module _ (w h : ℕ) (conf : ThermalSettings) (stop : ℕ) (map small eroded cop
       pub run_within : Within w h work.w work.h
       run_within = accepted_within run_accepted conf.work_res g
 
+      pub run_erodes : ThermalErodes w h work.w work.h (length map) (length small) (length eroded) (length copy)
+      run_erodes =
+          let a = run_accepted in
+          record {
+            sides = run_within;
+            heights = a.cells;
+            averages = omega (arith, a.room);
+            changed = omega (arith, a.room);
+            copied = omega (arith, a.room);
+          }
+
       module _ {passes : ℕ} (i : passes ≡ thermal_passes work.w work.h conf) where
-        counted : Counted 32768 passes
+        -- and the number of passes is one of a plan
+        pub counted : Counted 32768 passes
         counted =
             let s = within_range run_within in
             subst (Counted 32768) (sym i) (thermal_passes_lem work.w work.h s.wide s.high conf.iterations (thermal_iterations conf run_accepted.settings))
-
-        pub run_erodes : ThermalErodes w h work.w work.h passes (length map) (length small) (length eroded) (length copy)
-        run_erodes =
-            let a = run_accepted in
-            record {
-              sides = run_within;
-              some = counted.some;
-              few = counted.few;
-              heights = a.cells;
-              averages = omega (arith, a.room);
-              changed = omega (arith, a.room);
-              copied = omega (arith, a.room);
-            }
 
         module _ {params : ThermalParams} (p : params ≡ thermal_params work.w work.h conf) where
           whole_is : run_on as_source w h (slide_course work.w work.h params passes stop) map ≡ thermal_run w h conf stop map
@@ -106,7 +97,7 @@ module _ (w h : ℕ) (conf : ThermalSettings) (stop : ℕ) (map small eroded cop
               ap₂ (λ (params : ThermalParams) (passes : ℕ). run_on as_source w h (slide_course work.w work.h params passes stop) map) p i
               ∙ ap (λ (work : Sides). run_on as_source w h (thermal_course work.w work.h conf stop) map) g
 
-          pub run_done : {r : Reached} {a : RunAnswer} (map' small' eroded' copy' : List Float) → Answered r a
+          pub run_done : {r : Reach} {a : RunAnswer} (map' small' eroded' copy' : List Float) → Answered r a
               → worked map' r ≡ whole_run w h (slide_course work.w work.h params passes stop) map
               → ThermalRun w h conf stop map scratch a map' (record { small = small'; eroded = eroded'; copy = copy' })
           run_done {r} {a} map' small' eroded' copy' s t =

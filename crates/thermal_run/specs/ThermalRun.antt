@@ -27,30 +27,24 @@ pub record ThermalRun (w h : ℕ) (conf : ThermalSettings) (stop : ℕ) (map : L
   pub ended : ended_with r map' ≡ ending_of (thermal_input_refusal w h conf map scratch) map (thermal_run w h conf stop map)
   pub kept : given (thermal_input_refusal w h conf map scratch) ≡ false → scratch' ≡ scratch
 
--- what the passes require of their grid, their number and the lengths of the map and its copy
-pub record ThermalSlides (w h passes map copy : ℕ) : Type 0 where
+-- what the passes require of their grid and the lengths of the map and its copy
+pub record ThermalSlides (w h map copy : ℕ) : Type 0 where
   pub sides : InRange w h
-  pub some : 1 ≤ passes
-  pub few : passes ≤ 32768
   pub heights : map ≡ w * h
   pub copied : copy ≡ w * h
 
--- what a run on the reduced dw × dh grid requires of its sides, the number of passes and the lengths of its slices
-pub record ThermalReduces (w h dw dh passes map small eroded copy : ℕ) : Type 0 where
+-- what a run on the reduced dw × dh grid requires of its sides and the lengths of its slices
+pub record ThermalReduces (w h dw dh map small eroded copy : ℕ) : Type 0 where
   pub sides : Within w h dw dh
-  pub some : 1 ≤ passes
-  pub few : passes ≤ 32768
   pub heights : map ≡ w * h
   pub averages : small ≡ dw * dh
   pub changed : eroded ≡ dw * dh
   pub copied : copy ≡ dw * dh
 
--- what a run requires of its sides, the number of passes and the lengths of its slices, on the map or on a reduced dw ×
+-- what a run requires of its sides and the lengths of its slices, on the map or on a reduced dw ×
 -- dh grid
-pub record ThermalErodes (w h dw dh passes map small eroded copy : ℕ) : Type 0 where
+pub record ThermalErodes (w h dw dh map small eroded copy : ℕ) : Type 0 where
   pub sides : Within w h dw dh
-  pub some : 1 ≤ passes
-  pub few : passes ≤ 32768
   pub heights : map ≡ w * h
   pub averages : w * h ≤ small
   pub changed : w * h ≤ eroded

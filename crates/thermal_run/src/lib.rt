@@ -1,77 +1,74 @@
 // The source's gen_thermal_erosion: a whole thermal run, on the map or on a reduced grid whose change is added back.
 #![tactic(auto)]
 
-ghost use Rattle.std.specs.Prelude.{◌≡◌, false, ◌&&◌, eqb, length};
+ghost use Rattle.std.specs.Prelude.{◌≡◌, ◌≤◌, false, ◌&&◌, eqb, length};
 ghost use Rattle.run_machine.specs.Run.{slide_course};
 ghost use Rattle.run_machine.specs.Nested.{nested};
-ghost use Rattle.run_parts.specs.Reached.{Worked, seen, whole_run};
+ghost use Rattle.run_parts.specs.Reached.{worked_of, seen, whole_run};
 ghost use Rattle.thermal_run.specs.ThermalRun.{ThermalSlides, ThermalReduces, ThermalErodes, ThermalRun};
 
-use answers::{Answer, RUN_OFF, RunAnswer};
+use answers::RunAnswer;
 use floats::ratio;
-use generators::fresh;
-use grid::{Sides, least};
+use grid::Sides;
 use grid_spacing::square_distances;
 use resample::work_sides;
-use run_parts::{Reached, add_back, answered, begun, ended, on_map, reduce, refused, run_pass};
-use run_plans::{thermal_passes, thermal_plan};
+use run_parts::{Ended, Reached, add_back, answered, begun, on_map, reduce, refused, run_pass};
+use run_plans::Working;
 use run_settings::{ThermalSettings, bad_thermal, refusal};
 use talus::thresholds;
 use thermal_erosion::ThermalParams;
 
-// Runs every pass on the working grid, until 21 or 22 ends the run.
+// The passes of a run on its working grid: their parameters and their number.
+#[derive(Clone, Copy)]
+struct ThermalPlan {
+    slides: ThermalParams,
+    passes: usize,
+    ghost some: { 1 ≤ passes },
+    ghost few: { passes ≤ 32768 },
+}
+
+// Runs every pass on the working grid, until one ends the run.
 fn slide_passes(
     work: Sides,
     hmap: &mut [f32],
-    params: ThermalParams,
-    passes: usize,
+    plan: ThermalPlan,
     stop: u32,
     copy: &mut [f32],
-) -> Reached
-    requires { ThermalSlides work.w work.h passes (length hmap.old) (length copy.old) }
-    ensures { ◌≡◌ {A = Worked} (record { heights = hmap.new; reached = result })
-        (seen (nested (slide_course work.w work.h params passes stop) hmap.old)) }
+) -> Result<Reached, Ended>
+    requires { ThermalSlides work.w work.h (length hmap.old) (length copy.old) }
+    ensures { worked_of hmap.new result
+        ≡ seen (nested (slide_course work.w work.h plan.slides plan.passes stop) hmap.old) }
 {
-    let ts = thresholds(params.threshold, square_distances());
+    let ts = thresholds(plan.slides.threshold, square_distances());
+    let passes = plan.passes;
     let mut r = begun();
-    let mut pass: usize = 0;
-    while pass < passes {
-        if r.number != 0 {
-            return r;
-        }
+    for pass in 0..passes {
         let from = ratio(pass, passes);
         let to = ratio(pass + 1, passes);
-        r = run_pass(work, &ts, hmap, copy, params, from, to, stop, r);
-        pass += 1;
+        r = run_pass(work, &ts, hmap, copy, plan.slides, from, to, stop, r)?;
     }
-    r
+    Ok(r)
 }
 
-// Erodes a reduced copy, then adds the difference back onto the map; 21 and 22 leave the map as it came.
+// Erodes a reduced copy, then adds the difference back onto the map; a run that ends early leaves the map as it came.
 fn erode_reduced(
     size: Sides,
     hmap: &mut [f32],
     work: Sides,
-    params: ThermalParams,
-    passes: usize,
+    plan: ThermalPlan,
     stop: u32,
     small: &mut [f32],
     eroded: &mut [f32],
     copy: &mut [f32],
-) -> Reached
+) -> Result<Reached, Ended>
     requires h_value { (eqb work.w size.w && eqb work.h size.h) ≡ false }
-    requires thermal_reduces { ThermalReduces size.w size.h work.w work.h passes (length hmap.old) (length small.old)
+    requires thermal_reduces { ThermalReduces size.w size.h work.w work.h (length hmap.old) (length small.old)
         (length eroded.old) (length copy.old) }
-    ensures { ◌≡◌ {A = Worked} (record { heights = hmap.new; reached = result })
-        (whole_run size.w size.h (slide_course work.w work.h params passes stop) hmap.old) }
+    ensures { worked_of hmap.new result
+        ≡ whole_run size.w size.h (slide_course work.w work.h plan.slides plan.passes stop) hmap.old }
 {
-    if !reduce(size, hmap, work, small, eroded) {
-        return ended(RUN_OFF, fresh(), begun());
-    }
-    let done = slide_passes(work, eroded, params, passes, stop, copy);
-    if done.number != 0 {
-        return done;
-    }
+    reduce(size, hmap, work, small, eroded)?;
+    let done = slide_passes(work, eroded, plan, stop, copy)?;
     add_back(size, hmap, work, small, eroded, done)
 }
 
@@ -80,28 +77,26 @@ fn erode(
     size: Sides,
     hmap: &mut [f32],
     work: Sides,
-    params: ThermalParams,
-    passes: usize,
+    plan: ThermalPlan,
     stop: u32,
     small: &mut [f32],
     eroded: &mut [f32],
     copy: &mut [f32],
-) -> Reached
-    requires { ThermalErodes size.w size.h work.w work.h passes (length hmap.old) (length small.old)
+) -> Result<Reached, Ended>
+    requires { ThermalErodes size.w size.h work.w work.h (length hmap.old) (length small.old)
         (length eroded.old) (length copy.old) }
-    ensures { ◌≡◌ {A = Worked} (record { heights = hmap.new; reached = result })
-        (whole_run size.w size.h (slide_course work.w work.h params passes stop) hmap.old) }
+    ensures { worked_of hmap.new result
+        ≡ whole_run size.w size.h (slide_course work.w work.h plan.slides plan.passes stop) hmap.old }
 {
     let m = work.w * work.h;
     if on_map(work, size) {
-        return slide_passes(work, hmap, params, passes, stop, &mut copy[..m]);
+        return slide_passes(work, hmap, plan, stop, &mut copy[..m]);
     }
     erode_reduced(
         size,
         hmap,
         work,
-        params,
-        passes,
+        plan,
         stop,
         &mut small[..m],
         &mut eroded[..m],
@@ -124,14 +119,15 @@ pub fn gen_thermal_erosion(
         hmap.new
         (record { small = small.new; eroded = eroded.new; copy = copy.new }) }
 {
-    let scratch = least(small.len(), least(eroded.len(), copy.len()));
-    let early = refusal(size, hmap, bad_thermal(conf), scratch);
-    if let Answer::Refused(why) = early {
+    let scratch = small.len().min(eroded.len().min(copy.len()));
+    if let Err(why) = refusal(size, hmap, bad_thermal(conf), scratch) {
         return refused(why);
     }
     let work = work_sides(size, conf.work_res);
-    let params = thermal_plan(work, conf);
-    let passes = thermal_passes(work, conf);
-    let done = erode(size, hmap, work, params, passes, stop, small, eroded, copy);
-    answered(done)
+    let grid = Working::on(work);
+    let plan = ThermalPlan {
+        slides: grid.thermal_plan(conf),
+        passes: grid.passes(conf.iterations),
+    };
+    answered(erode(size, hmap, work, plan, stop, small, eroded, copy))
 }

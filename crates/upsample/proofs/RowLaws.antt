@@ -71,9 +71,6 @@ module _ (map : List Float) (w h : ℕ) (delta : List Float) (dw dh y : ℕ) (in
       stored_row w y f inside row
       (r ∙ ap (λ (l : List Float). summed_row (take (y * w + w - y * w) l) north south dy) (filling_drop f) ∙ row_sums map w h delta dw dh y inside m p q)
 
-pub part_small : (map : List Float) (w y : ℕ) → w ≤ 4096 → length (take (y * w + w - y * w) (drop (y * w) map)) ≤ 4096
-part_small map w y l = simp length-take (omega arith)
-
 -- the sum is one value for each cell
 pub added_values : (map : List Float) (w h : ℕ) (delta : List Float) (dw dh : ℕ) → Values (w * h) (added_of as_source map w h delta dw dh)
 unfolding added_of

@@ -8,11 +8,11 @@ use lib.Ieee.{Float}
 use borrow.Rule.Slice.PartMut.{put_mid, put_same}
 use Rattle.loops.specs.Loops.{tabulate}
 use Rattle.loops.proofs.TestLaws.{clash}
-use Rattle.loops.proofs.FillLaws.{Filling, filling_length, filling_start, filling_rows}
+use Rattle.loops.proofs.FillLaws.{Filling, filling_start, filling_rows}
 use Rattle.grid.specs.Heights.{all_finite}
 use Rattle.bilinear.specs.Samples.{as_source}
 use Rattle.upsample_rows.specs.Rows.{reduced_column, way_of, Mixes}
-use Rattle.upsample.specs.Samples.{summed_row, Summed, added_at, added_of, AddedFinite}
+use Rattle.upsample.specs.Samples.{summed_row, Summed, added_at, added_of}
 use Rattle.upsample.proofs.FiniteLaws.{Finites, finites_start, row_more, row_not, rows_all}
 use Rattle.upsample.proofs.RowLaws.{row_tested, rows_more}
 
@@ -23,10 +23,6 @@ pub record Summing (store : Bool) (f : ℕ → Float) (i : ℕ) (old now : List 
 
 pub summing_start : {store : Bool} {f : ℕ → Float} {old : List Float} (w : ℕ) → Summing store f (0 * w) old old
 summing_start w = record { stored = λ _. filling_start w; tested = λ _. (refl, finites_start w) }
-
-pub summing_length : (store : Bool) {f : ℕ → Float} {i : ℕ} {old now : List Float} → Summing store f i old now → length now ≡ length old
-summing_length true s = filling_length (s.stored refl)
-summing_length false s = ap length (s.tested refl).0
 
 pub summing_done : (store : Bool) {f : ℕ → Float} (w : ℕ) {h y : ℕ} {old now : List Float} → Summing store f (y * w) old now → length old ≡ w * h → y ≤ h → h ≤ y
     → Summed store (tabulate (w * h) f) old true now
@@ -68,10 +64,3 @@ module _ (map : List Float) (w h : ℕ) (delta : List Float) (dw dh y : ℕ) (in
     heights = kept (y * w) (y * w + w - y * w) (s.tested refl).0 r.heights;
     good = sym (row_not (added_at as_source map w h delta dw dh) w h y l (sym (row_test (s.tested refl).0 r.good) ∙ e));
   }
-
--- tested, and then stored where all are finite
-pub added_not : {sum old new : List Float} {t : Bool} → Summed false sum old t new → t ≡ false → AddedFinite sum old false new
-added_not s e = record { good = sym e ∙ s.good; heights = s.heights }
-
-pub added_all : (sum : List Float → List Float) {old mid new : List Float} {t r : Bool} → Summed false (sum old) old t mid → t ≡ true → Summed true (sum mid) mid r new → AddedFinite (sum old) old r new
-added_all sum s e q = record { good = q.good ∙ sym e ∙ s.good; heights = q.heights ∙ ap sum s.heights ∙ rw q.good }

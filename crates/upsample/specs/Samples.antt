@@ -1,9 +1,9 @@
 -- `add_upsampled`: the reduced grid, sampled bilinearly, added to the map.
+use Rattle.answers.specs.Outcome.{Answer}
 use Rattle.std.specs.Prelude.{ℕ, ◌*◌, ◌/◌, ◌%◌, ◌≡◌, Bool, ◌||◌, cond, List, length, get_or, Float}
 use Rattle.std.specs.Float.{nan, binary32}
 use Rattle.std.specs.Float.Ieee.{add}
 use Rattle.answers.specs.Outcome.{Outcome, gives, refused, refused_at, answer_of}
-use Rattle.answers.specs.declared.Answer.{Answer}
 use Rattle.loops.specs.Loops.{tabulate}
 use Rattle.grid.specs.Heights.{first_not_finite, all_finite}
 use Rattle.resample.specs.Blocks.{map_refusal}

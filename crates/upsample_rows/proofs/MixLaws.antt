@@ -7,18 +7,8 @@ use lib.ListN.{length, get_or}
 use lib.Ieee.{Float, nan}
 use Rattle.floats.specs.Stand.{fract_of, index_of}
 use Rattle.loops.proofs.TableLaws.{filled_length, filled_read, filled_already}
-use Rattle.grid.specs.Directions.{Place}
-use Rattle.bilinear.specs.Places.{Grid}
 use Rattle.bilinear.specs.Samples.{as_source, across_of}
-use Rattle.bilinear.proofs.CornerLaws.{place_in}
-use Rattle.upsample_rows.specs.Rows.{Sampled, centre_of, reduced_column, way_of, Columns, ColumnsPut, mix_at, mix_put, Mix, Mixes, MixesPut}
-
--- the columns of a grid and its rows, on a reduced grid
-pub all_columns : {w h len dw dh dlen : ℕ} → Grid w h len → Grid dw dh dlen → Sampled w dw w
-all_columns g d = record { full = g.w_high; small = d.w_high; inside = omega arith }
-
-pub row_in : {w h len dw dh dlen : ℕ} → Grid w h len → Grid dw dh dlen → (y : ℕ) → y < h → Sampled h dh y
-row_in g d y l = record { full = g.h_high; small = d.h_high; inside = omega arith }
+use Rattle.upsample_rows.specs.Rows.{centre_of, reduced_column, way_of, Columns, ColumnsPut, mix_at, mix_put, Mix, Mixes, MixesPut}
 
 module _ (w dw : ℕ) where
   -- as the code works them out
@@ -37,10 +27,6 @@ module _ (w dw : ℕ) where
   }
 
   module _ (x : ℕ) (l : x < w) {cs : List ℕ} {ds : List Float} (e : Columns w dw cs ds) where
-    -- a place of the reduced grid
-    pub place_read : {dh len y : ℕ} → Grid dw dh len → y < dh → Place dw dh (get_or cs x 0) y
-    place_read g m = place_in g (omega (arith, e.column x l, g.w_low)) m
-
     pub across_read : (delta : List Float) (dh y south : ℕ) {r : Float} → r ≡ across_of as_source delta dw dh (get_or cs x 0) (get_or ds x nan) y south → r ≡ mix_at delta dw dh w y south x
     across_read delta dh y south q = q ∙ ap₂ (λ (k : ℕ) (d : Float). across_of as_source delta dw dh k d y south) (e.column x l) (e.way x l)
 
@@ -59,9 +45,6 @@ module _ (delta : List Float) (dw dh w y south : ℕ) (row : List Float) (l : w 
 module _ {delta : List Float} {dw dh w y : ℕ} {north south : List Float} (l : w ≤ 4096) where
   pub mixes_put : {north' south' : List Float} → MixesPut delta dw dh w y north south north' south' → length north ≡ 4096 → length south ≡ 4096 → Mixes delta dw dh w y north' south'
   mixes_put p n s = record { northern = mix_put_lem delta dw dh w y 0 north l p.northern n; southern = mix_put_lem delta dw dh w y 1 south l p.southern s }
-
-  pub mixes_next : {held : ℕ} {north' south' : List Float} → Mixes delta dw dh w held north south → MixesPut delta dw dh w y north south north' south' → Mixes delta dw dh w y north' south'
-  mixes_next m p = mixes_put p m.northern.long m.southern.long
 
   -- the arrays of one row are those of the same row
   pub mixes_held : {held : ℕ} → y ≡ held → Mixes delta dw dh w held north south → MixesPut delta dw dh w y north south north south

@@ -4,11 +4,10 @@
 #![tactic(auto)]
 
 ghost use Rattle.std.specs.Prelude.{◌≡◌, ◌<◌, ◌≤◌, length};
-ghost use Rattle.bilinear.specs.Places.{Grid};
-ghost use Rattle.upsample_rows.specs.Rows.{Sampled, centre_of, reduced_column, way_of, Columns, ColumnsPut, mix_put};
-ghost use Rattle.upsample_rows.specs.Rows.{Mixes, MixesPut};
+ghost use Rattle.upsample_rows.specs.Rows.{Sampled, centre_of, reduced_column, way_of, Columns, mix_put, Mixes};
+ghost use Rattle.upsample_rows.specs.Rows.{MixesPut};
 
-use bilinear::across;
+use bilinear::SampledMap;
 use floats::{fract, index, max, ratio};
 use grid::{SIDE_MAX, Sides};
 
@@ -30,106 +29,107 @@ fn column(side: usize, reduced: usize, x: usize) -> usize
 }
 
 // How far the centre of column (or row) x lies on the way from its reduced column to the next, as a fraction.
-pub fn way(side: usize, reduced: usize, x: usize) -> f32
+fn way(side: usize, reduced: usize, x: usize) -> f32
     requires { Sampled side reduced x }
     ensures { result ≡ way_of side reduced x }
 {
     fract(centre(side, reduced, x))
 }
 
-// Stores, for each of the w columns of a map, its reduced column in `cs` and its `way` to the next one in `ds`.
-pub fn columns(w: usize, dw: usize, cs: &mut [usize; SIDE_MAX], ds: &mut [f32; SIDE_MAX])
-    requires sampled { Sampled w dw w }
-    requires cs_len { length cs.old ≡ 4096 }
-    requires ds_len { length ds.old ≡ 4096 }
-    ensures { ColumnsPut w dw cs.old ds.old cs.new ds.new }
-{
-    let mut x: usize = 0;
-    while x < w {
-        cs[x] = column(w, dw, x);
-        ds[x] = way(w, dw, x);
-        x += 1;
+// Where each of the w columns of a map lies on the dw reduced ones: its reduced column, and its `way` to the next one.
+// Two arrays, not one of pairs: pairs of a usize and an f32 take a third more memory.
+#[derive(Drop)]
+pub struct ReducedColumns {
+    w: usize,
+    dw: usize,
+    cs: [usize; SIDE_MAX],
+    ds: [f32; SIDE_MAX],
+    ghost sampled: { Sampled w dw w },
+    ghost placed: { Columns w dw cs ds },
+}
+
+impl ReducedColumns {
+    pub fn new(w: usize, dw: usize) -> ReducedColumns
+        requires { Sampled w dw w }
+        ensures full { result.w ≡ w }
+        ensures small { result.dw ≡ dw }
+    {
+        let mut cs: [usize; SIDE_MAX] = [0; SIDE_MAX];
+        let mut ds: [f32; SIDE_MAX] = [0.0; SIDE_MAX];
+        for x in 0..w {
+            cs[x] = column(w, dw, x);
+            ds[x] = way(w, dw, x);
+        }
+        ReducedColumns { w, dw, cs, ds }
+    }
+
+    // Stores in `row` the value at each column of the map, `south` rows south of row y of the reduced grid.
+    fn mix_row(&self, delta: SampledMap<'_>, y: usize, south: usize, row: &mut [f32; SIDE_MAX])
+        requires dw_is { self.now.dw ≡ delta.size.w }
+        requires y_lt_h { y < delta.size.h }
+        requires south_bound { south ≤ 1 }
+        ensures { row.new
+            ≡ mix_put delta.entry.v.now delta.entry.size.w delta.entry.size.h self.now.w y south row.old }
+    {
+        for x in 0..self.w {
+            row[x] = delta.across(self.cs[x], self.ds[x], y, south);
+        }
     }
 }
 
-// Stores in `row` the value at each of the w columns of the map, `south` rows south of row y of the reduced grid.
-fn mix_row(
-    delta: &[f32],
-    dsize: Sides,
-    cs: &[usize; SIDE_MAX],
-    ds: &[f32; SIDE_MAX],
-    w: usize,
-    y: usize,
-    south: usize,
-    row: &mut [f32; SIDE_MAX],
-)
-    requires grid { Grid dsize.w dsize.h (length delta.now) }
-    requires columns { Columns w dsize.w cs.now ds.now }
-    requires w_bound { w ≤ 4096 }
-    requires y_lt_h { y < dsize.h }
-    requires south_bound { south ≤ 1 }
-    requires row_len { length row.old ≡ 4096 }
-    ensures { row.new
-        ≡ mix_put delta.now dsize.w dsize.h w y south row.old }
-{
-    let mut x: usize = 0;
-    while x < w {
-        row[x] = across(delta, dsize, cs[x], ds[x], y, south);
-        x += 1;
-    }
-}
-
-// Stores the values at each of the w columns of the map: in `north` those in row y of the reduced grid, in `south`
-// those in the next row.
-pub fn mix_rows(
-    delta: &[f32],
-    dsize: Sides,
-    cs: &[usize; SIDE_MAX],
-    ds: &[f32; SIDE_MAX],
-    w: usize,
-    y: usize,
-    north: &mut [f32; SIDE_MAX],
-    south: &mut [f32; SIDE_MAX],
-)
-    requires grid { Grid dsize.w dsize.h (length delta.now) }
-    requires columns { Columns w dsize.w cs.now ds.now }
-    requires w_bound { w ≤ 4096 }
-    requires y_lt_h { y < dsize.h }
-    requires north_len { length north.old ≡ 4096 }
-    requires south_len { length south.old ≡ 4096 }
-    ensures { MixesPut delta.now dsize.w dsize.h w y north.old south.old
-        north.new south.new }
-{
-    mix_row(delta, dsize, cs, ds, w, y, 0, north);
-    mix_row(delta, dsize, cs, ds, w, y, 1, south);
-}
-
-// Stores the values in the two reduced rows around row y of the map. The arrays hold those of reduced row `held` and
-// the next; if that is the row needed, nothing is worked out again. Returns the northern of the two reduced rows.
-pub fn prepare(
-    delta: &[f32],
-    dsize: Sides,
-    cs: &[usize; SIDE_MAX],
-    ds: &[f32; SIDE_MAX],
-    size: Sides,
-    y: usize,
+// The values in two neighbouring rows of a reduced grid, at each of the columns: in `north` those in row `held`, in
+// `south` those in the next row.
+#[derive(Drop)]
+pub struct MixedRows<'a> {
+    delta: SampledMap<'a>,
+    columns: &'a ReducedColumns,
     held: usize,
-    north: &mut [f32; SIDE_MAX],
-    south: &mut [f32; SIDE_MAX],
-) -> usize
-    requires grid { Grid dsize.w dsize.h (length delta.now) }
-    requires columns { Columns size.w dsize.w cs.now ds.now }
-    requires w_bound { size.w ≤ 4096 }
-    requires sampled { Sampled size.h dsize.h y }
-    requires mixes { Mixes delta.now dsize.w dsize.h size.w held north.old south.old }
-    ensures value { result ≡ reduced_column size.h dsize.h y }
-    ensures mixes_put { MixesPut delta.now dsize.w dsize.h size.w result north.old
-        south.old north.new south.new }
-{
-    let row = column(size.h, dsize.h, y);
-    if row == held {
-        return row;
+    pub north: [f32; SIDE_MAX],
+    pub south: [f32; SIDE_MAX],
+    ghost dw_is: { columns.now.dw ≡ delta.size.w },
+    ghost mixes: { Mixes delta.v.now delta.size.w delta.size.h columns.now.w held north south },
+}
+
+impl<'a> MixedRows<'a> {
+    // The values in the first two rows of the reduced grid.
+    pub fn new(delta: SampledMap<'a>, columns: &'a ReducedColumns) -> MixedRows<'a>
+        requires { columns.now.dw ≡ delta.size.w }
+        ensures map { result.delta ≡ delta.entry }
+        ensures across { result.columns.now ≡ columns.entry.now }
+    {
+        let mut north: [f32; SIDE_MAX] = [0.0; SIDE_MAX];
+        let mut south: [f32; SIDE_MAX] = [0.0; SIDE_MAX];
+        columns.mix_row(delta, 0, 0, &mut north);
+        columns.mix_row(delta, 0, 1, &mut south);
+        MixedRows {
+            delta,
+            columns,
+            held: 0,
+            north,
+            south,
+        }
     }
-    mix_rows(delta, dsize, cs, ds, size.w, row, north, south);
-    row
+
+    // Stores the values in the two reduced rows around row y of a map of h rows, and returns how far row y lies on the
+    // way from one to the other. Where these are the rows held, nothing is worked out again.
+    pub fn prepare(&mut self, h: usize, y: usize) -> f32
+        requires { Sampled h self.old.delta.size.h y }
+        ensures map { self.new.delta ≡ self.old.delta }
+        ensures across { self.new.columns.now ≡ self.old.columns.now }
+        ensures way_is { result ≡ way_of h self.old.delta.size.h y }
+        ensures value { self.new.held ≡ reduced_column h self.old.delta.size.h y }
+        ensures mixes_put { MixesPut self.old.delta.v.now self.old.delta.size.w
+            self.old.delta.size.h self.old.columns.now.w self.new.held self.old.north
+            self.old.south self.new.north self.new.south }
+    {
+        let dy = way(h, self.delta.size.h, y);
+        let row = column(h, self.delta.size.h, y);
+        if row == self.held {
+            return dy;
+        }
+        self.held = row;
+        self.columns.mix_row(self.delta, row, 0, &mut self.north);
+        self.columns.mix_row(self.delta, row, 1, &mut self.south);
+        dy
+    }
 }

@@ -1,68 +1,47 @@
-use Prim.Native.Nat.{ℕ}
 use native.Mathlib.Omega.{arith}
-use mathlib.Core.Path.{sym, ◌∙◌}
-use lib.ListN.{length-replicate}
-use Rattle.drainage.proofs.WorkListLaws.{list_length}
+use mathlib.Core.Path.{refl, ◌∙◌}
 use Rattle.areas.proofs.SumLaws.{along_of}
-use Rattle.areas.proofs.WordLaws.{one_areas, summing_none, summing_worded, summing_more, summing_done, entry, worded_words, network_still, ahead_none, ahead_less, ahead_at}
+use Rattle.areas.proofs.WordLaws.{summing_none, summing_worded, summing_back, summing_done, words_back, before_at, block_long, block_at, block_along}
 use Rattle.areas.proofs.words_along.Goals as goal
 
-pub step_offsets-offsets-requires : goal.step_offsets-offsets-requires
-step_offsets-offsets-requires c = c.requires.stepped_network.steps.wide
+pub loop-block-init : goal.loop-block-init
+loop-block-init c =
+    rw c.into_iter-block-iterator.ensures.into_iter_gives
+    (rw c.rchunks-block-items.ensures.rest (summing_none c.requires.stepped_network c.args.words.now c.requires.stepped_network.long c.to_words.ensures, λ i l. refl, c.rchunks-block-items.ensures.size))
 
-pub to_words-requires : goal.to_words-requires
-to_words-requires c = record { stepped_network = c.requires.stepped_network; whole_areas = one_areas c.args.words.now }
+pub read_ahead-requires-clause-worded : goal.read_ahead-requires-clause-worded
+read_ahead-requires-clause-worded c = rw c.new-steps.ensures (summing_worded c.requires.stepped_network c.loop-block.invariant.0)
 
-pub loop-k-init : goal.loop-k-init
-loop-k-init c = (summing_none c.requires.stepped_network c.args.words.now c.requires.stepped_network.long c.to_words.ensures, ahead_none, length-replicate {A = ℕ} 256 0)
+pub read_ahead-requires-clause-along : goal.read_ahead-requires-clause-along
+read_ahead-requires-clause-along c =
+    let s = c.loop-block.invariant in
+    rw s.0.long (block_along c.loop-block.block-iterator.rest.now c.args.order.now c.next.new.self.rest.now c.in-Some.block.now s.1 c.in-Some.ensures.steps.1.0 s.0.place (along_of c.requires.stepped_network.steps c.requires.work_list))
 
-pub slice_bounds-refill-end : goal.slice_bounds-refill-end
-slice_bounds-refill-end c = sym c.loop-k.invariant.2
+pub pass_back-requires-clause-along : goal.pass_back-requires-clause-along
+pass_back-requires-clause-along c =
+    let s = c.loop-block.invariant in
+    rw s.0.long (block_along c.loop-block.block-iterator.rest.now c.args.order.now c.next.new.self.rest.now c.in-Some.block.now s.1 c.in-Some.ensures.steps.1.0 s.0.place (along_of c.requires.stepped_network.steps c.requires.work_list))
 
-pub refill-lo-requires : goal.refill-lo-requires
-refill-lo-requires c =
-    let s = c.loop-k.invariant in
-    record { stepped_network = network_still c.requires.stepped_network (s.0.long ∙ sym c.requires.stepped_network.long); worded = summing_worded c.requires.stepped_network s.0; along = rw s.0.long (along_of c.requires.stepped_network.steps c.requires.work_list); k_nonzero = (c.loop-k-test.true, s.0.place, omega (arith, s.2), c.step_offsets-offsets.ensures); ahead = s.1 }
+pub pass_back-requires-clause-words : goal.pass_back-requires-clause-words
+pass_back-requires-clause-words c =
+    let s = c.loop-block.invariant in
+    let e = c.in-Some.ensures.steps.1.0 in
+    let rest = c.loop-block.block-iterator.rest.now in
+    let before = c.next.new.self.rest.now in
+    let block = c.in-Some.block.now in
+    words_back c.requires.stepped_network c.requires.work_list s.0 block _ (block_long rest c.args.order.now before block s.1 e) (block_at rest c.args.order.now before block s.1 e)
 
-pub overflow_sub-k : goal.overflow_sub-k
-overflow_sub-k c = omega (arith, c.loop-k-test.true)
-
-pub offset_bounds-order-k : goal.offset_bounds-order-k
-offset_bounds-order-k c = omega (arith, c.loop-k.invariant.0.place, list_length c.requires.work_list, c.requires.stepped_network.steps.few)
-
-pub bounds-order-k : goal.bounds-order-k
-bounds-order-k c = omega (arith, c.loop-k.invariant.0.place, c.loop-k-test.true)
-
-pub overflow_cast-order : goal.overflow_cast-order
-overflow_cast-order c = omega (arith, entry c.requires.stepped_network c.loop-k.invariant.0 c.requires.work_list c.loop-k-test.true, c.requires.stepped_network.steps.few)
-
-pub overflow_sub-k-in-loop-k : goal.overflow_sub-k-in-loop-k
-overflow_sub-k-in-loop-k c = omega (arith, c.refill-lo.ensures.0)
-
-pub offset_bounds-below-k : goal.offset_bounds-below-k
-offset_bounds-below-k c = omega (arith, c.refill-lo.ensures.1.few, c.refill-lo.auto.below, c.loop-k.invariant.2)
-
-pub bounds-below-k : goal.bounds-below-k
-bounds-below-k c = omega (arith, c.refill-lo.ensures.0, c.refill-lo.ensures.1.few, c.refill-lo.auto.below, c.loop-k.invariant.2)
-
-pub overflow_cast-below : goal.overflow_cast-below
-overflow_cast-below c = omega (arith, ahead_at c.refill-lo.ensures.1 c.refill-lo.ensures.0, c.requires.stepped_network.steps.inside _ (entry c.requires.stepped_network c.loop-k.invariant.0 c.requires.work_list c.loop-k-test.true), c.requires.stepped_network.steps.few)
-
-pub pass_on-requires : goal.pass_on-requires
-pass_on-requires c =
-    let s = c.loop-k.invariant.0 in
-    let l = entry c.requires.stepped_network c.loop-k.invariant.0 c.requires.work_list c.loop-k-test.true in
-    record { words = worded_words c.requires.stepped_network (summing_worded c.requires.stepped_network s); c_in_bounds = (omega (arith, l, s.long), omega (arith, ahead_at c.refill-lo.ensures.1 c.refill-lo.ensures.0, c.requires.stepped_network.steps.inside _ l, s.long)) }
-
-pub loop-k-smaller : goal.loop-k-smaller
-loop-k-smaller c = omega (arith, c.loop-k-test.true)
-
-pub loop-k-preserved : goal.loop-k-preserved
-loop-k-preserved c = let s = c.loop-k.invariant in
-    (summing_more c.requires.stepped_network s.0 c.requires.work_list c.loop-k-test.true (ahead_at c.refill-lo.ensures.1 c.refill-lo.ensures.0) c.pass_on.ensures c.pass_on.auto.words, ahead_less c.refill-lo.ensures.1 c.refill-lo.ensures.0, c.refill-lo.auto.below ∙ s.2)
-
-pub shape_of-words : goal.shape_of-words
-shape_of-words c = c.loop-k.invariant.0.long ∙ sym c.requires.stepped_network.long
+pub loop-block-preserved : goal.loop-block-preserved
+loop-block-preserved c =
+    let s = c.loop-block.invariant in
+    let e = c.in-Some.ensures.steps.1.0 in
+    let rest = c.loop-block.block-iterator.rest.now in
+    let before = c.next.new.self.rest.now in
+    let block = c.in-Some.block.now in (
+      rw c.pass_back.ensures (summing_back c.requires.stepped_network c.requires.work_list s.0 block _ (block_long rest c.args.order.now before block s.1 e) (block_at rest c.args.order.now before block s.1 e)),
+      before_at rest c.args.order.now before block s.1 e,
+      c.in-Some.ensures.steps.0 ∙ s.2,
+    )
 
 pub returns : goal.returns
-returns c = rw c.requires.stepped_network.long (summing_done c.requires.stepped_network c.loop-k.invariant.0 c.requires.work_list c.loop-k-test.false)
+returns c = rw c.requires.stepped_network.long (summing_done c.requires.stepped_network c.loop-block.invariant.0 c.requires.work_list (omega (arith, c.in-None.ensures.steps.1.0)))

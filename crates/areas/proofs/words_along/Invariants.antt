@@ -1,11 +1,10 @@
+use Prim.Native.Nat.{ℕ, ◌<◌}
 use mathlib.Core.Path.{◌≡◌}
-use lib.ListN.{length}
-use Rattle.areas.specs.Words.{Ahead}
+use lib.ListN.{length, get_or}
 use Rattle.areas.proofs.WordLaws.{Summing}
 use Rattle.areas.proofs.words_along.Given as goal
 
-abbrev pub invariant-loop-k : goal.invariant-loop-k
-invariant-loop-k l = Summing l.width l.recv l.order l.k l.words × Ahead l.recv l.order l.lo l.k l.below × (length l.below ≡ 256)
-
-abbrev pub decreases-loop-k : goal.decreases-loop-k
-decreases-loop-k l = l.k
+abbrev pub invariant-loop-block : goal.invariant-loop-block
+invariant-loop-block l =
+    let rest = l.block-iterator.rest.now in
+    Summing l.width l.recv l.order (length rest) l.words × ((i : ℕ) → i < length rest → get_or rest i 0 ≡ get_or l.order i 0) × (l.block-iterator.size ≡ 256)

@@ -1,10 +1,11 @@
 use lib.Ieee.{of_bits, nan_bits}
+use mathlib.Core.Path.{◌∙◌}
 use Rattle.floats.proofs.FiniteLaws.{above_low, not_above_low}
 use Rattle.floats.proofs.is_finite.Goals as goal
 
-pub float_from_bits-t-2 : goal.float_from_bits-t-2
+pub float_from_bits-t-3 : goal.float_from_bits-t-3
 unfolding nan_bits
-float_from_bits-t-2 c = tt
+float_from_bits-t-3 c = tt
 
 pub float_from_bits-result : goal.float_from_bits-result
 unfolding nan_bits
@@ -14,6 +15,6 @@ pub returns-then-x : goal.returns-then-x
 unfolding of_bits
 returns-then-x c = above_low _ c.if-x.true
 
-pub returns : goal.returns
+pub returns-else-x : goal.returns-else-x
 unfolding of_bits
-returns c = not_above_low _ c.if-x.false
+returns-else-x c = c.if-x.false ∙ not_above_low _ c.if-x.false

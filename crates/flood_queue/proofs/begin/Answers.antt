@@ -5,14 +5,14 @@ use Rattle.flood_sort.proofs.SortedLaws.{sorted}
 use Rattle.flood_queue.proofs.BeginLaws.{begun_sorted, begun_gathered}
 use Rattle.flood_queue.proofs.begin.Goals as goal
 
-pub limit_at-limit-requires : goal.limit_at-limit-requires
-limit_at-limit-requires c = λ l. (sorted c.args.h.now c.args.list.now (sym c.requires.sorted_value ∙ c.if-sorted.true)).cells 0 l
+pub limit_at-requires : goal.limit_at-requires
+limit_at-requires c = λ l. (sorted c.args.h.now c.args.list.now (sym c.requires.sorted_value ∙ c.if-sorted.true)).cells 0 l
 
 pub returns-then-sorted : goal.returns-then-sorted
-returns-then-sorted c = let a = c.args in begun_sorted a.h.now a.list.now a.status.now a.spill.now a.queue.now c.requires.begins (sym c.requires.sorted_value ∙ c.if-sorted.true) _ _ c.limit_at-limit.ensures
+returns-then-sorted c = let a = c.args in begun_sorted a.h.now a.list.now a.status.now a.spill.now a.queue.now c.requires.begins (sym c.requires.sorted_value ∙ c.if-sorted.true) _ c.limit_at.ensures
 
-pub gather_all-len-requires : goal.gather_all-len-requires
-gather_all-len-requires c =
+pub gather_all-requires : goal.gather_all-requires
+gather_all-requires c =
     let b = c.requires.begins in
     record {
       status_len = b.statuses ∙ sym (ap length b.spills);
@@ -21,4 +21,4 @@ gather_all-len-requires c =
     }
 
 pub returns : goal.returns
-returns c = let a = c.args in begun_gathered a.h.now a.list.now a.status.now a.spill.now a.queue.now c.requires.begins c.type_inv.h _ _ _ refl c.gather_all-len.ensures
+returns c = let a = c.args in begun_gathered a.h.now a.list.now a.status.now a.spill.now a.queue.now c.requires.begins c.type_inv.h _ _ _ refl c.gather_all.ensures

@@ -7,18 +7,12 @@ use Rattle.flood_start.proofs.mark_base.Goals as goal
 pub loop-y-init : goal.loop-y-init
 loop-y-init c = (omega arith, refl, rows_none _ (marks _ _ c.args.h.now c.args.land) _)
 
-pub mark_row-requires : goal.mark_row-requires
-mark_row-requires c = record { y_lt_h = omega arith; h_len = omega arith; status_len = omega arith }
-
 pub loop-y-preserved : goal.loop-y-preserved
 loop-y-preserved c = let a = c.args in (
   omega arith,
   c.mark_row.auto.status ∙ c.loop-y.invariant.1,
   rows_more _ _ (marks _ _ a.h.now a.land) (mark_at a.g.w a.g.h a.h.now a.land) a.status.now c.requires.status_len (λ x y l _. mark_is a.g.w a.g.h a.h.now a.land x y l) _ c.loop-y-test.true _ _ c.loop-y.invariant.2 c.mark_row.ensures,
 )
-
-pub shape_of-status : goal.shape_of-status
-shape_of-status c = c.loop-y.invariant.1
 
 pub returns : goal.returns
 returns c = let a = c.args in

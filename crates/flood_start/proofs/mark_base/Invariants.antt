@@ -1,5 +1,5 @@
 use Rattle.flood_start.proofs.StartLaws.{marks}
-use Prim.Native.Nat.{◌-◌, ◌*◌, ◌≤◌}
+use Prim.Native.Nat.{◌*◌, ◌≤◌}
 use mathlib.Core.Path.{◌≡◌}
 use lib.ListN.{length}
 use Rattle.loops.proofs.TableLaws.{filled}
@@ -7,6 +7,3 @@ use Rattle.flood_start.proofs.mark_base.Given as goal
 
 abbrev pub invariant-loop-y : goal.invariant-loop-y
 invariant-loop-y l = (l.y ≤ l.g.h) × (length l.status ≡ length l.initial.status) × (l.status ≡ filled (marks l.g.w l.g.h l.h l.land) (l.y * l.g.w) l.initial.status)
-
-abbrev pub decreases-loop-y : goal.decreases-loop-y
-decreases-loop-y l = l.g.h - l.y

@@ -6,7 +6,7 @@ use Prim.Native.Nat.{◌*◌, ◌<◌}
 use native.Mathlib.Omega.{arith}
 use mathlib.Core.Path.{refl, sym}
 use lib.ListN.{length-set}
-use Rattle.grid.proofs.SidesLaws.{row_end, cell_lt}
+use Rattle.grid.proofs.SidesLaws.{cell_lt}
 use Rattle.loops.proofs.TurnLaws.{turns_none}
 use Rattle.loops.proofs.LoopLaws.{at_end}
 use Rattle.flood_start.proofs.mark_row.Goals as goal
@@ -15,30 +15,12 @@ use Rattle.flood_start.proofs.mark_row.Goals.{In-loop-x}
 inside : (c : In-loop-x) → cell_of c.args.g.w c.loop-x.x c.args.y < c.args.g.w * c.args.g.h
 inside c = cell_lt _ _ _ c.loop-x-test.true _ c.requires.y_lt_h
 
-pub overflow_mul-row : goal.overflow_mul-row
-overflow_mul-row c = omega (arith, c.requires.h_len, row_end c.args.g.w c.args.g.h _ c.requires.y_lt_h)
-
 pub loop-x-init : goal.loop-x-init
 loop-x-init c = (omega arith, refl, sym (turns_none _ _))
-
-pub overflow_add-c : goal.overflow_add-c
-overflow_add-c c = omega (arith, inside c)
-
-pub offset_bounds-h-c : goal.offset_bounds-h-c
-offset_bounds-h-c c = omega (arith, inside c)
-
-pub bounds-h-c : goal.bounds-h-c
-bounds-h-c c = omega (arith, inside (goal.at.bounds-h-c c).In-loop-x)
-
-pub bounds-status-c : goal.bounds-status-c
-bounds-status-c c = omega (arith, inside (goal.at.bounds-status-c c).In-loop-x)
 
 pub loop-x-preserved : goal.loop-x-preserved
 loop-x-preserved c = let a = c.args in
     (omega arith, simp length-set c.loop-x.invariant.1, row_more a.g.w (mark_at a.g.w a.g.h a.h.now a.land) a.y _ _ _ _ c.loop-x.invariant.2 c.start_status.ensures)
-
-pub shape_of-status : goal.shape_of-status
-shape_of-status c = c.loop-x.invariant.1
 
 pub returns : goal.returns
 returns c = let a = c.args in

@@ -1,11 +1,6 @@
-use Prim.Native.Nat.{◌-◌}
-use lib.ListN.{length}
 use Rattle.incision_cell.specs.Cut.{cut_down}
 use Rattle.fluvial_erosion.proofs.CellLaws.{Incising}
 use Rattle.fluvial_erosion.proofs.incise_plain.Given as goal
 
-abbrev pub invariant-loop-i : goal.invariant-loop-i
-invariant-loop-i l = Incising (cut_down l.by l.area l.recv) l.recv l.order l.initial.out l.i l.out
-
-abbrev pub decreases-loop-i : goal.decreases-loop-i
-decreases-loop-i l = length l.order - l.i
+abbrev pub invariant-loop-c : goal.invariant-loop-c
+invariant-loop-c l = Incising (cut_down l.by l.area l.recv) l.recv l.order l.initial.out l.c-index l.out

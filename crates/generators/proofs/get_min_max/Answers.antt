@@ -1,10 +1,10 @@
 use mathlib.Core.Path.{ap}
 use Rattle.answers.specs.Outcome.{gives, refused_at}
-use Rattle.grid.proofs.HeightsLaws.{all_finite_lem, not_all_finite}
+use Rattle.grid.proofs.HeightsLaws.{bad_height, bad_height_is, no_bad_height}
 use Rattle.generators.proofs.get_min_max.Goals as goal
 
-pub returns-then-bad-n : goal.returns-then-bad-n
-returns-then-bad-n c = rw (not_all_finite _ _ c.first_not_finite-bad.ensures c.if-bad-n.true) (ap (refused_at 5) c.first_not_finite-bad.ensures)
+pub returns-in-Some : goal.returns-in-Some
+returns-in-Some c = rw (bad_height _ c.first_not_finite.ensures c.in-Some.is) (ap (refused_at 5) (bad_height_is _ c.first_not_finite.ensures c.in-Some.is))
 
 pub returns : goal.returns
-returns c = rw (all_finite_lem _ _ c.first_not_finite-bad.ensures c.if-bad-n.false) (ap gives c.min_max.ensures)
+returns c = rw (no_bad_height _ c.first_not_finite.ensures c.in_default.is) (ap gives c.min_max.ensures)

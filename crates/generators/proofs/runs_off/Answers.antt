@@ -1,19 +1,23 @@
-use mathlib.Core.Path.{sym, ap, ◌∙◌}
-use mathlib.Core.Bool.{not}
+use Rattle.std.proofs.Common.{rules, tests}
+use Rattle.std.proofs.lemmas.Iterator.{YieldsList-from_slice}
+use Rattle.std.proofs.lemmas.Iterator.Search.{all_from_yields_List}
+use Rattle.std.specs.List.{list_all}
+use mathlib.Core.Path.{◌≡◌, refl, sym, ap, ◌∙◌}
+use mathlib.Core.Bool.{Bool, not, ◌&&◌}
+use mathlib.Core.List.{List, [], ◌∷◌, map}
+use lib.Ieee.{Float}
 use lib.Ieee.Scale.{finite}
-use Rattle.generators.proofs.ExtentsLaws.{test_none, test_more, test_bad, test_done}
+use Rattle.grid.specs.Heights.{all_finite, first_not_finite}
+use Rattle.grid.proofs.HeightsLaws.{all_cons}
+use Rattle.generators.specs.Extents.{scaled_by}
 use Rattle.generators.proofs.runs_off.Goals as goal
 
-pub loop-i-init : goal.loop-i-init
-loop-i-init c = test_none _ _
-
-pub returns-then-not-is_finite : goal.returns-then-not-is_finite
-returns-then-not-is_finite c = sym (ap not (test_bad _ _ _ c.loop-i.invariant c.loop-i-test.true
-    (ap finite (sym c.scaled.ensures) ∙ sym c.is_finite.ensures ∙ c.if-not-is_finite.true)))
-
-pub loop-i-preserved : goal.loop-i-preserved
-loop-i-preserved c = test_more _ _ _ c.loop-i.invariant c.loop-i-test.true
-    (ap finite (sym c.scaled.ensures) ∙ sym c.is_finite.ensures ∙ c.if-not-is_finite.false)
+all_each : (g : Float → Float) (v : List Float) → list_all (λ x. finite (g x)) v ≡ all_finite (map g v)
+unfolding all_finite first_not_finite
+all_each g [] = refl
+all_each g (x ∷ xs) = ap (λ (b : Bool). finite (g x) && b) (all_each g xs) ∙ sym (all_cons (g x) (map g xs))
 
 pub returns : goal.returns
-returns c = sym (ap not (test_done _ _ _ c.loop-i.invariant c.loop-i-test.false))
+returns c = let a = c.args in
+    ap not (all_from_yields_List (λ x. finite (scaled_by a.min a.lo a.slope x)) _ _ _ c.all.ensures.ran (YieldsList-from_slice a.v.now cc) (λ x b q k. search (rules, tests))
+    ∙ all_each (scaled_by a.min a.lo a.slope) a.v.now)

@@ -5,9 +5,6 @@ use Rattle.grid.proofs.search_rows.Given as goal
 abbrev pub invariant-loop-x : goal.invariant-loop-x
 invariant-loop-x l = Sought l.w l.hs l.x l.y
 
-abbrev pub decreases-loop-x : goal.decreases-loop-x
-decreases-loop-x l = l.w - l.x
-
 abbrev pub invariant-rows : goal.invariant-rows
 invariant-rows l = Sought l.w l.hs 0 l.y
 

@@ -1,8 +1,9 @@
-use mathlib.Core.Path.{sym, ap}
-use Rattle.answers.specs.Outcome.{answer_of}
-use Rattle.harness_calls.proofs.WordLaws.{word_of_refusal}
+use Rattle.std.proofs.Common.{rules, tests}
+use mathlib.Core.Path.{◌∙◌}
+use Rattle.harness_calls.proofs.WordLaws.{word_of_mapped}
 use Rattle.harness_calls.proofs.word.Goals as goal
 
-pub returns-in-Refused : goal.returns-in-Refused
-returns-in-Refused c = word_of_refusal (λ _. 0) (answer_of c.args.a) c.in-Refused.r
-    (ap answer_of (sym c.in-Refused.is)) c.refusal_word.ensures
+pub returns : goal.returns
+returns c =
+    let m = word_of_mapped (λ _. 0) c.args.a c.map.result c.map.ensures.cases in
+    c.answer_word.ensures ∙ m (λ x v k. search (rules, tests))

@@ -1,10 +1,7 @@
 use native.Mathlib.Omega.{arith}
 use Rattle.floats.proofs.BitsLaws.{no_nan_pattern}
-use Rattle.areas.proofs.WordLaws.{word_plain, word_small}
+use Rattle.areas.proofs.WordLaws.{word_small}
 use Rattle.incision_paths.proofs.mark_done.Goals as goal
-
-pub float_to_bits-word : goal.float_to_bits-word
-float_to_bits-word c = word_plain c.requires.1
 
 pub overflow_add-words : goal.overflow_add-words
 overflow_add-words c = omega (arith, word_small c.requires.1)

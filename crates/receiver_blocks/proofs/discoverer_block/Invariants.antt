@@ -1,11 +1,10 @@
-use Prim.Native.Nat.{◌+◌, ◌-◌, ◌≤◌}
+use Prim.Native.Nat.{◌+◌}
 use lib.ListN.{get_or}
 use Rattle.loops.proofs.FillLaws.{Filling}
 use Rattle.receiver_blocks.specs.Runs.{discoverer_as}
 use Rattle.receiver_blocks.proofs.discoverer_block.Given as goal
 
 abbrev pub invariant-loop-i : goal.invariant-loop-i
-invariant-loop-i l = (l.i ≤ l.n) × (Filling (λ k. (discoverer_as l.ds l.w l.spill (l.c + k) (get_or l.recv (l.c + k) 0)).cell) l.i l.initial.cells l.cells × Filling (λ k. (discoverer_as l.ds l.w l.spill (l.c + k) (get_or l.recv (l.c + k) 0)).slope) l.i l.initial.slopes l.slopes)
-
-abbrev pub decreases-loop-i : goal.decreases-loop-i
-decreases-loop-i l = l.n - l.i
+invariant-loop-i l =
+    Filling (λ k. (discoverer_as l.tables.distances l.w l.block.spill.heights.now (l.block.first + k) (get_or l.recv (l.block.first + k) 0)).cell) l.i l.initial.cells l.cells
+    × Filling (λ k. (discoverer_as l.tables.distances l.w l.block.spill.heights.now (l.block.first + k) (get_or l.recv (l.block.first + k) 0)).slope) l.i l.initial.slopes l.slopes

@@ -1,10 +1,6 @@
 use borrow.Author.Tests.{lt-ltb, le-ltb}
 use Rattle.receiver_steps.specs.Step.{step_of}
-use Rattle.receiver_steps.proofs.StepLaws.{step_back}
 use Rattle.receiver_steps.proofs.step_of.Goals as goal
-
-pub overflow_sub-past : goal.overflow_sub-past
-overflow_sub-past c = (step_back c.requires.near c.requires.le_width.0).north
 
 pub returns-then-past-width : goal.returns-then-past-width
 unfolding step_of

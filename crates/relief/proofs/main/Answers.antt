@@ -5,7 +5,7 @@ use native.Mathlib.Omega.{arith}
 use Rattle.relief.proofs.main.Goals as goal
 
 pub slice_bounds-out-end : goal.slice_bounds-out-end
-slice_bounds-out-end c = omega (arith, relief_inside _ c.output_buffer-out.result c.in-Bytes.k c.relief-written.ensures c.in-Bytes.is, c.relief-written.auto.out)
+slice_bounds-out-end c = omega (arith, relief_inside _ c.output_buffer-out.result c.in-Ok.k c.relief-written.ensures c.in-Ok.is, c.relief-written.auto.out)
 
 pub slice_bounds-write_stdout-end : goal.slice_bounds-write_stdout-end
-slice_bounds-write_stdout-end c = sym (length-take-le _ c.relief-written.new.out (omega (arith, relief_inside _ c.output_buffer-out.result c.in-Bytes.k c.relief-written.ensures c.in-Bytes.is, c.relief-written.auto.out)))
+slice_bounds-write_stdout-end c = sym (length-take-le _ c.relief-written.new.out (omega (arith, relief_inside _ c.output_buffer-out.result c.in-Ok.k c.relief-written.ensures c.in-Ok.is, c.relief-written.auto.out)))

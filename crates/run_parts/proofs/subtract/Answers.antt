@@ -9,20 +9,8 @@ loop-i-init c = filling_none
 pub offset_bounds-eroded-i : goal.offset_bounds-eroded-i
 offset_bounds-eroded-i c = omega (arith, filling_length c.loop-i.invariant)
 
-pub bounds-eroded-i : goal.bounds-eroded-i
-bounds-eroded-i c = omega (arith, filling_length c.loop-i.invariant)
-
-pub offset_bounds-eroded-i-in-loop-i : goal.offset_bounds-eroded-i-in-loop-i
-offset_bounds-eroded-i-in-loop-i c = omega (arith, filling_length c.loop-i.invariant)
-
-pub bounds-eroded-i-in-loop-i : goal.bounds-eroded-i-in-loop-i
-bounds-eroded-i-in-loop-i c = omega (arith, filling_length c.loop-i.invariant)
-
 pub loop-i-preserved : goal.loop-i-preserved
 loop-i-preserved c = subtracted_more _ c.args.small.now c.loop-i.invariant (omega arith)
-
-pub shape_of-eroded : goal.shape_of-eroded
-shape_of-eroded c = filling_length c.loop-i.invariant
 
 pub returns : goal.returns
 returns c = subtracted_done _ _ c.loop-i.invariant c.requires c.loop-i-test.false

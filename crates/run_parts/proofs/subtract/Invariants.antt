@@ -1,11 +1,6 @@
 use Rattle.loops.proofs.FillLaws.{Filling}
 use Rattle.run_parts.proofs.ReachedLaws.{subtracted}
-use lib.ListN.{length}
-use Prim.Native.Nat.{◌-◌}
 use Rattle.run_parts.proofs.subtract.Given as goal
 
 abbrev pub invariant-loop-i : goal.invariant-loop-i
 invariant-loop-i l = Filling (subtracted l.initial.eroded l.small) l.i l.initial.eroded l.eroded
-
-abbrev pub decreases-loop-i : goal.decreases-loop-i
-decreases-loop-i l = length l.small - l.i

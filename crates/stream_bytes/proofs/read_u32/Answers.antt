@@ -1,8 +1,12 @@
-use mathlib.Core.Path.{ap₂}
-use Prim.Native.Nat.{ℕ, ◌+◌, ◌*◌}
-use Rattle.stream_bytes.specs.Bytes.{number4}
+use Prim.Native.Nat.{◌+◌}
+use native.Mathlib.Omega.{arith}
+use lib.ListN.{get_or}
+use mathlib.Core.Path.{◌≡◌, ap}
+use Rattle.stream_bytes.specs.Bytes.{number4, number2}
 use Rattle.stream_bytes.proofs.read_u32.Goals as goal
 
 pub returns : goal.returns
-unfolding number4
-returns c = ap₂ (λ (a b : ℕ). a + b * 65536) c.read_u16.ensures c.read_u16-2.ensures
+unfolding number4 number2
+returns c = let last : c.args.at + 3 ≡ c.args.at + 2 + 1 = omega arith in
+    let e = ap (λ i. get_or c.args.bytes.now i 0) last in
+    omega (arith, c.from_le_bytes.ensures, e)

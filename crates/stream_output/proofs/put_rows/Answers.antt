@@ -16,17 +16,11 @@ overflow_add-w c = omega (arith, row_room c.args.size.w c.args.size.h _ c.loop-y
 pub overflow_mul-y : goal.overflow_mul-y
 overflow_mul-y c = omega (arith, row_room c.args.size.w c.args.size.h _ c.loop-y-test.true _ c.requires.h_in_bounds)
 
-pub overflow_add-y : goal.overflow_add-y
-overflow_add-y c = omega (arith, row_room c.args.size.w c.args.size.h _ c.loop-y-test.true _ c.requires.h_in_bounds)
-
 pub overflow_mul-y-in-loop-y : goal.overflow_mul-y-in-loop-y
 overflow_mul-y-in-loop-y c = omega (arith, row_end c.args.size.w c.args.size.h _ c.loop-y-test.true, c.requires.map_len)
 
 pub put_row-requires : goal.put_row-requires
 put_row-requires c = record { w_in_bounds = omega (arith, row_room c.args.size.w c.args.size.h _ c.loop-y-test.true _ c.requires.h_in_bounds, putting_kept c.loop-y.invariant); w_in_bounds_2 = omega (arith, row_end c.args.size.w c.args.size.h _ c.loop-y-test.true, c.requires.map_len) }
-
-pub overflow_add-y-in-loop-y : goal.overflow_add-y-in-loop-y
-overflow_add-y-in-loop-y c = omega (arith, row_room c.args.size.w c.args.size.h _ c.loop-y-test.true _ c.requires.h_in_bounds)
 
 pub loop-y-smaller : goal.loop-y-smaller
 loop-y-smaller c = omega (arith, c.loop-y-test.true)

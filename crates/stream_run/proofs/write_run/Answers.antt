@@ -1,7 +1,7 @@
 use Rattle.stream_run.proofs.ReadLaws.{accepted_stream}
-use Rattle.stream_run.proofs.ReliefLaws.{part_again, part_relief}
+use Rattle.stream_run.proofs.ReliefLaws.{part_length, part_again, part_relief}
 use lib.Seq.{length-take-le}
-use mathlib.Core.Path.{sym}
+use mathlib.Core.Path.{refl, sym}
 use native.Mathlib.Omega.{arith}
 use Rattle.stream_run.proofs.write_run.Goals as goal
 
@@ -9,19 +9,19 @@ pub overflow_mul-n : goal.overflow_mul-n
 overflow_mul-n c = omega (arith, (accepted_stream _ _ c.requires).few)
 
 pub slice_bounds-map-end : goal.slice_bounds-map-end
-slice_bounds-map-end c = omega (arith, c.heights-map.ensures, (accepted_stream _ _ c.requires).few)
+slice_bounds-map-end c = (accepted_stream _ _ c.requires).few
 
 pub slice_bounds-run_stream-end : goal.slice_bounds-run_stream-end
-slice_bounds-run_stream-end c = sym (length-take-le _ c.heights-map.result (omega (arith, c.heights-map.ensures, (accepted_stream _ _ c.requires).few)))
+slice_bounds-run_stream-end c = sym (part_length _ _ c.requires _ refl)
 
 pub run_stream-run-requires : goal.run_stream-run-requires
-run_stream-run-requires c = record { accepted_stream = accepted_stream _ _ c.requires; map_len = length-take-le _ c.heights-map.result (omega (arith, c.heights-map.ensures, (accepted_stream _ _ c.requires).few)) }
+run_stream-run-requires c = record { accepted_stream = accepted_stream _ _ c.requires; map_len = part_length _ _ c.requires _ refl }
 
 pub slice_bounds-map-end-2 : goal.slice_bounds-map-end-2
-slice_bounds-map-end-2 c = part_again _ _ c.requires c.heights-map.result c.heights-map.ensures c.run_stream-run.new.map c.run_stream-run.auto.map
+slice_bounds-map-end-2 c = part_again _ _ c.requires _ refl c.run_stream-run.new.map c.run_stream-run.auto.map
 
 pub slice_bounds-write_output-end : goal.slice_bounds-write_output-end
-slice_bounds-write_output-end c = sym (length-take-le _ _ (part_again _ _ c.requires c.heights-map.result c.heights-map.ensures c.run_stream-run.new.map c.run_stream-run.auto.map))
+slice_bounds-write_output-end c = sym (length-take-le _ _ (part_again _ _ c.requires _ refl c.run_stream-run.new.map c.run_stream-run.auto.map))
 
 pub returns : goal.returns
-returns c = part_relief _ _ c.requires c.heights-map.result c.heights-map.ensures c.run_stream-run.new.map c.run_stream-run.auto.map c.run_stream-run.result c.run_stream-run.ensures c.write_output.ensures
+returns c = part_relief _ _ c.requires _ refl c.run_stream-run.new.map c.run_stream-run.auto.map c.run_stream-run.result c.run_stream-run.ensures c.write_output.ensures

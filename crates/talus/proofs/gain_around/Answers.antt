@@ -1,34 +1,29 @@
-use mathlib.Core.Path.{◌≡◌, refl, ◌∙◌}
-use Rattle.grid.specs.Directions.{neighbour_at}
+use mathlib.Core.Path.{refl, ◌∙◌}
+use native.Mathlib.Omega.{arith}
 use Rattle.grid.proofs.NeighbourLaws.{entry_step, entry_neighbour}
 use Rattle.talus.specs.Talus.{gains_of}
-use Rattle.talus.proofs.StepLaws.{cell_below, inner_in_map, gain_step_lem, around_none, around_more, around_done}
+use Rattle.talus.proofs.StepLaws.{cell_below, gain_step_in, gain_step_out, none_there, around_none, around_more, around_done}
 use Rattle.talus.proofs.gain_around.Goals as goal
-use Rattle.talus.proofs.gain_around.Goals.{After-cell_toward-m}
+use Rattle.talus.proofs.gain_around.Goals.{in-Some, in_default}
 
 pub loop-d-init : goal.loop-d-init
-loop-d-init c = (around_none _ _, refl)
+loop-d-init g c = (around_none _ _, refl)
 
-pub cell_toward-m-requires : goal.cell_toward-m-requires
-cell_toward-m-requires c = record { cell_at = record { place = c.requires.cell_at.place; cells = refl; cell = c.requires.cell_at.cell }; inner = c.requires.inner; step = entry_step c.loop-d.d }
+pub gain_at-requires-clause-c_in_bounds : goal.gain_at-requires-clause-c_in_bounds
+gain_at-requires-clause-c_in_bounds g c = omega (arith, cell_below c.args.cell.at)
 
--- the neighbour of this turn
-near : (c : After-cell_toward-m) → c.cell_toward-m.result ≡ neighbour_at c.args.size.w c.args.size.h c.args.c c.loop-d.d
-near c = entry_neighbour _ _ _ _ c.loop-d.d c.cell_toward-m.ensures
-
-pub gain_toward-requires : goal.gain_toward-requires
-gain_toward-requires c = record { out_len = c.loop-d.invariant.1 ∙ c.requires.out_len; c_in_bounds = cell_below c.requires.cell_at; m_in_bounds = inner_in_map c.requires.inner c.loop-d.d _ _ c.loop-d.invariant.0.first c.loop-d-test.true c.requires.cell_at.cells (near (goal.at.gain_toward-requires c).After-cell_toward-m); d_bound = c.loop-d-test.true }
+pub toward-requires-clause-step : goal.toward-requires-clause-step
+toward-requires-clause-step g c = entry_step c.loop-d.d
 
 pub loop-d-preserved : goal.loop-d-preserved
-loop-d-preserved c = (
-  around_more _ _ _ _ _ c.loop-d.invariant.0 c.loop-d-test.true
-      (gain_step_lem _ _ _ _ _ _ c.loop-d.d _ c.requires.cell_at.cells (near (goal.at.loop-d-preserved c).After-cell_toward-m) _ _ _ _ c.gain_toward.ensures),
-  c.gain_toward.auto.out ∙ c.loop-d.invariant.1,
+loop-d-preserved g c = (
+  elim c.match-toward.branch [
+    | in-Some w ↦ around_more _ _ _ _ _ c.loop-d.invariant.0 c.loop-d-test.true (gain_step_in _ _ _ _ _ _ _ (entry_neighbour _ _ _ _ c.loop-d.d w.in-Some.ensures.0) w.in-Some.ensures.1 _ _ _ _ (w.out-is ∙ w.gain_at.ensures))
+    | in_default w ↦ around_more _ _ _ _ _ c.loop-d.invariant.0 c.loop-d-test.true (gain_step_out _ _ _ _ _ _ (none_there _ _ c.args.cell.c c.loop-d.d w.in_default.ensures) _ _ _ _ w.out-is)
+  ],
+  c.match-toward.auto.out ∙ c.loop-d.invariant.1,
 )
-
-pub shape_of-out : goal.shape_of-out
-shape_of-out c = c.loop-d.invariant.1
 
 pub returns : goal.returns
 unfolding gains_of
-returns c = around_done _ _ _ _ c.loop-d.invariant.0 c.loop-d-test.false
+returns g c = around_done _ _ _ _ c.loop-d.invariant.0 c.loop-d-test.false

@@ -1,10 +1,9 @@
-use Prim.Native.Nat.{◌+◌, ◌-◌, ◌*◌}
+use Prim.Native.Nat.{◌+◌, ◌*◌}
 use Rattle.talus.specs.Talus.{slide_cell}
 use Rattle.talus.proofs.RowLaws.{Passing}
 use Rattle.talus.proofs.slide_cells.Given as goal
 
 abbrev pub invariant-loop-i : goal.invariant-loop-i
-invariant-loop-i l = Passing (λ k. slide_cell l.size.w l.size.h l.ts l.hmap l.strength l.water (l.x + k + l.y * l.size.w)) l.n l.i l.initial.out l.out
-
-abbrev pub decreases-loop-i : goal.decreases-loop-i
-decreases-loop-i l = l.n - l.i
+invariant-loop-i l =
+    let a = l.cells in
+    Passing (λ k. slide_cell a.map.size.w a.map.size.h l.slide.thresholds a.map.heights.now l.slide.strength l.slide.water (a.x + k + a.y * a.map.size.w)) a.n l.i l.initial.out l.out

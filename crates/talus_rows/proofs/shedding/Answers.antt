@@ -10,24 +10,12 @@ pub loop-i-init : goal.loop-i-init
 unfolding shedders
 loop-i-init c = (refl, omega arith)
 
-pub offset_bounds-totals-i : goal.offset_bounds-totals-i
-offset_bounds-totals-i c = omega (arith, c.loop-i-test.true, c.requires)
-
-pub bounds-totals-i : goal.bounds-totals-i
-bounds-totals-i c = omega (arith, c.loop-i-test.true, c.requires)
-
 -- at most as many as were looked at
 few : (c : After-sheds-k) → c.loop-i.k + c.sheds-k.result ≤ c.loop-i.i + 1
 few c = omega (arith, shedders_more _ c.loop-i.i _ _ c.loop-i.invariant.0 c.sheds-k.ensures, shedders_most c.args.totals.now (c.loop-i.i + 1))
 
 pub overflow_add-k : goal.overflow_add-k
 overflow_add-k c = omega (arith, few c, c.loop-i-test.true, c.requires)
-
-pub overflow_add-i : goal.overflow_add-i
-overflow_add-i c = omega (arith, c.loop-i-test.true, c.requires)
-
-pub loop-i-smaller : goal.loop-i-smaller
-loop-i-smaller c = omega (arith, c.loop-i-test.true)
 
 pub loop-i-preserved : goal.loop-i-preserved
 loop-i-preserved c = (shedders_more _ c.loop-i.i _ _ c.loop-i.invariant.0 c.sheds-k.ensures, omega (arith, c.loop-i-test.true))

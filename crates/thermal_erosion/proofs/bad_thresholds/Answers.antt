@@ -1,16 +1,20 @@
-use mathlib.Core.Path.{sym, ◌∙◌}
-use Rattle.thermal_erosion.proofs.ThresholdLaws.{checked_none, checked_more, checked_bad, checked_done}
-use borrow.Author.Rules.{rules}
+use Rattle.std.proofs.Common.{rules, tests}
+use Rattle.std.proofs.lemmas.Iterator.{YieldsList-from_slice}
+use Rattle.std.proofs.lemmas.Iterator.Search.{any_from_yields_List}
+use Rattle.std.specs.List.{list_any}
+use mathlib.Core.Path.{◌≡◌, refl, ap, ◌∙◌}
+use mathlib.Core.Bool.{Bool, ◌||◌}
+use mathlib.Core.List.{List, [], ◌∷◌}
+use lib.Ieee.{Float}
+use Rattle.thermal_erosion.specs.OverPass.{bad_of_eight, bad_thresholds}
 use Rattle.thermal_erosion.proofs.bad_thresholds.Goals as goal
 
-pub loop-i-init : goal.loop-i-init
-loop-i-init c = checked_none
-
-pub returns-then-outside : goal.returns-then-outside
-returns-then-outside c = checked_bad c.loop-i.invariant (search rules) (sym c.outside.ensures ∙ c.if-outside.true)
-
-pub loop-i-preserved : goal.loop-i-preserved
-loop-i-preserved c = checked_more c.loop-i.invariant (search rules) (sym c.outside.ensures ∙ c.if-outside.false)
+some_bad : (ts : List Float) → list_any bad_of_eight ts ≡ bad_thresholds ts
+unfolding bad_thresholds
+some_bad [] = refl
+some_bad (t ∷ ts) = ap (λ (b : Bool). bad_of_eight t || b) (some_bad ts)
 
 pub returns : goal.returns
-returns c = checked_done c.loop-i.invariant (search rules)
+returns c =
+    any_from_yields_List bad_of_eight _ _ _ c.any.ensures.ran (YieldsList-from_slice c.args.eight cc) (λ x b q k. search (rules, tests))
+    ∙ some_bad c.args.eight

@@ -25,9 +25,6 @@ fraction-requires c = record { y_bound = omega (arith, c.requires); h_bound = c.
 pub ask-marks-requires : goal.ask-marks-requires
 ask-marks-requires c = omega (arith, c.requires, c.loop-y-test.true, rowed_asked c.loop-y.invariant)
 
-pub overflow_add-y : goal.overflow_add-y
-overflow_add-y c = omega (arith, c.requires, c.loop-y-test.true)
-
 pub loop-y-smaller : goal.loop-y-smaller
 loop-y-smaller c = omega (arith, c.loop-y-test.true)
 

@@ -9,35 +9,11 @@ use Rattle.thermal_run.proofs.erode.Goals as goal
 pub overflow_mul-m : goal.overflow_mul-m
 overflow_mul-m c = range_fit (within_range c.requires.sides)
 
-pub slice_bounds-slide_passes-end : goal.slice_bounds-slide_passes-end
-slice_bounds-slide_passes-end c = copy_room c.requires
-
-pub slice_bounds-slide_passes-end-then-on_map : goal.slice_bounds-slide_passes-end-then-on_map
-slice_bounds-slide_passes-end-then-on_map c = sym (length-take-le _ _ (copy_room c.requires))
-
 pub slide_passes-requires : goal.slide_passes-requires
 slide_passes-requires c = erodes_slides c.requires c.on_map.ensures c.if-on_map.true (length-take-le _ _ (copy_room c.requires))
 
 pub returns-then-on_map : goal.returns-then-on_map
 returns-then-on_map c = whole_on_map _ _ _ _ (sym c.on_map.ensures ∙ c.if-on_map.true) c.slide_passes.ensures
-
-pub slice_bounds-erode_reduced-end : goal.slice_bounds-erode_reduced-end
-slice_bounds-erode_reduced-end c = small_room c.requires
-
-pub slice_bounds-erode_reduced-end-2 : goal.slice_bounds-erode_reduced-end-2
-slice_bounds-erode_reduced-end-2 c = sym (length-take-le _ _ (small_room c.requires))
-
-pub slice_bounds-erode_reduced-end-3 : goal.slice_bounds-erode_reduced-end-3
-slice_bounds-erode_reduced-end-3 c = eroded_room c.requires
-
-pub slice_bounds-erode_reduced-end-4 : goal.slice_bounds-erode_reduced-end-4
-slice_bounds-erode_reduced-end-4 c = sym (length-take-le _ _ (eroded_room c.requires))
-
-pub slice_bounds-erode_reduced-end-5 : goal.slice_bounds-erode_reduced-end-5
-slice_bounds-erode_reduced-end-5 c = copy_room c.requires
-
-pub slice_bounds-erode_reduced-end-6 : goal.slice_bounds-erode_reduced-end-6
-slice_bounds-erode_reduced-end-6 c = sym (length-take-le _ _ (copy_room c.requires))
 
 pub erode_reduced-requires : goal.erode_reduced-requires
 erode_reduced-requires c = record { h_value = sym c.on_map.ensures ∙ c.if-on_map.false; thermal_reduces = erodes_reduces c.requires (length-take-le _ _ (small_room c.requires)) (length-take-le _ _ (eroded_room c.requires)) (length-take-le _ _ (copy_room c.requires)) }

@@ -27,9 +27,6 @@ offset_bounds-south-x c = omega (arith, c.loop-x-test.true, c.requires)
 pub bounds-south-x : goal.bounds-south-x
 bounds-south-x c = omega (arith, c.loop-x-test.true, c.requires)
 
-pub overflow_add-x : goal.overflow_add-x
-overflow_add-x c = omega (arith, c.loop-x-test.true, c.requires)
-
 pub loop-x-smaller : goal.loop-x-smaller
 loop-x-smaller c = omega (arith, c.loop-x-test.true)
 

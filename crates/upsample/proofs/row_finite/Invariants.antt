@@ -1,4 +1,4 @@
-use Prim.Native.Nat.{◌-◌, ◌≤◌}
+use Prim.Native.Nat.{◌≤◌}
 use mathlib.Core.Path.{◌≡◌}
 use lib.ListN.{length}
 use Rattle.loops.specs.Loops.{tabulate}
@@ -8,6 +8,3 @@ use Rattle.upsample.proofs.row_finite.Given as goal
 
 abbrev pub invariant-loop-x : goal.invariant-loop-x
 invariant-loop-x l = (l.good ≡ all_finite (tabulate l.x (sum_at l.row l.north l.south l.dy))) × (l.x ≤ length l.row)
-
-abbrev pub decreases-loop-x : goal.decreases-loop-x
-decreases-loop-x l = length l.row - l.x

@@ -1,69 +1,39 @@
-use Prim.Native.Nat.{◌-◌, ◌*◌, ◌≤◌}
 use native.Mathlib.Omega.{arith}
-use lib.ListN.{length-replicate}
-use lib.Ieee.{Float, binary32, of_bits}
+use mathlib.Core.Path.{◌≡◌, ap, ◌∙◌}
+use denote.Param.{number}
 use Rattle.bilinear.proofs.CornerLaws.{grid_row}
-use Rattle.upsample_rows.proofs.MixLaws.{all_columns, row_in, columns_put, mixes_put, mixes_next}
+use Rattle.bilinear.specs.declared.SampledMap.{SampledMap}
+use Rattle.upsample_rows.specs.declared.MixedRows.{MixedRows}
+use Rattle.upsample_rows.specs.declared.ReducedColumns.{ReducedColumns}
+use Rattle.upsample_rows.specs.Rows.{Mixes, reduced_column, way_of}
 use Rattle.upsample.specs.Samples.{added_of}
-use Rattle.upsample.proofs.RowLaws.{part_small}
-use Rattle.upsample.proofs.SumLaws.{summing_start, summing_length, summing_done, summing_more, summing_not}
+use Rattle.upsample.specs.contracts.sum_rows.{STORE-type}
+use Rattle.upsample.proofs.SumLaws.{summing_start, summing_done, summing_more, summing_not}
 use Rattle.upsample.proofs.sum_rows.Goals as goal
 
-pub columns-requires : goal.columns-requires
-columns-requires c = record { sampled = all_columns c.requires.grid c.requires.grid_2; cs_len = length-replicate {A = Prim.Native.Nat.ℕ} 4096 0; ds_len = length-replicate {A = Float} 4096 (of_bits binary32 0) }
-
-pub mix_rows-requires : goal.mix_rows-requires
-mix_rows-requires c = record { grid = c.requires.grid_2; columns = columns_put _ _ c.columns.ensures; w_bound = c.requires.grid.w_high; y_lt_h = c.requires.grid_2.h_low; north_len = length-replicate {A = Float} 4096 (of_bits binary32 0); south_len = length-replicate {A = Float} 4096 (of_bits binary32 0) }
+-- what the rows of a given map and its columns hold
+held_of : (r : MixedRows) (d : SampledMap) (k : ReducedColumns) (w : Prim.Native.Nat.ℕ) → r.delta ≡ d → r.columns.now ≡ k → k.w ≡ w → Mixes d.v.now d.size.w d.size.h w r.held r.north r.south
+held_of r d k w e f g = rw (e, f, g) at r.mixes
 
 pub loop-y-init : goal.loop-y-init
-loop-y-init c = (summing_start _, (omega arith, mixes_put c.requires.grid.w_high c.mix_rows.ensures (length-replicate {A = Float} 4096 (of_bits binary32 0)) (length-replicate {A = Float} 4096 (of_bits binary32 0))))
-
-pub prepare-held-requires : goal.prepare-held-requires
-prepare-held-requires c = record { grid = c.requires.grid_2; columns = columns_put _ _ c.columns.ensures; w_bound = c.requires.grid.w_high; sampled = row_in c.requires.grid c.requires.grid_2 c.loop-y.y c.loop-y-test.true; mixes = c.loop-y.invariant.1.1 }
-
-pub way-dy-requires : goal.way-dy-requires
-way-dy-requires c = row_in c.requires.grid c.requires.grid_2 c.loop-y.y c.loop-y-test.true
-
-pub overflow_mul-from : goal.overflow_mul-from
-overflow_mul-from c = omega (arith, grid_row c.requires.grid c.loop-y-test.true)
-
-pub overflow_add-to : goal.overflow_add-to
-overflow_add-to c = omega (arith, grid_row c.requires.grid c.loop-y-test.true)
-
-pub offset_bounds-map-from : goal.offset_bounds-map-from
-offset_bounds-map-from c = omega (arith, grid_row c.requires.grid c.loop-y-test.true)
-
-pub slice_bounds-sum_row-count : goal.slice_bounds-sum_row-count
-slice_bounds-sum_row-count c = omega (arith, grid_row c.requires.grid c.loop-y-test.true)
-
-pub slice_bounds-sum_row-start : goal.slice_bounds-sum_row-start
-slice_bounds-sum_row-start c = omega (arith, grid_row c.requires.grid c.loop-y-test.true)
-
-pub slice_bounds-sum_row-end : goal.slice_bounds-sum_row-end
-slice_bounds-sum_row-end c = omega (arith, grid_row c.requires.grid c.loop-y-test.true, summing_length c.args.store c.loop-y.invariant.0)
-
-pub sum_row-requires : goal.sum_row-requires
-sum_row-requires c = part_small _ _ _ c.requires.grid.w_high
+loop-y-init g c = record { done = summing_start _; map = c.new-rows.ensures.map; across = c.new-rows.ensures.across }
 
 pub returns-then-not-sum_row : goal.returns-then-not-sum_row
-returns-then-not-sum_row c = let a = c.args in
-    summing_not a.map.now a.size.w a.size.h a.delta.now a.dsize.w a.dsize.h c.loop-y.y (grid_row c.requires.grid c.loop-y-test.true).0
-    (mixes_next c.requires.grid.w_high c.loop-y.invariant.1.1 c.prepare-held.ensures.mixes_put) c.prepare-held.ensures.value c.way-dy.ensures c.loop-y-test.true a.store c.loop-y.invariant.0 c.sum_row.ensures (c.if-not-sum_row.true)
-
-pub overflow_add-y : goal.overflow_add-y
-overflow_add-y c = omega (arith, c.loop-y-test.true, c.requires.grid.h_high)
-
-pub loop-y-smaller : goal.loop-y-smaller
-loop-y-smaller c = omega (arith, c.loop-y-test.true)
+returns-then-not-sum_row g c = let a = c.args in let i = c.loop-y.invariant in
+    summing_not a.map.now a.size.w a.size.h a.delta.v.now a.delta.size.w a.delta.size.h c.loop-y.y (grid_row c.requires.grid c.loop-y-test.true).0
+    (held_of c.prepare-dy.new.self a.delta a.columns.now a.size.w (c.prepare-dy.ensures.map ∙ i.map) (c.prepare-dy.ensures.across ∙ i.across) c.requires.w_is)
+    (c.prepare-dy.ensures.value ∙ ap (λ (d : SampledMap). reduced_column a.size.h d.size.h c.loop-y.y) i.map) (c.prepare-dy.ensures.way_is ∙ ap (λ (d : SampledMap). way_of a.size.h d.size.h c.loop-y.y) i.map) c.loop-y-test.true (STORE-type (number g.row.STORE)) i.done c.sum_row.ensures c.if-not-sum_row.true
 
 pub loop-y-preserved : goal.loop-y-preserved
-loop-y-preserved c = let a = c.args in
-    let m = mixes_next c.requires.grid.w_high c.loop-y.invariant.1.1 c.prepare-held.ensures.mixes_put in (
-      summing_more a.map.now a.size.w a.size.h a.delta.now a.dsize.w a.dsize.h c.loop-y.y (grid_row c.requires.grid c.loop-y-test.true).0
-          m c.prepare-held.ensures.value c.way-dy.ensures c.loop-y-test.true a.store c.loop-y.invariant.0 c.sum_row.ensures (c.if-not-sum_row.false),
-      (omega (arith, c.loop-y-test.true), m),
-    )
+loop-y-preserved g c = let a = c.args in let i = c.loop-y.invariant in record {
+  done =
+      summing_more a.map.now a.size.w a.size.h a.delta.v.now a.delta.size.w a.delta.size.h c.loop-y.y (grid_row c.requires.grid c.loop-y-test.true).0
+      (held_of c.prepare-dy.new.self a.delta a.columns.now a.size.w (c.prepare-dy.ensures.map ∙ i.map) (c.prepare-dy.ensures.across ∙ i.across) c.requires.w_is)
+      (c.prepare-dy.ensures.value ∙ ap (λ (d : SampledMap). reduced_column a.size.h d.size.h c.loop-y.y) i.map) (c.prepare-dy.ensures.way_is ∙ ap (λ (d : SampledMap). way_of a.size.h d.size.h c.loop-y.y) i.map) c.loop-y-test.true (STORE-type (number g.row.STORE)) i.done c.sum_row.ensures c.if-not-sum_row.false;
+  map = c.prepare-dy.ensures.map ∙ i.map;
+  across = c.prepare-dy.ensures.across ∙ i.across;
+}
 
 pub returns : goal.returns
 unfolding added_of
-returns c = summing_done c.args.store _ c.loop-y.invariant.0 c.requires.grid.size c.loop-y.invariant.1.0 c.loop-y-test.false
+returns g c = summing_done (STORE-type (number g.row.STORE)) _ c.loop-y.invariant.done c.requires.grid.size (omega arith) c.loop-y-test.false

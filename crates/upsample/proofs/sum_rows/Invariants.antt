@@ -1,13 +1,16 @@
-use Prim.Native.Nat.{◌-◌, ◌*◌, ◌≤◌}
+use Prim.Native.Nat.{◌*◌}
+use mathlib.Core.Path.{◌≡◌}
+use denote.Param.{number}
 use Rattle.bilinear.specs.Samples.{as_source}
-use Rattle.upsample_rows.specs.Rows.{Mixes}
 use Rattle.upsample.specs.Samples.{added_at}
+use Rattle.upsample.specs.contracts.sum_rows.{STORE-type}
 use Rattle.upsample.proofs.SumLaws.{Summing}
 use Rattle.upsample.proofs.sum_rows.Given as goal
 
--- The first y rows are done; the arrays hold reduced row `held` and the next.
+-- The first y rows are done.
 abbrev pub invariant-loop-y : goal.invariant-loop-y
-invariant-loop-y l = Summing l.store (added_at as_source l.initial.map l.w l.h l.delta l.dsize.w l.dsize.h) (l.y * l.w) l.initial.map l.map × ((l.y ≤ l.h) × Mixes l.delta l.dsize.w l.dsize.h l.w l.held l.north l.south)
-
-abbrev pub decreases-loop-y : goal.decreases-loop-y
-decreases-loop-y l = l.h - l.y
+invariant-loop-y g l = record {
+  done : Summing (STORE-type (number g.row.STORE)) (added_at as_source l.initial.map l.size.w l.size.h l.delta.v.now l.delta.size.w l.delta.size.h) (l.y * l.w) l.initial.map l.map;
+  map : l.rows.delta ≡ l.delta;
+  across : l.rows.columns.now ≡ l.columns;
+}

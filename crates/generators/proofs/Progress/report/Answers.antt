@@ -14,6 +14,6 @@ pub returns-then-after : goal.returns-then-after
 returns-then-after c = report_made _ _ _ _ _ (sym c.bad_report.ensures ∙ c.if-bad_report.false) c.ask-after.ensures
     (sym (ap (λ (t : Bool). gives (not t)) c.if-after.true))
 
-pub returns : goal.returns
-returns c = report_made _ _ _ _ _ (sym c.bad_report.ensures ∙ c.if-bad_report.false) c.ask-after.ensures
+pub returns-else-after : goal.returns-else-after
+returns-else-after c = report_made _ _ _ _ _ (sym c.bad_report.ensures ∙ c.if-bad_report.false) c.ask-after.ensures
     (sym (ap (λ (t : Bool). gives (not t)) c.if-after.false))

@@ -1,8 +1,0 @@
-use borrow.Author.Tests.{eq-eqb, ne_eqb}
-use Rattle.areas.proofs.add_down.Goals as goal
-
-pub returns-then-r-c : goal.returns-then-r-c
-returns-then-r-c c = rw (eq-eqb _ _ c.if-r-c.true)
-
-pub returns : goal.returns
-returns c = rw (ne_eqb _ _ c.if-r-c.false)
