@@ -21,7 +21,7 @@ pub fn rate(area: f32, n_cells: f32, k: f32) -> f32
 }
 
 // The most entries of a table of rates: 4 KB of it stay in the nearest cache.
-const RATES: usize = 1024;
+pub const RATES: usize = 1024;
 
 // Returns how many whole areas, from 0 on, the table of a grid of n cells has: n / 64, at most 1,024, so that filling
 // it costs little.
