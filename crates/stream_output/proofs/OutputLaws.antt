@@ -45,10 +45,15 @@ end_put l at n i p q ha hb hc hd he =
     (sets_next l at (end_mark ++ (bytes2 n ++ bytes4 i)) (bytes4 p) (at + 8) refl
     (sets_next l at (end_mark ++ bytes2 n) (bytes4 i) (at + 4) refl (sets_next l at end_mark (bytes2 n) (at + 2) refl ha hb) hc) hd) he
 
-pub row_put : (l : List ℕ) (at : ℕ) (map : List Float) (cell w : ℕ) → cell + w ≤ length map → {a b : List ℕ} → a ≡ sets l at row_mark
+pub row_put : (l : List ℕ) (at : ℕ) (map : List Float) (cell w : ℕ) {a b : List ℕ} → a ≡ sets l at row_mark → b ≡ sets a (at + 2) (height_bytes map cell w)
+    → b ≡ sets l at (row_record map cell w)
+row_put l at map cell w e f = sets_next l at row_mark (height_bytes map cell w) (at + 2) refl e f
+
+-- the same, where the heights are a part of the map
+pub row_part_put : (l : List ℕ) (at : ℕ) (map : List Float) (cell w : ℕ) → cell + w ≤ length map → {a b : List ℕ} → a ≡ sets l at row_mark
     → (let row : List Float = take (cell + w - cell) (drop cell map) in b ≡ sets a (at + 2) (word_bytes (length row) (word_in (to_bits binary32) nan row))) → b ≡ sets l at (row_record map cell w)
-row_put l at map cell w h {a} e f =
-    sets_next l at row_mark (height_bytes map cell w) (at + 2) refl e (f ∙ ap (sets a (at + 2)) (words_part (to_bits binary32) nan map cell w h refl))
+row_part_put l at map cell w h {a} e f =
+    row_put l at map cell w e (f ∙ ap (sets a (at + 2)) (words_part (to_bits binary32) nan map cell w h refl))
 
 -- where a row is written
 pub row_room : (w h y : ℕ) → y < h → (n : ℕ) → 6 + h * (2 + 4 * w) ≤ n → 6 + y * (2 + 4 * w) + (2 + 4 * w) ≤ n
