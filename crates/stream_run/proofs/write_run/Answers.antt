@@ -9,7 +9,7 @@ pub overflow_mul-n : goal.overflow_mul-n
 overflow_mul-n c = omega (arith, (accepted_stream _ _ c.requires).few)
 
 pub slice_bounds-map-end : goal.slice_bounds-map-end
-slice_bounds-map-end c = (accepted_stream _ _ c.requires).few
+slice_bounds-map-end c = omega (arith, (accepted_stream _ _ c.requires).few)
 
 pub slice_bounds-run_stream-end : goal.slice_bounds-run_stream-end
 slice_bounds-run_stream-end c = sym (part_length _ _ c.requires _ refl)
