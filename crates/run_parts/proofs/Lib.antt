@@ -2,5 +2,6 @@
 pub mod ReachedLaws
 pub mod EndingLaws
 pub mod LoopLaws
+pub mod ReducedLaws
 pub mod WholeLaws
 pub mod GridLaws

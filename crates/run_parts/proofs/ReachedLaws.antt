@@ -1,28 +1,33 @@
--- A pass as the code sees it is the pass of the state; the difference of the reduced grids; and what the code has of a run that goes on or has ended.
+-- A pass as the code sees it is the pass of the state; the difference of the reduced grids; the numbers that a run
+-- ends with; and what the code has of a run that goes on or has ended.
 use Rattle.std.specs.declared.result.Result.{Result}
 use Rattle.std.specs.declared.result.Result.TheVariants.{Ok, Err}
 use Prim.Native.Nat.{ℕ, suc, ◌+◌, ◌≤◌, ◌<◌}
-use mathlib.Core.Path.{◌≡◌, sym, ap, ◌∙◌}
-use mathlib.Core.Bool.{true}
+use mathlib.Core.Path.{◌≡◌, refl, sym, ap, ◌∙◌}
+use mathlib.Core.Bool.{Bool, true, ◌&&◌, cond}
+use mathlib.Core.Logic.{inl, inr}
 use mathlib.Core.List.{List}
 use native.Mathlib.Numerals.{add-one}
 use lib.ListN.{length, get_or, set}
+use lib.Dec.{eqb}
 use lib.Ieee.{Float, nan, binary32, sub}
 use Rattle.loops.proofs.TestLaws.{either, through}
+use Rattle.loops.proofs.TurnLaws.{turns_keep}
 use Rattle.loops.proofs.FillLaws.{Filling, filling_more, filling_next, filling_done}
 use Rattle.grid.specs.Heights.{all_finite}
 use Rattle.generators.specs.Marks.{report_of}
 use Rattle.generators.specs.declared.Progress.{Progress}
 use Rattle.thermal_erosion.specs.SlidePass.{Pass, rows_of}
-use Rattle.run_machine.specs.Machine.{Course, State, open_step}
+use Rattle.run_machine.specs.Machine.{Course, State, start, ended_by, cut, open_step, closed}
 use Rattle.run_machine.specs.Run.{difference_of}
-use Rattle.run_machine.specs.Nested.{rows_from, pass_done, one_pass, one_opening, Due, Underway}
+use Rattle.run_machine.specs.Nested.{rows_from, pass_done, one_pass, one_opening, one_iteration, iterated, Due, Underway}
 use Rattle.run_machine.proofs.IterationLaws.{pass_is, opening_is, rows_at}
 use Rattle.run_parts.specs.declared.Reached.{Reached}
 use Rattle.run_parts.specs.declared.End.{End}
 use Rattle.run_parts.specs.declared.End.TheVariants.{Stopped, RunOff}
 use Rattle.run_parts.specs.declared.Ended.{Ended}
 use Rattle.run_parts.specs.Reached.{Reach, number_of_end, going, gone, reach_of, Worked, worked_of, reached_in, seen, halted, after_made, after_pass}
+use Rattle.run_parts.specs.Ending.{Numbered}
 
 -- the rows of pass q of iteration it from a map
 abbrev pub rows_by : Course → ℕ → ℕ → List Float → Progress → Pass
@@ -82,6 +87,32 @@ module _ (old small : List Float) {new : List Float} {i : ℕ} (s : Filling (sub
   pub subtracted_done : length old ≡ length small → length small ≤ i → new ≡ difference_of old small
   unfolding difference_of
   subtracted_done n l = filling_done s (length small) n l
+
+-- every state of a run has one of the three numbers
+module _ (c : Course) where
+  -- a choice between states that have one has one
+  each_numbered : (b : Bool) (x y : State) → Numbered x.number → Numbered y.number → Numbered (cond b x y).number
+  each_numbered = either (λ (x : State). Numbered x.number)
+
+  made_numbered : (m : Progress) (new : List Float) (s t : State) → t.number ≡ 0 → Numbered (cond m.stopped (ended_by c 21 m s) (cond (all_finite new) t (ended_by c 22 m s))).number
+  made_numbered m new s t z = each_numbered m.stopped _ _ (inr (inl refl)) (each_numbered (all_finite new) _ _ (inl z) (inr (inr refl)))
+
+  pass_numbered : (s : State) → Numbered s.number → Numbered (one_pass c s).number
+  unfolding one_pass
+  pass_numbered s n = let p : Pass = rows_from c c.h s in each_numbered (eqb s.number 0) _ s (made_numbered p.marks p.out s (closed c p.out p.marks s) refl) n
+
+  opening_numbered : (s : State) → Numbered s.number → Numbered (one_opening c s).number
+  unfolding one_opening
+  opening_numbered s n =
+      let m : Progress = report_of s.marks (c.opening s.iteration) c.stop in
+      let new : List Float = c.incision s.iteration s.heights in
+      each_numbered (c.cutting && eqb s.number 0) _ s (made_numbered m new s (cut c new m s) refl) n
+
+  pub iterated_numbered : (n : ℕ) (hs : List Float) → Numbered (iterated c n hs).number
+  unfolding one_iteration
+  iterated_numbered n hs =
+      turns_keep (λ i. one_iteration c) (λ s. Numbered s.number) (start c hs) n (inl refl)
+      (λ i s l p. turns_keep (λ i. one_pass c) (λ s. Numbered s.number) (one_opening c s) c.passes (opening_numbered s p) (λ i t l. pass_numbered t))
 
 -- the number of an end is not 0
 pub end_number : (e : End) → number_of_end e ≡ 0 → ⊥

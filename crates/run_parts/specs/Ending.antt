@@ -1,6 +1,6 @@
 -- What a whole-run call ends with: its answer in document 01's numbers, the counts, and the map.
 use Rattle.std.specs.declared.result.Result.TheVariants.{Err}
-use Rattle.std.specs.Prelude.{ℕ, ◌≡◌, cond, List, eqb, Float}
+use Rattle.std.specs.Prelude.{ℕ, ◌≡◌, cond, ◌⊎◌, List, eqb, Float}
 use Rattle.answers.specs.Outcome.{Outcome, gives, refused, refused_at, answer_of}
 use Rattle.answers.specs.declared.Refusal.{Refusal}
 use Rattle.run_machine.specs.Run.{Ran}
@@ -37,6 +37,10 @@ ended_with r map =
 
 abbrev pub refused_to : Refusal → RunAnswer
 refused_to why = record { answer = Err why; incisions = 0; passes = 0; questions = 0 }
+
+-- the numbers that a run ends with
+abbrev pub Numbered : ℕ → Type 0
+Numbered n = (n ≡ 0) ⊎ ((n ≡ 21) ⊎ (n ≡ 22))
 
 -- the refusal that an end is answered with
 abbrev pub refused_for : End → Refusal
