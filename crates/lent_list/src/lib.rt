@@ -10,7 +10,7 @@ ghost use Rattle.lent_list.specs.Entries.{every_cell, first_bad_entry};
 ghost use Rattle.lent_list.specs.Walks.{CellsWithin, good_by_marks, marked_by, Walk, WalkEnded, Scanned};
 ghost use Rattle.lent_list.specs.Walks.{ListLengths, ReceiversIn, WithinOverlap};
 
-use lent_list_blocks::{LIST_BLOCK, block_end, cells_in, position_in, receivers_of};
+use lent_list_blocks::{LIST_BLOCK, block_end, cells_in, position_in, receivers_of_cells};
 use lent_list_marks::{SEGMENT, SPAN, bad_in_segment};
 
 // The most cells whose marks are bytes in an array of 64 KB on the stack, so that a small grid need not clear 1 MB.
@@ -41,7 +41,7 @@ fn first_in_cells<const KNOWN: bool>(
     ensures marks { result ≡ None → seen.new ≡ marked_by lo cells.now seen.old (length cells.now) }
 {
     let mut below: [u32; LIST_BLOCK] = [0; LIST_BLOCK];
-    receivers_of(recv, cells, &mut below);
+    receivers_of_cells(recv, cells, &mut below);
     // Counted: the index is the answer, and both slices are read by it.
     for i in 0..cells.len() {
         if bad_in_segment::<KNOWN>(seen, lo, cells[i] as usize, below[i] as usize) {

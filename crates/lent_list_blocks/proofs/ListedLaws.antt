@@ -3,7 +3,7 @@ use Rattle.std.proofs.Common.{◌≡◌, ℕ, zero, suc, ◌+◌, ◌-◌, ◌<�
 use Rattle.std.specs.Int.{from_bool}
 use native.Mathlib.Decide.{dec_lt}
 use Rattle.lent_list_marks.specs.Seen.{span, in_segment}
-use Rattle.lent_list_blocks.specs.Blocks.{following, NoneWithin, Picked, Taken}
+use Rattle.lent_list_blocks.specs.Blocks.{CellsBefore, CellsAt, taken_at, following, NoneWithin, Picked, Taken}
 
 -- the positions with v as the k-th
 abbrev put : (ℕ → ℕ) → ℕ → ℕ → ℕ → ℕ
@@ -20,10 +20,13 @@ unfolding following
 following_first from position = refl
 
 -- what stands behind the first k positions does not count
-following_kept : (from : ℕ) (position : ℕ → ℕ) (k v i : ℕ) → i ≤ k → following from (put position k v) i ≡ following from position i
+following_same : (from : ℕ) {position other : ℕ → ℕ} {k : ℕ} → ((i : ℕ) → i < k → other i ≡ position i) → (i : ℕ) → i ≤ k → following from other i ≡ following from position i
 unfolding following
-following_kept from position k v zero l = refl
-following_kept from position k v (suc i) l = ap suc (put_other position k v i (omega arith))
+following_same from e zero l = refl
+following_same from e (suc i) l = ap suc (e i (omega arith))
+
+following_kept : (from : ℕ) (position : ℕ → ℕ) (k v i : ℕ) → i ≤ k → following from (put position k v) i ≡ following from position i
+following_kept from position k v i l = following_same from (put_other position k v) i l
 
 pub following_last : (from : ℕ) (position : ℕ → ℕ) (k : ℕ) → following from position (suc k) ≡ position k + 1
 unfolding following
@@ -100,6 +103,44 @@ picked_none =
       between = λ i l. absurd (omega arith);
       rest = record { order = omega arith; each = λ q a b. absurd (omega arith) };
     }
+
+-- only the first k positions count
+picked_same : {list : List ℕ} {lo from to : ℕ} {position other : ℕ → ℕ} {k : ℕ} → ((i : ℕ) → i < k → other i ≡ position i) → Picked list lo from to position k → Picked list lo from to other k
+picked_same {list} {lo} {from} {to} {position} {other} {k} e p =
+    record {
+      few = p.few;
+      below = λ i l. omega (arith, e i l, p.below i l);
+      inside = λ i l. rw (e i l) (p.inside i l);
+      between = λ i l. rw (e i l, following_same from e i (omega arith)) (p.between i l);
+      rest = rw (following_same from e k (omega arith)) p.rest;
+    }
+
+-- the positions written
+module _ {list : List ℕ} {lo from to : ℕ} (places : List ℕ) {k : ℕ} (p : Picked list lo from to (taken_at false places from) k) (room : k < length places) where
+  kept_place : (i : ℕ) → i < k → get_or (set places k to) i 0 ≡ get_or places i 0
+  kept_place i l = get_or-set_other places k i to 0 (λ e. omega arith)
+
+  put_place : (i : ℕ) → i < k + 1 → get_or (set places k to) i 0 ≡ put (taken_at false places from) k to i
+  put_place i l = go (dec_lt i k)
+    where
+      go : Dec (i < k) → get_or (set places k to) i 0 ≡ put (taken_at false places from) k to i
+      go (yes m) = kept_place i m ∙ sym (put_other (taken_at false places from) k to i m)
+      go (no m) =
+          let same : i ≡ k = omega arith in
+          rw same (get_or-set_same places k to 0 room ∙ sym (put_same (taken_at false places from) k to))
+
+  pub listed_next : {c : ℕ} → c ≡ from_bool (in_segment span lo (get_or list to 0)) → Picked list lo from (to + 1) (taken_at false (set places k to) from) (k + c)
+  listed_next {c} e = go (in_segment span lo (get_or list to 0)) refl e
+    where
+      go : (b : Bool) → in_segment span lo (get_or list to 0) ≡ b → c ≡ from_bool b → Picked list lo from (to + 1) (taken_at false (set places k to) from) (k + c)
+      go true h q = rw q (picked_same put_place (picked_more (taken_at false places from) p h))
+      go false h q =
+          let none : k + c ≡ k = omega arith in
+          rw none (picked_same kept_place (picked_past (taken_at false places from) p h))
+
+-- the cells at the positions of a block
+pub block_cells : {n : ℕ} {list : List ℕ} {lo from to : ℕ} {position : ℕ → ℕ} {k : ℕ} → CellsBefore n list to → to ≤ length list → Picked list lo from to position k → CellsAt n list position k
+block_cells cells long listed = record { place = λ i l. omega (arith, listed.below i l); cell = λ i l. cells.cell _ (listed.below i l) }
 
 -- the cells written
 pub taken_none : {list : List ℕ} {lo from : ℕ} {cells : List ℕ} → Taken list lo from from cells 0
@@ -219,3 +260,7 @@ picked_whole {list} {lo} {from} {to} l within =
 
     none : (i : ℕ) → NoneWithin list lo (following from (λ i. from + i) i) (from + i)
     none i = record { order = omega (arith, here i); each = λ q a b. absurd (omega (arith, here i)) }
+
+-- as `taken` returns them
+pub listed_whole : {list : List ℕ} {lo from to : ℕ} (places : List ℕ) → from ≤ to → ((i : ℕ) → i < to → in_segment span lo (get_or list i 0) ≡ true) → Picked list lo from to (taken_at true places from) (to - from)
+listed_whole places l within = picked_whole l within

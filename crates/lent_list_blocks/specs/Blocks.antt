@@ -1,5 +1,5 @@
 -- A block of a list: which of its positions have cells of a segment, and the receivers of the cells there.
-use Rattle.std.specs.Prelude.{◌≡◌, ℕ, zero, suc, ◌+◌, ◌<◌, ◌≤◌, true, false, List, length, slice_index}
+use Rattle.std.specs.Prelude.{◌≡◌, ℕ, zero, suc, ◌+◌, ◌<◌, ◌≤◌, Bool, true, false, cond, List, length, slice_index}
 use Rattle.lent_list_marks.specs.Seen.{span, in_segment}
 
 -- every entry before a position is one of n cells
@@ -9,6 +9,16 @@ pub record CellsBefore (n : ℕ) (list : List ℕ) (position : ℕ) : Type 0 whe
 -- every cell of a list is one of n
 pub record CellsIn (n : ℕ) (cells : List ℕ) : Type 0 where
   pub cell : (i : ℕ) → i < length cells → slice_index cells i < n
+
+-- the position of the i-th entry checked of a block that starts at `from`: the i-th of the whole block, or the i-th in
+-- `places`
+abbrev pub taken_at : Bool → List ℕ → ℕ → ℕ → ℕ
+taken_at whole places from i = cond whole (from + i) (slice_index places i)
+
+-- the entry at each of the first k positions is one of n cells
+pub record CellsAt (n : ℕ) (list : List ℕ) (position : ℕ → ℕ) (k : ℕ) : Type 0 where
+  pub place : (i : ℕ) → i < k → position i < length list
+  pub cell : (i : ℕ) → i < k → slice_index list (position i) < n
 
 -- the position after the first i of the given positions; `from` where i is 0
 unfoldable pub following : ℕ → (ℕ → ℕ) → ℕ → ℕ
@@ -37,3 +47,7 @@ pub record Taken (list : List ℕ) (lo from to : ℕ) (cells : List ℕ) (k : �
 -- the receiver of the i-th of the cells
 abbrev pub receiver_at : List ℕ → List ℕ → ℕ → ℕ
 receiver_at recv cells i = slice_index recv (slice_index cells i)
+
+-- the receiver of the cell at the i-th of the given positions
+abbrev pub receivers_at : List ℕ → List ℕ → (ℕ → ℕ) → ℕ → ℕ
+receivers_at recv list position i = slice_index recv (slice_index list (position i))

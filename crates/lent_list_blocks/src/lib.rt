@@ -1,12 +1,13 @@
-// Blocks of a list, 1,024 positions at most: where a block ends, which of its cells lie in a segment, and the receivers
-// of cells. Each of these is read for the whole block before a mark is looked up, so that many memory reads run at the
-// same time.
+// Blocks of a list, 1,024 positions at most: where a block ends, which of its cells lie in a segment and at which
+// positions, and the receivers of cells, gathered or by their positions. Each of these is read for the whole block
+// before a mark is looked up, so that many memory reads run at the same time.
 #![tactic(auto)]
 
-ghost use Rattle.std.specs.Prelude.{◌≡◌, ℕ, ◌+◌, ◌^◌, ◌<◌, ◌≤◌, min, ◌++◌, length, drop};
+ghost use Rattle.std.specs.Prelude.{◌≡◌, ℕ, ◌+◌, ◌^◌, ◌<◌, ◌≤◌, min, false, ◌++◌, length, drop};
 ghost use Rattle.loops.specs.Loops.{tabulate};
 ghost use Rattle.lent_list_marks.specs.Seen.{span, in_segment};
 ghost use Rattle.lent_list_blocks.specs.Blocks.{CellsIn, Picked, Taken, receiver_at};
+ghost use Rattle.lent_list_blocks.specs.Blocks.{taken_at, CellsAt, receivers_at};
 
 use lent_list_marks::SPAN;
 
@@ -69,9 +70,33 @@ pub fn position_in(list: &[u32], lo: usize, from: usize, to: usize, i: usize) ->
     to
 }
 
+// Writes to the front of `places` those positions from `from` to before `to` whose cells lie in the segment from lo,
+// with no branch. Returns how many they are.
+pub fn positions_in(list: &[u32], lo: usize, from: usize, to: usize, places: &mut [u32]) -> usize
+    requires { (from ≤ to) × (to ≤ from + length places.old) × (to ≤ length list.now) × (to ≤ 2 ^ 24) ×
+        (lo ≤ 2 ^ 24) }
+    ensures { Picked list.now lo from to (taken_at false places.new from) result }
+{
+    let mut k: usize = 0;
+    for place in from..to {
+        places[k] = place as u32;
+        k += usize::from(is_inside(lo as u32, list[place]));
+    }
+    k
+}
+
+// Returns the position of the i-th entry checked of a block that starts at `from`: the i-th of the whole block, or the
+// i-th in `places`.
+pub fn taken(whole: bool, places: &[u32], from: usize, i: usize) -> usize
+    requires { (whole ≡ false → i < length places.now) × (taken_at whole places.now from i < 2 ^ 64) }
+    ensures { result ≡ taken_at whole places.now from i }
+{
+    if whole { from + i } else { places[i] as usize }
+}
+
 // Writes the receivers of the cells to the front of `below`. All are read before the first mark is looked up, so that
 // many memory reads run at the same time.
-pub fn receivers_of(recv: &[u32], cells: &[u32], below: &mut [u32])
+pub fn receivers_of_cells(recv: &[u32], cells: &[u32], below: &mut [u32])
     requires room { length cells.now ≤ length below.old }
     requires cells_in_range { CellsIn (length recv.now) cells.now }
     ensures { below.new
@@ -80,5 +105,28 @@ pub fn receivers_of(recv: &[u32], cells: &[u32], below: &mut [u32])
     // Counted: one index reads `cells` and writes `below`.
     for i in 0..cells.len() {
         below[i] = recv[cells[i] as usize];
+    }
+}
+
+// Writes the receivers of the first k cells checked to the front of `below`: of the cells at the positions that `taken`
+// returns.
+pub fn receivers_of(
+    recv: &[u32],
+    list: &[u32],
+    places: &[u32],
+    k: usize,
+    below: &mut [u32],
+    whole: bool,
+    from: usize,
+)
+    requires k_in_bounds { (whole ≡ false → k ≤ length places.now) × (k ≤ length below.old) }
+    requires cells_at { CellsAt (length recv.now) list.now (taken_at whole places.now from) k }
+    ensures { below.new
+        ≡ tabulate k (receivers_at recv.now list.now (taken_at whole places.now from)) ++
+        drop k below.old }
+{
+    for (i, receiver) in below[..k].iter_mut().enumerate() {
+        let position = taken(whole, places, from, i);
+        *receiver = recv[list[position] as usize];
     }
 }

@@ -13,16 +13,16 @@ pub loop-i-init : goal.loop-i-init
 loop-i-init g c = (marked_none _ _ _, λ i l. absurd (omega arith))
 
 pub bad_in_segment-requires-clause-r_value : goal.bad_in_segment-requires-clause-r_value
-bad_in_segment-requires-clause-r_value g c = λ e. receiver_within (c.requires.receivers_in e) c.requires.cells_in c.loop-i-test.true (filled_read _ _ _ c.receivers_of.ensures _ 0 c.loop-i-test.true)
+bad_in_segment-requires-clause-r_value g c = λ e. receiver_within (c.requires.receivers_in e) c.requires.cells_in c.loop-i-test.true (filled_read _ _ _ c.receivers_of_cells.ensures _ 0 c.loop-i-test.true)
 
 pub returns-then-bad_in_segment-clause-first : goal.returns-then-bad_in_segment-clause-first
 returns-then-bad_in_segment-clause-first g c =
-    let good = good_is _ _ _ _ c.loop-i.invariant.0 c.bad_in_segment.ensures.put c.args.recv.now (filled_read (receiver_at c.args.recv.now c.args.cells.now) _ _ c.receivers_of.ensures _ 0 c.loop-i-test.true) c.bad_in_segment.ensures.verdict in
+    let good = good_is _ _ _ _ c.loop-i.invariant.0 c.bad_in_segment.ensures.put c.args.recv.now (filled_read (receiver_at c.args.recv.now c.args.cells.now) _ _ c.receivers_of_cells.ensures _ 0 c.loop-i-test.true) c.bad_in_segment.ensures.verdict in
     searched_at (first_stop c.loop-i.invariant.1 c.loop-i.auto.i-end (rw c.if-bad_in_segment.true at good)) c.loop-i-test.true
 
 pub loop-i-preserved : goal.loop-i-preserved
 loop-i-preserved g c =
-    let good = good_is _ _ _ _ c.loop-i.invariant.0 c.bad_in_segment.ensures.put c.args.recv.now (filled_read (receiver_at c.args.recv.now c.args.cells.now) _ _ c.receivers_of.ensures _ 0 c.loop-i-test.true) c.bad_in_segment.ensures.verdict in
+    let good = good_is _ _ _ _ c.loop-i.invariant.0 c.bad_in_segment.ensures.put c.args.recv.now (filled_read (receiver_at c.args.recv.now c.args.cells.now) _ _ c.receivers_of_cells.ensures _ 0 c.loop-i-test.true) c.bad_in_segment.ensures.verdict in
     (marked_more _ _ _ _ c.loop-i.invariant.0 c.bad_in_segment.ensures.put, below_more _ _ c.loop-i.invariant.1 (rw c.if-bad_in_segment.false at good))
 
 pub returns : goal.returns
