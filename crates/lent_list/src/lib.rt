@@ -141,7 +141,8 @@ fn first_in_bytes(n: usize, recv: &[u32], list: &[u32], seen: &mut [u8]) -> Opti
     // Counted: the position is the answer.
     for p in 0..n {
         let c = list[p] as usize;
-        if n <= c || seen[c] == 1 {
+        let bad = n <= c || seen[c] == 1;
+        if bad {
             return Some(p);
         }
         seen[c] = 1;
