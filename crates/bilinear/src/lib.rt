@@ -1,8 +1,9 @@
 // The source's resample.rs, the bilinear sample between the cells of a grid.
 #![tactic(auto)]
 
-ghost use Rattle.std.specs.Prelude.{◌≡◌, ◌<◌, ◌≤◌, length};
+ghost use Rattle.std.specs.Prelude.{◌≡◌, ◌*◌, ◌<◌, ◌≤◌, length};
 ghost use Rattle.answers.specs.Outcome.{answer_of};
+ghost use Rattle.grid.specs.Directions.{Place};
 ghost use Rattle.bilinear.specs.Samples.{as_source, corner_of, between, across_of, bilinear_at, bilinear_of};
 ghost use Rattle.bilinear.specs.Samples.{bad_coordinate, bilinear_answer};
 ghost use Rattle.bilinear.specs.Places.{Grid};
@@ -82,6 +83,16 @@ impl SampledMap<'_> {
             fract(y),
         )
     }
+}
+
+// The value dx of the way from the west sample to the east one, both `south` rows south of row y of a grid.
+pub fn across(v: &[f32], size: Sides, x: usize, dx: f32, y: usize, south: usize) -> f32
+    requires place { Place size.w size.h x y }
+    requires south_bound { south ≤ 1 }
+    requires v_len { length v.now ≡ size.w * size.h }
+    ensures { result ≡ across_of as_source v.now size.w size.h x dx y south }
+{
+    SampledMap { v, size }.across(x, dx, y, south)
 }
 
 // Refusal 4: whether a sample coordinate is not from 0 to below its side.
