@@ -1,7 +1,7 @@
 // The source's resample.rs, the block average of a map onto a smaller grid.
 #![tactic(auto)]
 
-ghost use Rattle.std.specs.Prelude.{◌≡◌, ◌+◌, ◌*◌, ◌<◌, ◌≤◌, length};
+ghost use Rattle.std.specs.Prelude.{◌≡◌, ◌+◌, ◌*◌, ◌<◌, ◌≤◌, length, replicate};
 ghost use Rattle.resample.specs.WorkSize.{Within};
 ghost use Rattle.resample.specs.Blocks.{first_in_block, count_of, row_sum, block_sum, average_of, downsampled};
 ghost use Rattle.resample.specs.Blocks.{Downsampled};
@@ -46,27 +46,28 @@ fn block_sum(src: &[f32], w: usize, x: usize, n: usize, y: usize, rows: usize) -
 }
 
 // The first column (or row) of each block of a side, then the end past the last block. Each takes a division, so they
-// are worked out once for a grid, not for each of its blocks.
-#[derive(Drop)]
-struct Firsts {
+// are worked out once for a grid, not for each of its blocks. The array is lent, so that no table is moved.
+#[derive(Clone, Copy)]
+struct Firsts<'a> {
     side: usize,
     reduced: usize,
-    at: [usize; 4097],
+    at: &'a [usize; 4097],
     ghost side_high: { side ≤ 4096 },
     ghost reduced_low: { 1 ≤ reduced },
     ghost reduced_high: { reduced ≤ side },
-    ghost made: { at ≡ firsts_of side reduced },
+    ghost made: { at.now ≡ firsts_of side reduced },
 }
 
-impl Firsts {
-    fn new(side: usize, reduced: usize) -> Firsts
+impl<'a> Firsts<'a> {
+    // Stores the first columns in the array lent, which holds zeros.
+    fn new(side: usize, reduced: usize, at: &'a mut [usize; 4097]) -> Firsts<'a>
         requires side_high { side ≤ 4096 }
         requires reduced_low { 1 ≤ reduced }
         requires reduced_high { reduced ≤ side }
+        requires zeros { at.old ≡ replicate 4097 0 }
         ensures full { result.side ≡ side }
         ensures small { result.reduced ≡ reduced }
     {
-        let mut at: [usize; 4097] = [0; 4097];
         for b in 0..reduced + 1 {
             at[b] = first_of(side, reduced, b);
         }
@@ -91,15 +92,15 @@ impl Firsts {
 }
 
 // A map, and the blocks of its columns and of its rows.
-#[derive(Drop)]
-struct Blocks<'a> {
+#[derive(Clone, Copy)]
+struct Blocks<'a, 'c, 'r> {
     src: &'a [f32],
-    columns: Firsts,
-    rows: Firsts,
+    columns: Firsts<'c>,
+    rows: Firsts<'r>,
     ghost whole: { length src.now ≡ columns.side * rows.side },
 }
 
-impl Blocks<'_> {
+impl Blocks<'_, '_, '_> {
     // The average of block (bx, by): its sum / the number of its cells.
     fn average(&self, bx: usize, by: usize) -> f32
         requires bx_lt_w { bx < self.now.columns.reduced }
@@ -136,11 +137,11 @@ pub fn downsample_into(src: &[f32], size: Sides, dst: &mut [f32], dsize: Sides)
     requires dst_len { length dst.old ≡ dsize.w * dsize.h }
     ensures { dst.new ≡ downsampled src.now size.w size.h dsize.w dsize.h }
 {
-    let blocks = Blocks {
-        src,
-        columns: Firsts::new(size.w, dsize.w),
-        rows: Firsts::new(size.h, dsize.h),
-    };
+    let mut xs: [usize; 4097] = [0; 4097];
+    let mut ys: [usize; 4097] = [0; 4097];
+    let columns = Firsts::new(size.w, dsize.w, &mut xs);
+    let rows = Firsts::new(size.h, dsize.h, &mut ys);
+    let blocks = Blocks { src, columns, rows };
     let w = dsize.w;
     for y in 0..dsize.h {
         let from = y * w;

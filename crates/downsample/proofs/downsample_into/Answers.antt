@@ -23,7 +23,7 @@ average_row-requires c = record {
 pub loop-y-preserved : goal.loop-y-preserved
 loop-y-preserved c = let a = c.args in
     averages_more a.src.now a.size.w a.size.h a.dsize.w a.dsize.h c.loop-y.y c.loop-y.invariant (row_place c.requires.within c.requires.dst_len c.loop-y-test.true).0
-    (rw (c.new.ensures.full, c.new.ensures.small, c.new-2.ensures.full, c.new-2.ensures.small) at c.average_row.ensures)
+    (rw (c.new-columns.ensures.full, c.new-columns.ensures.small, c.new-rows.ensures.full, c.new-rows.ensures.small) at c.average_row.ensures)
 
 pub returns : goal.returns
 unfolding downsampled
