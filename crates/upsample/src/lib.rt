@@ -60,23 +60,22 @@ fn sum_row<const STORE: bool>(
 fn sum_rows<const STORE: bool>(
     map: &mut [f32],
     size: Sides,
-    delta: SampledMap<'_>,
-    columns: &ReducedColumns,
+    rows: &mut MixedRows<'_>,
 ) -> bool
     requires grid { Grid size.w size.h (length map.old) }
-    requires w_is { columns.now.w ≡ size.w }
-    requires dw_is { columns.now.dw ≡ delta.size.w }
-    ensures { Summed STORE
-        (added_of as_source map.old size.w size.h delta.entry.v.now delta.entry.size.w
-        delta.entry.size.h)
+    requires w_is { rows.old.columns.w ≡ size.w }
+    ensures sums { Summed STORE
+        (added_of as_source map.old size.w size.h rows.old.delta.v.now rows.old.delta.size.w
+        rows.old.delta.size.h)
         map.old result map.new }
+    ensures map_is { rows.new.delta ≡ rows.old.delta }
+    ensures across { rows.new.columns ≡ rows.old.columns }
 {
     let w = size.w;
-    let mut rows = MixedRows::new(delta, columns);
     for y in 0..size.h {
         let dy = rows.prepare(size.h, y);
         let from = y * w;
-        if !sum_row::<STORE>(&mut map[from..from + w], &rows.north, &rows.south, dy) {
+        if !sum_row::<STORE>(&mut map[from..from + w], rows.north, rows.south, dy) {
             return false;
         }
     }
@@ -96,8 +95,13 @@ pub fn add_finite(map: &mut [f32], size: Sides, delta: &[f32], dsize: Sides) -> 
         v: delta,
         size: dsize,
     };
-    let columns = ReducedColumns::new(size.w, dsize.w);
-    sum_rows::<false>(map, size, delta, &columns) && sum_rows::<true>(map, size, delta, &columns)
+    let mut cs: [usize; SIDE_MAX] = [0; SIDE_MAX];
+    let mut ds: [f32; SIDE_MAX] = [0.0; SIDE_MAX];
+    let columns = ReducedColumns::new(size.w, dsize.w, &mut cs, &mut ds);
+    let mut north: [f32; SIDE_MAX] = [0.0; SIDE_MAX];
+    let mut south: [f32; SIDE_MAX] = [0.0; SIDE_MAX];
+    let mut rows = MixedRows::new(delta, columns, &mut north, &mut south);
+    sum_rows::<false>(map, size, &mut rows) && sum_rows::<true>(map, size, &mut rows)
 }
 
 // Adds delta, a reduced grid, to the map, bilinearly upsampled on cell centres. On a refusal the map is as it came.

@@ -1,6 +1,6 @@
 use Rattle.loops.proofs.FillLaws.{Filling}
 use Rattle.upsample_rows.specs.Rows.{reduced_column, way_of}
-use Rattle.upsample_rows.proofs.ReducedColumns.new.Given as goal
+use Rattle.upsample_rows.proofs.columns.Given as goal
 
 abbrev pub invariant-loop-x : goal.invariant-loop-x
 invariant-loop-x l = record {
