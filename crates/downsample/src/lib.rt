@@ -46,7 +46,7 @@ fn block_sum(src: &[f32], w: usize, x: usize, n: usize, y: usize, rows: usize) -
 }
 
 // The first column (or row) of each block of a side, then the end past the last block. Each takes a division, so they
-// are worked out once for a grid, not for each of its blocks. The array is lent, so that no table is moved.
+// are worked out once for a grid, not for each of its blocks. The array is lent, so that it is not moved.
 #[derive(Clone, Copy)]
 struct Firsts<'a> {
     side: usize,

@@ -60,7 +60,7 @@ fn sum_row<const STORE: bool>(
 fn sum_rows<const STORE: bool>(
     map: &mut [f32],
     size: Sides,
-    rows: &mut MixedRows<'_>,
+    rows: &mut MixedRows<'_, '_, '_>,
 ) -> bool
     requires grid { Grid size.w size.h (length map.old) }
     requires w_is { rows.old.columns.w ≡ size.w }

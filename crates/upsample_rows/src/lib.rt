@@ -48,8 +48,8 @@ pub fn columns(w: usize, dw: usize, cs: &mut [usize; SIDE_MAX], ds: &mut [f32; S
 }
 
 // Where each of the w columns of a map lies on the dw reduced ones: its reduced column, and its `way` to the next one.
-// Two arrays, not one of pairs: pairs of a usize and an f32 take a third more memory. They are lent, so that no table
-// is moved.
+// Two arrays, not one of pairs: pairs of a usize and an f32 take a third more memory. They are lent, so that neither is
+// moved.
 #[derive(Clone, Copy)]
 pub struct ReducedColumns<'a> {
     pub w: usize,
@@ -110,26 +110,27 @@ impl<'a> ReducedColumns<'a> {
 }
 
 // The values in two neighbouring rows of a reduced grid, at each of the columns: in `north` those in row `held`, in
-// `south` those in the next row. The two arrays are lent.
+// `south` those in the next row. Both arrays are lent, each at a lifetime of its own: so their owner knows what they
+// hold in the end.
 #[derive(Drop)]
-pub struct MixedRows<'a> {
+pub struct MixedRows<'a, 'n, 's> {
     pub delta: SampledMap<'a>,
     pub columns: ReducedColumns<'a>,
     pub held: usize,
-    pub north: &'a mut [f32; SIDE_MAX],
-    pub south: &'a mut [f32; SIDE_MAX],
+    pub north: &'n mut [f32; SIDE_MAX],
+    pub south: &'s mut [f32; SIDE_MAX],
     pub ghost dw_is: { columns.dw ≡ delta.size.w },
     pub ghost mixes: { Mixes delta.v.now delta.size.w delta.size.h columns.w held north.now south.now },
 }
 
-impl<'a> MixedRows<'a> {
+impl<'a, 'n, 's> MixedRows<'a, 'n, 's> {
     // Stores the values in the first two rows of the reduced grid.
     pub fn new(
         delta: SampledMap<'a>,
         columns: ReducedColumns<'a>,
-        north: &'a mut [f32; SIDE_MAX],
-        south: &'a mut [f32; SIDE_MAX],
-    ) -> MixedRows<'a>
+        north: &'n mut [f32; SIDE_MAX],
+        south: &'s mut [f32; SIDE_MAX],
+    ) -> MixedRows<'a, 'n, 's>
         requires { columns.dw ≡ delta.size.w }
         ensures map { result.delta ≡ delta.entry }
         ensures across { result.columns ≡ columns.entry }
