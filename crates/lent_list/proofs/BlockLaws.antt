@@ -17,7 +17,7 @@ use Rattle.lent_list_marks.specs.Seen.{span, is_marked, marking, in_segment, mis
 use Rattle.lent_list_marks.proofs.SeenLaws.{Put, put_word, inside, outside, segment_from}
 use Rattle.lent_list_blocks.specs.Blocks.{CellsBefore, CellsIn, following, NoneWithin, Picked, Taken, receiver_at}
 use Rattle.lent_list_blocks.proofs.ListedLaws.{following_last, picked_whole}
-use Rattle.lent_list.specs.Walks.{Walk, WalkEnded, Scanned, ReceiversIn, good_by_marks, marked_by}
+use Rattle.lent_list.specs.Walks.{ListLengths, Walk, WalkEnded, Scanned, ReceiversIn, good_by_marks, marked_by}
 use Rattle.lent_list.proofs.SegmentLaws.{walk_twice, walk_early, walk_more, walk_past, walk_done}
 
 -- the walk passes entries outside the segment
@@ -173,6 +173,9 @@ receiver_within {lo} {i = i} all cells l e = ap (in_segment span lo) e ∙ all.e
 -- the segment from 0 where it holds every cell: all positions are taken
 within_first : (c : ℕ) → c < span → in_segment span 0 c ≡ true
 within_first c l = segment_from span 0 c (omega arith) ∙ lt-ltb (c - 0) span (omega arith)
+
+pub whole_receivers : {n : ℕ} {recv list : List ℕ} → n ≤ span → ListLengths n recv list → ReceiversIn 0 n recv
+whole_receivers {recv = recv} few g = record { each = λ c l. within_first (get_or recv c 0) (omega (arith, g.inside c l)) }
 
 pub whole_block : {n : ℕ} {recv list : List ℕ} {from to : ℕ} → n ≤ span → from ≤ to → CellsBefore n list to → to ≤ length list
     → Block n recv list 0 from to (λ i. from + i) (take (to - from) (drop from list))

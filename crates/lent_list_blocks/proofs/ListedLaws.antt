@@ -264,3 +264,7 @@ picked_whole {list} {lo} {from} {to} l within =
 -- as `taken` returns them
 pub listed_whole : {list : List ℕ} {lo from to : ℕ} (places : List ℕ) → from ≤ to → ((i : ℕ) → i < to → in_segment span lo (get_or list i 0) ≡ true) → Picked list lo from to (taken_at true places from) (to - from)
 listed_whole places l within = picked_whole l within
+
+-- fewer entries, of more cells
+pub cells_before : {n m : ℕ} {list : List ℕ} {limit to : ℕ} → n ≤ m → to ≤ limit → CellsBefore n list limit → CellsBefore m list to
+cells_before l end cells = record { cell = λ i k. omega (arith, cells.cell i (omega arith)) }

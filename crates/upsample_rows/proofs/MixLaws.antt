@@ -7,8 +7,16 @@ use lib.ListN.{length, get_or}
 use lib.Ieee.{Float, nan}
 use Rattle.floats.specs.Stand.{fract_of, index_of}
 use Rattle.loops.proofs.TableLaws.{filled_length, filled_read, filled_already}
+use Rattle.bilinear.specs.Places.{Grid}
 use Rattle.bilinear.specs.Samples.{as_source, across_of}
-use Rattle.upsample_rows.specs.Rows.{centre_of, reduced_column, way_of, Columns, ColumnsPut, mix_at, mix_put, Mix, Mixes, MixesPut}
+use Rattle.upsample_rows.specs.Rows.{Sampled, centre_of, reduced_column, way_of, Columns, ColumnsPut, mix_at, mix_put, Mix, Mixes, MixesPut}
+
+-- the columns of a grid and its rows, on a reduced grid
+pub all_columns : {w h len dw dh dlen : ℕ} → Grid w h len → Grid dw dh dlen → Sampled w dw w
+all_columns g d = record { full = g.w_high; small = d.w_high; inside = omega arith }
+
+pub row_in : {w h len dw dh dlen : ℕ} → Grid w h len → Grid dw dh dlen → (y : ℕ) → y < h → Sampled h dh y
+row_in g d y l = record { full = g.h_high; small = d.h_high; inside = omega arith }
 
 module _ (w dw : ℕ) where
   -- as the code works them out

@@ -29,7 +29,7 @@ fn column(side: usize, reduced: usize, x: usize) -> usize
 }
 
 // How far the centre of column (or row) x lies on the way from its reduced column to the next, as a fraction.
-fn way(side: usize, reduced: usize, x: usize) -> f32
+pub fn way(side: usize, reduced: usize, x: usize) -> f32
     requires { Sampled side reduced x }
     ensures { result ≡ way_of side reduced x }
 {
