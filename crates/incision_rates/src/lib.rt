@@ -35,10 +35,10 @@ pub fn table_size(n: usize) -> usize
 // others worked out.
 #[derive(Drop)]
 pub struct Rates {
-    size: usize,
+    pub size: usize,
     pub cells: f32,
     pub k: f32,
-    table: [f32; RATES],
+    pub table: [f32; RATES],
     pub ghost few: { size ≤ 1024 },
     pub ghost made: { table ≡ rates_of size cells k },
 }

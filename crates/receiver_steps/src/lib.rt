@@ -69,7 +69,7 @@ pub fn step_of(i: u32, r: u32, width: u32) -> u32
 #[derive(Drop)]
 pub struct Steps {
     pub width: usize,
-    offsets: [usize; 16],
+    pub offsets: [usize; 16],
     pub ghost wide: { width ≤ 4096 },
     pub ghost made: { offsets ≡ step_offsets width },
 }
