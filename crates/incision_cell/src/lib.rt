@@ -60,13 +60,22 @@ pub fn incise_cell(by: Incision, area: &[f32], recv: &[u32], out: &mut [f32], c:
     out[c] = cut(out[c], by.uplift, by.water, coef, down);
 }
 
+// Returns the height of cell c, which had `height`, after its incision by `coef` toward its receiver r, which has the
+// height `below`.
+fn incised(by: Incision, c: usize, r: usize, height: f32, below: f32, coef: f32) -> f32
+    ensures { result ≡ cut_of height by.uplift by.water coef (drained_to c r below by.water) }
+{
+    let down = drains_to(c, r, below, by.water);
+    cut(height, by.uplift, by.water, coef, down)
+}
+
 // An incision with what it reads for each cell: the distances of steps, the cells that they lead to, and the rates.
 #[derive(Drop)]
 pub struct IncisionTables {
     pub by: Incision,
-    distances: [f32; 16],
+    pub distances: [f32; 16],
     pub steps: Steps,
-    rates: Rates,
+    pub rates: Rates,
     pub ghost distances_made: { distances ≡ step_distances by.distances },
     pub ghost steps_made: { steps.width ≡ by.width },
     pub ghost cells_kept: { rates.cells ≡ by.cells },
@@ -99,7 +108,6 @@ impl IncisionTables {
         let step = (word % 16) as usize;
         let below = self.steps.leads_to(c, step);
         let coef = self.rates.of((word / 16) as usize) / self.distances[step];
-        let down = drains_to(c, below, out[below], self.by.water);
-        out[c] = cut(height, self.by.uplift, self.by.water, coef, down);
+        out[c] = incised(self.by, c, below, height, out[below], coef);
     }
 }
