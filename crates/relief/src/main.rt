@@ -3,7 +3,8 @@
 
 ghost use Rattle.std.specs.Prelude.{◌≡◌, length};
 
-use std::io::{Read, Write};
+use std::io;
+use std::io::Write;
 use stream_bytes::read_full;
 use stream_run::relief;
 
@@ -28,17 +29,6 @@ fn output_buffer() -> [u8; OUTPUT]
     [0; OUTPUT]
 }
 
-// Reads what is left of an input that was not read to its end. Not by `io::copy`, which fills a buffer an eighth as
-// long with zeros before each read.
-fn drain<R: Read>(input: &mut R) {
-    let mut space = [0; 65536];
-    for _ in 0..u64::MAX {
-        if read_full(input, &mut space) < 65536 {
-            break;
-        }
-    }
-}
-
 // Writes the output. The program ends with status 0 all the same if that could not be written whole, and says so on
 // standard error.
 fn write_stdout<W: Write, E: Write>(out: &mut W, errors: &mut E, bytes: &[u8]) {
@@ -52,7 +42,7 @@ fn main(rt: HostRuntime) {
     let mut stdin = rt.stdin();
     let n = read_full(&mut stdin, &mut input);
     if n == INPUT {
-        drain(&mut stdin);
+        let _ = io::copy(&mut stdin, &mut io::sink());
     }
     let mut out = output_buffer();
     let written = relief(&input[..n], &mut out);
